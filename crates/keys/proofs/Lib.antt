@@ -1,1 +1,4 @@
 pub mod Lists
+pub mod Turns
+pub mod Tries
+pub mod Outcomes

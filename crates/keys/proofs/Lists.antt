@@ -48,7 +48,7 @@ pub behind-none : (o : Option (List ℕ)) → behind [] o ≡ o
 behind-none none = refl
 behind-none (some qs) = refl
 
-behind-also : (ps : List ℕ) (p : ℕ) (o : Option (List ℕ)) → behind ps (also p o) ≡ behind (ps ++ (p ∷ [])) o
+pub behind-also : (ps : List ℕ) (p : ℕ) (o : Option (List ℕ)) → behind ps (also p o) ≡ behind (ps ++ (p ∷ [])) o
 behind-also ps p none = refl
 behind-also ps p (some qs) = ap {B = Option (List ℕ)} some (sym (append-assoc ps (p ∷ []) qs))
 

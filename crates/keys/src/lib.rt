@@ -1,8 +1,4 @@
-// Key rules.
-ghost use mathlib.Core.Path.{_≡_};
-
-pub fn one(x: u64) -> u64
-    ensures { λ r. ⌜ r ≡ x ⌝ }
-{
-    x
-}
+// Join keys and what is decided about them: a port of the key side of enforce_distribution.rs.
+pub mod expr;
+pub mod list;
+pub mod reorder;

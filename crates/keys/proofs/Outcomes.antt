@@ -1,0 +1,44 @@
+-- What the code's answers stand for, by their outcome.
+-- Assumes nothing.
+use Prim.Native.Nat.{ℕ, _≤_, _-_}
+use mathlib.Core.Path.{_≡_, refl, ap, sym, _∙_, subst}
+use mathlib.Core.Option.{Option, none, some}
+use mathlib.Core.List.{List, [], _∷_, map}
+use native.Mathlib.Omega.{arith}
+use lib.ListN.{length, take}
+use Rattle.keys.specs.Lists.{permute}
+use Rattle.keys.specs.Reorder.{Tried, met, movedBy}
+use Rattle.keys.specs.Expressions.{goneNumber}
+use Rattle.keys.specs.Values.{packedKeys, numbers, reportOf, resulting, triedOf}
+use Rattle.keys.specs.declared.reorder.Reordered.{Reordered}
+use Rattle.keys.specs.declared.reorder.Reordered.the-variants.{Met, Moved, Impossible}
+use Rattle.keys.specs.declared.reorder.Reorder.{Reorder}
+
+-- the part from 0 on
+pub from-start : {A : Type 0} (n : ℕ) (xs : List A) → take (n - 0) xs ≡ take n xs
+from-start n xs = let z : n - 0 ≡ n = omega arith in rw z
+
+module _ (l g : List ℕ) (r : Reorder) where
+  -- an outcome that is known
+  tried-by : (o : Reordered) → r .outcome ≡ o → (ps : List ℕ) → numbers (r .at) ≡ ps →
+      triedOf l g r ≡ record { report = reportOf o; positions = ps; left = resulting o l (r .left); right = resulting o g (r .right) }
+  tried-by o e ps z = λ k. record { report = reportOf (e k); positions = z k; left = resulting (e k) l (r .left); right = resulting (e k) g (r .right) }
+
+  pub tried-met : r .outcome ≡ Met → numbers (r .at) ≡ [] → triedOf l g r ≡ met l g
+  tried-met e z = tried-by Met e [] z
+
+  pub tried-impossible : r .outcome ≡ Impossible → numbers (r .at) ≡ [] → triedOf l g r ≡ movedBy goneNumber l g none
+  tried-impossible e z = tried-by Impossible e [] z
+
+pub moved-is :
+    (l g l' g' ps : List ℕ) (o : Option (List ℕ)) → o ≡ some ps → l' ≡ permute goneNumber l ps → g' ≡ permute goneNumber g ps →
+    _≡_ {A = Tried ℕ} (record { report = 2; positions = ps; left = l'; right = g' }) (movedBy goneNumber l g o)
+moved-is l g l' g' ps o e p q = rw (e, p, q)
+
+-- a part from 0 on that is as long as what is known of the front
+pub front-is : {A : Type 0} (m n : ℕ) (xs ys : List A) → take m xs ≡ ys → m ≡ n → take (n - 0) xs ≡ ys
+front-is m n xs ys e z = from-start n xs ∙ rw (← z) e
+
+pub no-entry : {A : Type 0} (xs : List A) → length xs ≡ 0 → xs ≡ []
+no-entry [] e = refl
+no-entry (x ∷ xs) e = absurd (omega arith)

@@ -1,0 +1,106 @@
+use mathlib.Core.Path.{_≡_, refl, sym, ap, _∙_}
+use mathlib.Core.List.{List, [], _∷_, _++_, map}
+use Prim.Native.Nat.{ℕ, _+_, _≤_, _<_, _-_}
+use native.Mathlib.Omega.{arith}
+use lib.ListN.{length, getD, take, drop, set, length-map, List·getD-map}
+use Rattle.keys.specs.Lists.{permute}
+use Rattle.keys.proofs.Turns.{fill-turn, fill-end}
+use Rattle.keys.proofs.Lists.{below-at, getD-any}
+use borrow.Author.Needs.{needs}
+use Rattle.keys.proofs.list.moved_numbers.Statement.{statement}
+use Rattle.keys.proofs.list.moved_numbers.Tie as tie
+use Rattle.keys.proofs.list.moved_numbers.Reads as reads
+use Rattle.keys.proofs.list.moved_numbers.Lts as lts
+use Rattle.keys.proofs.list.no_numbers.Reads as no-numbers-reads
+use Rattle.keys.proofs.list.place.Reads as place-reads
+
+abbrev Inv-loop : tie.InvT-loop
+Inv-loop all at out₀ i₀ out i = (i ≤ length at) × (length (out .items) ≡ 32) × (take i (out .items) ++ drop i (permute 0 all at) ≡ permute 0 all at)
+
+abbrev μ-loop : tie.MeasureT-loop
+μ-loop all at out₀ i₀ out i = length at - i
+
+no-numbers-requires : tie.Need-no-numbers-requires Inv-loop μ-loop
+no-numbers-requires c κs = search needs
+
+loop-holds : tie.Need-loop-holds Inv-loop μ-loop
+loop-holds c = search needs
+
+mul-place : tie.Need-mul-place Inv-loop μ-loop
+mul-place c = search needs
+
+shared-slice-read-place : tie.Need-shared-slice-read-place Inv-loop μ-loop
+shared-slice-read-place c = search needs
+
+place-requires : tie.Need-place-requires Inv-loop μ-loop
+place-requires c κs = search needs
+
+-- the position that was read is within the list
+place-fits : (c : tie.After-place Inv-loop μ-loop) → c .place .result < length (c .before .before .before .before .before .before .before .args .all .now)
+place-fits c =
+    let s = c .before .before .before .before .before .before .before in
+    rw (c .place .ensures) (below-at (length (s .args .all .now)) (s .args .at .now) (c .before .before .before .loop .i) (s .pre .1) (c .before .before .loop-test .taken))
+
+mul-out : tie.Need-mul-out Inv-loop μ-loop
+mul-out c = omega (arith, place-fits c)
+
+shared-slice-read-out : tie.Need-shared-slice-read-out Inv-loop μ-loop
+shared-slice-read-out c = omega (arith, place-fits (c .before))
+
+mul-out-2 : tie.Need-mul-out-2 Inv-loop μ-loop
+mul-out-2 c = search needs
+
+element-write-out : tie.Need-element-write-out Inv-loop μ-loop
+element-write-out c = search needs
+
+add-i : tie.Need-add-i Inv-loop μ-loop
+add-i c = search needs
+
+loop-less : tie.Need-loop-less Inv-loop μ-loop
+loop-less c = search needs
+
+loop-again : tie.Need-loop-again Inv-loop μ-loop
+loop-again c =
+    let d = c .before in
+    let l = d .before .before .before in
+    let s = l .before .before .before .before in
+    let k = s .args .all .now in
+    let ps = s .args .at .now in
+    let i = l .loop .i in
+    let t = d .before .before .loop-test .taken in (
+      search needs,
+      search needs,
+      fill-turn (permute 0 k ps) (l .loop .out .items) i (l .loop .inv .2) (getD k (d .place .result) 0) (getD k 0 0)
+          (rw (length-map ps) t)
+          (omega (arith, t, l .loop .inv .1, s .pre .0))
+          (getD-any k (d .place .result) 0 0 (place-fits d) ∙ rw (d .place .ensures) (sym (List·getD-map (λ p. getD k p 0) ps i 0))),
+    )
+
+returns : tie.Need-returns Inv-loop μ-loop
+returns c =
+    let l = c .before in
+    let s = l .before .before .before .before in
+    let ps = s .args .at .now in (
+      search needs,
+      fill-end (permute 0 (s .args .all .now) ps) (l .loop .out .items) (l .loop .i) (l .loop .inv .2) (rw (length-map ps) (c .loop-test .left)),
+    )
+
+pub moved-numbers-spec : {M : Type 1} → statement M
+moved-numbers-spec =
+    tie.close
+    (tie.spec
+    Inv-loop
+    μ-loop
+    no-numbers-requires
+    loop-holds
+    mul-place
+    shared-slice-read-place
+    place-requires
+    mul-out
+    shared-slice-read-out
+    mul-out-2
+    element-write-out
+    add-i
+    loop-less
+    loop-again
+    returns)
