@@ -2,3 +2,4 @@ pub mod Lists
 pub mod Turns
 pub mod Tries
 pub mod Outcomes
+pub mod Shifts

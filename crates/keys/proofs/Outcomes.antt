@@ -3,13 +3,19 @@
 use Prim.Native.Nat.{ℕ, _≤_, _-_}
 use mathlib.Core.Path.{_≡_, refl, ap, sym, _∙_, subst}
 use mathlib.Core.Option.{Option, none, some}
-use mathlib.Core.List.{List, [], _∷_, map}
+use mathlib.Core.Bool.{Bool, cond}
+use mathlib.Core.List.{List, [], _∷_, _++_, map}
 use native.Mathlib.Omega.{arith}
 use lib.ListN.{length, take}
 use Rattle.keys.specs.Lists.{permute}
 use Rattle.keys.specs.Reorder.{Tried, met, movedBy}
 use Rattle.keys.specs.Expressions.{goneNumber}
-use Rattle.keys.specs.Values.{packedKeys, numbers, reportOf, resulting, triedOf}
+use Rattle.keys.specs.Adjust.{KeySheet, KeyAnswer, handOver, placedNames, namesFrom}
+use Rattle.keys.specs.Answers.{handed, changedBy, reportedBy, movedOr, projectedBy, adjustedBy, adjustedOf}
+use Rattle.keys.specs.declared.adjust.Outcome.{Outcome}
+use Rattle.keys.specs.declared.adjust.Handed.{Handed}
+use Rattle.keys.specs.declared.adjust.Adjusted.{Adjusted}
+use Rattle.keys.specs.Values.{keys, packedKeys, numbers, reportOf, resulting, triedOf}
 use Rattle.keys.specs.declared.reorder.Reordered.{Reordered}
 use Rattle.keys.specs.declared.reorder.Reordered.the-variants.{Met, Moved, Impossible}
 use Rattle.keys.specs.declared.reorder.Reorder.{Reorder}
@@ -42,3 +48,33 @@ front-is m n xs ys e z = from-start n xs ∙ rw (← z) e
 pub no-entry : {A : Type 0} (xs : List A) → length xs ≡ 0 → xs ≡ []
 no-entry [] e = refl
 no-entry (x ∷ xs) e = absurd (omega arith)
+
+-- an answer whose outcome, marks and positions are known
+module _ (s : KeySheet) (a : Adjusted) (o : Outcome) (cleared : Bool) (first others : Handed) (ps : List ℕ) where
+  abbrev pub answerBy : KeyAnswer
+  answerBy = record {
+    changed = changedBy o;
+    report = reportedBy o;
+    positions = ps;
+    required = cond cleared [] (s .required);
+    left = movedOr o (keys (a .left)) (s .left);
+    right = movedOr o (keys (a .right)) (s .right);
+    directions = movedOr o (numbers (a .directions)) (s .directions);
+    projection = projectedBy o (placedNames (s .groups) (numbers (a .places)) ++ namesFrom (length (s .groups)) (s .aggregates));
+    children = handOver (handed s (s .left) (a .left) first) (handed s (s .right) (a .right) others) (s .children);
+  }
+
+  pub adjusted-by :
+      a .outcome ≡ o → a .cleared ≡ cleared → a .first ≡ first → a .others ≡ others → numbers (a .at) ≡ ps →
+      adjustedOf s a ≡ adjustedBy o answerBy
+  adjusted-by p q f g z = λ j. adjustedBy (p j) (record {
+    changed = changedBy (p j);
+    report = reportedBy (p j);
+    positions = z j;
+    required = cond (q j) [] (s .required);
+    left = movedOr (p j) (keys (a .left)) (s .left);
+    right = movedOr (p j) (keys (a .right)) (s .right);
+    directions = movedOr (p j) (numbers (a .directions)) (s .directions);
+    projection = projectedBy (p j) (placedNames (s .groups) (numbers (a .places)) ++ namesFrom (length (s .groups)) (s .aggregates));
+    children = handOver (handed s (s .left) (a .left) (f j)) (handed s (s .right) (a .right) (g j)) (s .children);
+  })

@@ -152,8 +152,12 @@ module _ (same : Expression → Expression → Bool) (s : KeySheet) where
       cond (eqb (s .join) 0 || eqb (s .join) 2) (shiftRightRequired (s .columns) (s .required))
       (cond (eqb (s .join) 5 || (eqb (s .join) 7 || eqb (s .join) 9)) (s .required) [])
 
+  abbrev pub collectLeft : Adjustment
+  collectLeft = passed s 1 (s .required) kept (given pushedRight)
+
+  -- Partitioned, CollectLeft, Auto
   abbrev pub hashJoin : Adjustment
-  hashJoin = cond (eqb (s .mode) 0) reorderPartitionedJoinKeys (cond (eqb (s .mode) 1) (passed s 1 (s .required) kept (given pushedRight)) (cleared s))
+  hashJoin = cond (eqb (s .mode) 0) reorderPartitionedJoinKeys (cond (eqb (s .mode) 1) collectLeft (cleared s))
 
   abbrev pub crossJoin : Adjustment
   crossJoin = passed s 1 (s .required) kept (given (shiftRightRequired (s .columns) (s .required)))

@@ -6,3 +6,4 @@ pub mod Adjust
 pub mod Inputs
 pub mod Arrange
 pub mod Searched
+pub mod Answers

@@ -12,6 +12,8 @@ use Rattle.keys.specs.declared.list.NumberList.{NumberList}
 use Rattle.keys.specs.declared.reorder.Placed.{Placed}
 use Rattle.keys.specs.declared.reorder.Placed.the-variants.{All, Missing}
 use Rattle.keys.specs.declared.reorder.Positions.{Positions}
+use Rattle.keys.specs.declared.adjust.Found.{Found}
+use Rattle.keys.specs.declared.adjust.Found.the-variants.{At, Nowhere}
 use Rattle.keys.specs.declared.reorder.Reordered.{Reordered}
 use Rattle.keys.specs.declared.reorder.Reordered.the-variants.{Met, Moved, Impossible}
 use Rattle.keys.specs.declared.reorder.Reorder.{Reorder}
@@ -37,6 +39,10 @@ pub record Whole (k : KeyList) : Type 0 where
 pub record WholeNumbers (p : NumberList) : Type 0 where
   pub full : length (p .items) ≡ 32
   pub fits : p .count ≤ 32
+
+abbrev pub found : Found → Option ℕ
+found (At p) = some p
+found Nowhere = none
 
 abbrev pub placed : Placed → List ℕ → Option (List ℕ)
 placed All ps = some ps

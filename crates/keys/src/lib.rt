@@ -2,3 +2,4 @@
 pub mod expr;
 pub mod list;
 pub mod reorder;
+pub mod adjust;
