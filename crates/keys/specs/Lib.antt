@@ -4,3 +4,4 @@ pub mod Expressions
 pub mod Adjust
 pub mod Inputs
 pub mod Arrange
+pub mod Kept
