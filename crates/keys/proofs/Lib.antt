@@ -4,3 +4,6 @@ pub mod Sums
 pub mod Counts
 pub mod Exact
 pub mod OwnOrder
+pub mod Ways
+pub mod Decided
+pub mod Again
