@@ -7,3 +7,5 @@ pub mod OwnOrder
 pub mod Ways
 pub mod Decided
 pub mod Again
+pub mod Equalities
+pub mod TriedPairs
