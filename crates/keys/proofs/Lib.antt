@@ -9,3 +9,5 @@ pub mod Decided
 pub mod Again
 pub mod Equalities
 pub mod TriedPairs
+pub mod KeyWays
+pub mod Names

@@ -1,7 +1,7 @@
 -- Small laws of truth values and of searches that may find nothing.
 use Prim.Native.Nat.{ℕ}
 use mathlib.Core.Path.{_≡_, refl, sym}
-use mathlib.Core.Bool.{Bool, true, false, _&&_, _||_}
+use mathlib.Core.Bool.{Bool, true, false, cond, _&&_, _||_}
 use mathlib.Core.Option.{Option, none, some}
 use mathlib.Core.List.{List}
 use mathlib.Core.Logic.{_⊎_, inl, inr}
@@ -60,3 +60,8 @@ or-none-first (some ps) b e = e
 pub or-none-second : (a b : Option (List ℕ)) → orElse a b ≡ none → b ≡ none
 or-none-second none b e = e
 or-none-second (some ps) b e = none-some e refl
+
+-- what holds of both answers of a test
+pub by-test : {X : Type 0} (P : X → Type 0) (b : Bool) {x y : X} → (b ≡ true → P x) → (b ≡ false → P y) → P (cond b x y)
+by-test P true f g = f refl
+by-test P false f g = g refl
