@@ -11,3 +11,4 @@ pub mod Equalities
 pub mod TriedPairs
 pub mod KeyWays
 pub mod Names
+pub mod KeyGuarantee
