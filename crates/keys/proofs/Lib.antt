@@ -12,3 +12,4 @@ pub mod TriedPairs
 pub mod KeyWays
 pub mod Names
 pub mod KeyGuarantee
+pub mod InputGuarantee
