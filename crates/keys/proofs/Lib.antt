@@ -13,3 +13,5 @@ pub mod KeyWays
 pub mod Names
 pub mod KeyGuarantee
 pub mod InputGuarantee
+pub mod Marked
+pub mod Needed
