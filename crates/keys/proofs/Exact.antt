@@ -1,11 +1,13 @@
 -- The search for places finds an arrangement exactly where there is one. Carried by counting: what an entry takes, another cannot.
 --     places-fit     what it finds is an arrangement that fits, where no expected entry equals the placeholder: for any equality
 --     places-exact   where it finds none, none fits: for every equivalence, whatever the entries
+--     positions-fit, positions-exact, positions-none   the same of `expectedExprPositions`, which finds nothing in an empty list
 use Prim.Native.Nat.{ℕ, zero, suc, _+_, _≤_, _<_}
 use mathlib.Core.Path.{_≡_, refl, ap, sym, _∙_, subst}
 use mathlib.Core.Bool.{Bool, true, false, cond, _&&_}
 use mathlib.Core.Option.{Option, none, some}
 use mathlib.Core.List.{List, [], _∷_, map}
+use mathlib.Core.Logic.{_↔_}
 use native.Mathlib.Omega.{arith}
 use borrow.Author.Tests.{eqb-true, eqb-false}
 use lib.Dec.{eqb}
@@ -187,3 +189,15 @@ module _ {A : Type 0} (same : A → A → Bool) (gone : A) where
   positions-exact eq current expected k e ps f =
       places-exact same gone eq current expected
       (sym (positions-of same gone current expected (omega (arith, fits-length current expected ps f)) k) ∙ e) ps f
+
+  -- NOTHING IS FOUND EXACTLY WHERE NO ARRANGEMENT FITS
+  pub positions-none :
+      Equivalence same → (current expected : List A) → length current ≡ length expected → 0 < length expected → Lacks same gone expected →
+      (expectedExprPositions same gone current expected ≡ none) ↔ ((ps : List ℕ) → Fits same gone current expected ps → ⊥)
+  positions-none eq current expected n k l = (positions-exact eq current expected k, λ h. go h (expectedExprPositions same gone current expected) refl)
+    where
+      go :
+          ((ps : List ℕ) → Fits same gone current expected ps → ⊥) → (o : Option (List ℕ)) → expectedExprPositions same gone current expected ≡ o →
+          o ≡ none
+      go h none e = refl
+      go h (some ps) e = absurd (h ps (positions-fit current expected ps n l e))

@@ -3,7 +3,7 @@
 --     inputs-impossible-exact   impossible exactly when no arrangement fits for any list with mark 1 (any equivalence)
 --     inputs-fit                else one side fits the list followed, as it comes out
 use Prim.Native.Nat.{ℕ}
-use mathlib.Core.Path.{_≡_, refl, sym, _∙_, subst}
+use mathlib.Core.Path.{_≡_, refl, ap, sym, _∙_, subst}
 use mathlib.Core.Bool.{Bool, true, false, cond, _&&_, _||_, or-true}
 use mathlib.Core.Option.{Option, none, some}
 use mathlib.Core.List.{List, []}
@@ -14,11 +14,17 @@ use lib.Dec.{eqb}
 use lib.ListN.{length}
 use Rattle.keys.specs.Reorder.{Rule, Tried, tryReorder}
 use Rattle.keys.specs.Expressions.{Expression, placeholder}
-use Rattle.keys.specs.Arrange.{Equivalence}
-use Rattle.keys.specs.Inputs.{JoinSheet, JoinAnswer, asStood, following, trySide, tryRight, reorderCurrentJoinKeys, reorderJoinKeysToInputs}
-use Rattle.keys.specs.Kept.{PairsKept, NothingFits, orderTried, joinPairs, orderedPairs, asked, askedUnder, hashed, inputTried, InputsLackPlaceholder, NothingFitsInputs, FollowedFits, InputOrderKept}
+use Rattle.keys.specs.Arrange.{Equivalence, Lacks}
+use Rattle.keys.specs.Inputs.{JoinSheet, JoinAnswer, asStood, following, trySide, tryRight, reorderCurrentJoinKeys, reorderJoinKeysToInputs, inputKeys, followedKeys}
+use Rattle.keys.specs.Kept.{LacksRules, PairsKept, NothingFits, orderTried, joinPairs, orderedPairs, asked, askedUnder, hashed, inputTried, InputsLackPlaceholder, NothingFitsInputs, FollowedFits, InputOrderKept}
 use Rattle.keys.proofs.Truths.{true-false, none-some, by-test}
-use Rattle.keys.proofs.TriedPairs.{tried-kept, tried-exact, tried-fits}
+use Rattle.keys.proofs.TriedPairs.{lacks-placeholder, tried-kept, tried-exact, tried-fits}
+
+-- it suffices that neither a list with mark 1 nor a rule's right side is the placeholder
+pub inputs-lack-placeholder :
+    (same : Expression → Expression → Bool) (s : JoinSheet) → LacksRules same placeholder (s .leftRewriting) → LacksRules same placeholder (s .rightRewriting) →
+    ((side : ℕ) (r : List Expression) → asked s side ≡ some r → Lacks same placeholder r) → InputsLackPlaceholder same s
+inputs-lack-placeholder same s h k l side r e = lacks-placeholder same (askedUnder s side) r (by-test (LacksRules same placeholder) (eqb side 1) (λ t. h) (λ t. k)) (l side r e)
 
 module _ (same : Expression → Expression → Bool) (s : JoinSheet) where
   -- the list r of a side, tried
@@ -42,6 +48,15 @@ module _ (same : Expression → Expression → Bool) (s : JoinSheet) where
       let y : some r ≡ some q = sym e ∙ k in
       let z : r ≡ q = cc in
       subst (λ (x : List Expression). tried side x .report ≡ 3) z (eqb-true (tried side r .report) 3 t)
+
+  -- the list asked is the one handed back
+  handed : (side : ℕ) (r : List Expression) → asked s side ≡ some r → followedKeys s side ≡ r
+  handed side r = go (eqb side 1) (eqb side 2)
+    where
+      go : (a b : Bool) → cond a (s .leftInput) (cond b (s .rightInput) none) ≡ some r → cond a (inputKeys (s .leftInput)) (cond b (inputKeys (s .rightInput)) []) ≡ r
+      go true b e = ap inputKeys e
+      go false true e = ap inputKeys e
+      go false false e = none-some refl e
 
   only-two : Impossible 1 → Impossible 2 → (side : ℕ) → Impossible side
   only-two f g side r = go (eqb side 1) (eqb side 2)
@@ -110,11 +125,12 @@ module _ (same : Expression → Expression → Bool) (s : JoinSheet) where
           go : (a : JoinAnswer) → InputWay a → (a .report ≡ 3 → ⊥) → FollowedFits same s a
           go a (unasked u) k = absurd (true-false t u)
           go a (allImpossible u f) k = absurd (k refl)
-          go a (followed u side r e h) k = record {
-            keys = r;
-            followed = e;
-            fits = tried-fits same (askedUnder s side) r (joinPairs s) even eq (clean side r e) h;
-          }
+          go a (followed u side r e h) k =
+              let z : followedKeys s side ≡ r = handed side r e in
+              record {
+                followed = rw z e;
+                fits = rw z (tried-fits same (askedUnder s side) r (joinPairs s) even eq (clean side r e) h);
+              }
 
       -- DEMAND 3 OF AN I SHEET
       pub input-order-kept : InputOrderKept same s (reorderJoinKeysToInputs s same)

@@ -3,7 +3,8 @@
 --     pairs-once         an order is tried, no placeholder required: each pair once, its direction with it (any equality)
 --     impossible-exact   impossible exactly when no arrangement fits a side (any equivalence)
 --     side-fits          else one side fits as it comes out
---     planned-twice      the answer's pairs, put on the sheet again, stay
+--     planned-twice      the answer's pairs, put on the sheet again, are met, or impossible as before, and stay
+--     key-pairs-kept     the first four, of any K sheet
 use mathlib.Core.Path.{_≡_, refl, ap, sym, _∙_, subst}
 use mathlib.Core.Bool.{Bool, true, false, cond}
 use mathlib.Core.Option.{Option, none, some}
@@ -18,7 +19,7 @@ use Rattle.keys.specs.Reorder.{Tried, tryReorder}
 use Rattle.keys.specs.Expressions.{Expression, placeholder}
 use Rattle.keys.specs.Arrange.{Equivalence}
 use Rattle.keys.specs.Adjust.{KeySheet, KeyAnswer, Adjustment, answered, nameNotFound, handOver, given, movedDirections, directionsOf, namePlaces, regrouped, reorderPartitionedJoinKeys, adjustInputKeysOrdering}
-use Rattle.keys.specs.Kept.{PairsKept, LacksPlaceholder, NothingFits, ComesOutFitting, orderTried, sheetPairs, answerPairs, KeyOrderKept, PairsStand, replanned, confirmed}
+use Rattle.keys.specs.Kept.{PairsKept, LacksPlaceholder, NothingFits, ComesOutFitting, orderTried, sheetPairs, answerPairs, PairsStand, KeyPairsKept, replanned, confirmed}
 use Rattle.keys.proofs.Truths.{true-false}
 use Rattle.keys.proofs.Again.{settled, again}
 use Rattle.keys.proofs.TriedPairs.{tried-kept, tried-exact, tried-fits}
@@ -97,10 +98,6 @@ module _ (same : Expression → Expression → Bool) where
               by-join (λ b. (b .report ≡ 3 → ⊥) → ComesOutFitting same (s .rewriting) (s .required) (sheetPairs s) (answerPairs b) (b .report) (b .positions))
               (tried-fits same (s .rewriting) (s .required) (sheetPairs s) even eq clean)
 
-          -- DEMAND 3 OF A K SHEET WHOSE ORDER IS TRIED
-          pub key-order-kept : KeyOrderKept same s a
-          key-order-kept = record { pairs = pairs-once; impossible = impossible-exact; fits = side-fits }
-
           pub planned-twice : adjustInputKeysOrdering same (replanned s a) ≡ answered (confirmed a)
           planned-twice = by-join (λ b. adjustInputKeysOrdering same (replanned s b) ≡ answered (confirmed b)) (joins s' o ∙ ap (λ (b : KeyAnswer). answered b) second)
             where
@@ -114,3 +111,11 @@ module _ (same : Expression → Expression → Bool) where
               second =
                   ap (joinedBy s') (again same placeholder (s .rewriting) eq (s .required) (s .left) (s .right) even (clean .raw) (clean .rewritten) t refl)
                   ∙ rw (settled-directions (directionsOf (s .directions) t) t)
+
+    -- DEMAND 3 OF A K SHEET
+    pub key-pairs-kept :
+        Equivalence same → length (s .left) ≡ length (s .right) → LacksPlaceholder same (s .rewriting) (s .required) → KeyPairsKept same s a
+    key-pairs-kept eq even clean = record {
+      tried = λ o. record { pairs = pairs-once o even clean; impossible = impossible-exact o even clean eq; fits = side-fits o even clean eq };
+      untried = pairs-stand;
+    }

@@ -10,7 +10,7 @@ pub mod Again
 pub mod Equalities
 pub mod TriedPairs
 pub mod KeyWays
-pub mod Names
+pub mod NamesFound
 pub mod KeyGuarantee
 pub mod InputGuarantee
 pub mod Marked

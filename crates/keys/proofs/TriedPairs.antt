@@ -4,7 +4,7 @@ use mathlib.Core.Path.{_≡_, refl, ap, sym, _∙_}
 use mathlib.Core.Bool.{Bool, true, false, cond}
 use mathlib.Core.Option.{none, some}
 use mathlib.Core.List.{List, [], _∷_, map}
-use mathlib.Core.Logic.{_↔_}
+use mathlib.Core.Logic.{_⊎_, inl, inr, _↔_}
 use native.Mathlib.Omega.{arith}
 use lib.ListN.{length, take}
 use lib.Seq.{take-all}
@@ -68,8 +68,15 @@ module _ (same : Expression → Expression → Bool) (w : List (Rule Expression)
         none-impossible same placeholder w r (p .left) (p .right) even (clean .raw) (clean .rewritten) eq,
       )
 
+      met-or-moved : (t : Tried Expression) → Way same placeholder w r (p .left) (p .right) t → (t .report ≡ 3 → ⊥) → (t .report ≡ 1) ⊎ (t .report ≡ 2)
+      met-or-moved t (unequal u) h = absurd (h refl)
+      met-or-moved t (meeting z m) h = inl refl
+      met-or-moved t (moving z ps o) h = inr refl
+      met-or-moved t (missing z m o) h = absurd (h refl)
+
       pub tried-fits : (tried .report ≡ 3 → ⊥) → ComesOutFitting same w r p (triedPairs p tried) (tried .report) (tried .positions)
       tried-fits h = record {
+        either = met-or-moved tried (way same placeholder w r (p .left) (p .right)) h;
         met = met-fits same placeholder w r (p .left) (p .right) even eq;
         moved = moved-fits same placeholder w r (p .left) (p .right) even (clean .raw) (clean .rewritten);
         out = comes-out same placeholder w eq r (p .left) (p .right) even (clean .raw) (clean .rewritten) h;

@@ -13,7 +13,7 @@ use Rattle.keys.specs.Reorder.{Rule, rewrite}
 use Rattle.keys.specs.Expressions.{Expression, placeholder}
 use Rattle.keys.specs.Arrange.{Arrangement, Lacks, FitsSide}
 use Rattle.keys.specs.Adjust.{KeySheet, KeyAnswer}
-use Rattle.keys.specs.Inputs.{JoinSheet, JoinAnswer}
+use Rattle.keys.specs.Inputs.{JoinSheet, JoinAnswer, followedKeys}
 
 -- n places from i on, in their own order
 abbrev pub upFrom : ℕ → ℕ → List ℕ
@@ -59,6 +59,7 @@ module _ (same : Expression → Expression → Bool) (w : List (Rule Expression)
 
   -- "one side fits as it comes out"
   pub record ComesOutFitting (before after : Pairs) (report : ℕ) (positions : List ℕ) : Type 0 where
+    pub either : (report ≡ 1) ⊎ (report ≡ 2)
     pub met : report ≡ 1 → FitsPairs before (upFrom 0 (length (before .left)))
     pub moved : report ≡ 2 → FitsPairs before positions
     pub out : FitsPairs after (upFrom 0 (length (after .left)))
@@ -85,6 +86,11 @@ pub record KeyOrderKept (same : Expression → Expression → Bool) (s : KeyShee
 pub record PairsStand (s : KeySheet) (a : KeyAnswer) : Type 0 where
   pub pairs : answerPairs a ≡ sheetPairs s
   pub report : (a .report ≡ 0) ⊎ ((a .report ≡ 2) × (s .op ≡ 3))
+
+-- any K sheet that is answered
+pub record KeyPairsKept (same : Expression → Expression → Bool) (s : KeySheet) (a : KeyAnswer) : Type 0 where
+  pub tried : orderTried (s .op) (s .mode) ≡ true → KeyOrderKept same s a
+  pub untried : orderTried (s .op) (s .mode) ≡ false → PairsStand s a
 
 -- the sheet with an answer's keys and directions on it
 abbrev pub replanned : KeySheet → KeyAnswer → KeySheet
@@ -150,9 +156,9 @@ module _ (same : Expression → Expression → Bool) (s : JoinSheet) where
 
   -- one side fits the list that was followed, as it comes out
   pub record FollowedFits (a : JoinAnswer) : Type 0 where
-    pub keys : List Expression
-    pub followed : asked s (a .followed) ≡ some keys
-    pub fits : ComesOutFitting same (askedUnder s (a .followed)) keys (joinPairs s) (orderedPairs a) (a .report) (a .positions)
+    pub followed : asked s (a .followed) ≡ some (followedKeys s (a .followed))
+    pub fits :
+        ComesOutFitting same (askedUnder s (a .followed)) (followedKeys s (a .followed)) (joinPairs s) (orderedPairs a) (a .report) (a .positions)
 
   pub record InputOrderKept (a : JoinAnswer) : Type 0 where
     pub pairs : PairsKept (joinPairs s) (orderedPairs a) (a .report) (a .positions)
