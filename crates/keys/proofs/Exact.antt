@@ -4,9 +4,9 @@
 --     positions-fit, positions-exact, positions-none   the same of `expectedExprPositions`, which finds nothing in an empty list
 use Prim.Native.Nat.{ℕ, zero, suc, _+_, _≤_, _<_}
 use mathlib.Core.Path.{_≡_, refl, ap, sym, _∙_, subst}
-use mathlib.Core.Bool.{Bool, true, false, cond, _&&_}
+use mathlib.Core.Bool.{Bool, true, false, cond}
 use mathlib.Core.Option.{Option, none, some}
-use mathlib.Core.List.{List, [], _∷_, map}
+use mathlib.Core.List.{List, [], _∷_}
 use mathlib.Core.Logic.{_↔_}
 use native.Mathlib.Omega.{arith}
 use borrow.Author.Tests.{eqb-true, eqb-false}
@@ -14,7 +14,7 @@ use lib.Dec.{eqb}
 use lib.ListN.{length, getD, set, length-map}
 use lib.Seq.{getD-set-other}
 use Rattle.keys.specs.Lists.{next, also, andThen, sameList, placeOf, takePlaces, expectedExprPositions, permute}
-use Rattle.keys.specs.Arrange.{times, Arrangement, Equivalence, Lacks, Fits}
+use Rattle.keys.specs.Arrange.{times, Equivalence, Lacks, Fits}
 use Rattle.keys.proofs.Lists.{take-below, place-below, positions-of, found-below}
 use Rattle.keys.proofs.Truths.{true-false, and-first, and-second, none-some, also-none}
 use Rattle.keys.proofs.Sums.{one, all-places}

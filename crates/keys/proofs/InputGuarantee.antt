@@ -4,7 +4,7 @@
 --     inputs-fit                else one side fits the list followed, as it comes out
 use Prim.Native.Nat.{ℕ}
 use mathlib.Core.Path.{_≡_, refl, ap, sym, _∙_, subst}
-use mathlib.Core.Bool.{Bool, true, false, cond, _&&_, _||_, or-true}
+use mathlib.Core.Bool.{Bool, true, false, cond, or-true}
 use mathlib.Core.Option.{Option, none, some}
 use mathlib.Core.List.{List, []}
 use mathlib.Core.Logic.{_↔_}
@@ -12,11 +12,11 @@ use native.Mathlib.Omega.{arith}
 use borrow.Author.Tests.{eqb-true, eqb-false}
 use lib.Dec.{eqb}
 use lib.ListN.{length}
-use Rattle.keys.specs.Reorder.{Rule, Tried, tryReorder}
+use Rattle.keys.specs.Reorder.{Tried, tryReorder}
 use Rattle.keys.specs.Expressions.{Expression, placeholder}
 use Rattle.keys.specs.Arrange.{Equivalence, Lacks}
 use Rattle.keys.specs.Inputs.{JoinSheet, JoinAnswer, asStood, following, trySide, tryRight, reorderCurrentJoinKeys, reorderJoinKeysToInputs, inputKeys, followedKeys}
-use Rattle.keys.specs.Kept.{LacksRules, PairsKept, NothingFits, orderTried, joinPairs, orderedPairs, asked, askedUnder, hashed, inputTried, InputsLackPlaceholder, NothingFitsInputs, FollowedFits, InputOrderKept}
+use Rattle.keys.specs.Kept.{LacksRules, PairsKept, NothingFits, orderTried, joinPairs, orderedPairs, asked, askedUnder, inputTried, InputsLackPlaceholder, NothingFitsInputs, FollowedFits, InputOrderKept}
 use Rattle.keys.proofs.Truths.{true-false, none-some, by-test}
 use Rattle.keys.proofs.TriedPairs.{lacks-placeholder, tried-kept, tried-exact, tried-fits}
 

@@ -18,7 +18,7 @@ use Rattle.keys.specs.Lists.{permute}
 use Rattle.keys.specs.Reorder.{Tried, tryReorder}
 use Rattle.keys.specs.Expressions.{Expression, placeholder}
 use Rattle.keys.specs.Arrange.{Equivalence}
-use Rattle.keys.specs.Adjust.{KeySheet, KeyAnswer, Adjustment, answered, nameNotFound, handOver, given, movedDirections, directionsOf, namePlaces, regrouped, reorderPartitionedJoinKeys, adjustInputKeysOrdering}
+use Rattle.keys.specs.Adjust.{KeySheet, KeyAnswer, Adjustment, answered, handOver, given, movedDirections, directionsOf, namePlaces, regrouped, adjustInputKeysOrdering}
 use Rattle.keys.specs.Kept.{PairsKept, LacksPlaceholder, NothingFits, ComesOutFitting, orderTried, sheetPairs, answerPairs, PairsStand, KeyPairsKept, replanned, confirmed}
 use Rattle.keys.proofs.Truths.{true-false}
 use Rattle.keys.proofs.Again.{settled, again}

@@ -1,5 +1,5 @@
 -- Refusal 10 needs a placeholder: where the required list lacks it, every group name stands among the moved names.
-use Prim.Native.Nat.{ℕ, suc, _+_, _≤_}
+use Prim.Native.Nat.{ℕ, suc, _≤_}
 use mathlib.Core.Path.{_≡_, refl, ap, sym}
 use mathlib.Core.Bool.{Bool}
 use mathlib.Core.Option.{Option, none, some}

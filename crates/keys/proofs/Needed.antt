@@ -1,12 +1,10 @@
 -- The condition on placeholders is needed: with one required, a pair comes out twice, and a name is not found.
 use Prim.Native.Nat.{ℕ}
 use mathlib.Core.Path.{_≡_, refl, sym, _∙_, subst}
-use mathlib.Core.Bool.{true, false}
-use mathlib.Core.List.{List, [], _∷_}
+use mathlib.Core.Bool.{true}
+use mathlib.Core.List.{[], _∷_}
 use native.Mathlib.Omega.{arith}
-use Rattle.keys.specs.Lists.{expectedExprPositions}
-use Rattle.keys.specs.Reorder.{tryReorder}
-use Rattle.keys.specs.Expressions.{Expression, sameExpr, column, placeholder}
+use Rattle.keys.specs.Expressions.{sameExpr, column, placeholder}
 use Rattle.keys.specs.Adjust.{KeySheet, KeyAnswer, answered, nameNotFound, adjustInputKeysOrdering}
 use Rattle.keys.specs.Kept.{PairsKept, sheetPairs, answerPairs}
 use Rattle.keys.proofs.Marked.{doubled, marked}

@@ -1,17 +1,17 @@
 -- The places of a list in their own order are an arrangement, and a list that is expected as it stands fits in it.
 use Prim.Native.Nat.{ℕ, zero, suc, _+_, _≤_, _<_}
-use mathlib.Core.Path.{_≡_, refl, ap, sym, _∙_}
+use mathlib.Core.Path.{_≡_, refl, ap, sym}
 use mathlib.Core.Bool.{Bool, true, false}
 use mathlib.Core.List.{List, [], _∷_}
 use native.Mathlib.Omega.{arith}
 use borrow.Author.Tests.{eqb-true, ne-eqb}
 use lib.Dec.{eqb}
-use lib.ListN.{length, getD, drop, drop-of-length-le}
+use lib.ListN.{length, drop, drop-of-length-le}
 use lib.Seq.{drop-cons}
 use Rattle.keys.specs.Lists.{sameList, permute}
 use Rattle.keys.specs.Arrange.{Below, times, Arrangement, Equivalence, Fits}
 use Rattle.keys.specs.Kept.{upFrom}
-use Rattle.keys.proofs.Truths.{true-false, and-first, and-second}
+use Rattle.keys.proofs.Truths.{and-first, and-second}
 use Rattle.keys.proofs.Sums.{one, all-places}
 
 up-length : (i n : ℕ) → length (upFrom i n) ≡ n

@@ -1,7 +1,7 @@
 -- Sums over the numbers below n, and over a list of such numbers: the two ways of counting.
 use Prim.Native.Nat.{ℕ, zero, suc, _+_, _*_, _≤_, _<_}
-use mathlib.Core.Path.{_≡_, refl, ap, sym, _∙_}
-use mathlib.Core.Bool.{Bool, true, false, cond}
+use mathlib.Core.Path.{_≡_, refl, sym, _∙_}
+use mathlib.Core.Bool.{Bool, cond}
 use mathlib.Core.List.{List, [], _∷_}
 use native.Mathlib.Nat.{zero-mul, one-mul, add-mul, mul-one}
 use native.Mathlib.Omega.{arith}

@@ -1,19 +1,18 @@
 -- The pairs of a join, as `tryReorder` moves them and `directionsOf` their directions: what holds on K and I sheets alike.
 use Prim.Native.Nat.{ℕ, _≤_}
-use mathlib.Core.Path.{_≡_, refl, ap, sym, _∙_}
-use mathlib.Core.Bool.{Bool, true, false, cond}
-use mathlib.Core.Option.{none, some}
-use mathlib.Core.List.{List, [], _∷_, map}
+use mathlib.Core.Path.{_≡_, refl, ap}
+use mathlib.Core.Bool.{Bool}
+use mathlib.Core.List.{List, []}
 use mathlib.Core.Logic.{_⊎_, inl, inr, _↔_}
 use native.Mathlib.Omega.{arith}
-use lib.ListN.{length, take}
+use lib.ListN.{length}
 use lib.Seq.{take-all}
 use Rattle.keys.specs.Lists.{permute}
 use Rattle.keys.specs.Reorder.{Rule, Tried, tryReorder}
 use Rattle.keys.specs.Expressions.{Expression, placeholder}
-use Rattle.keys.specs.Arrange.{Arrangement, Equivalence, Lacks, FitsSide}
+use Rattle.keys.specs.Arrange.{Arrangement, Equivalence, Lacks}
 use Rattle.keys.specs.Adjust.{movedDirections, directionsOf}
-use Rattle.keys.specs.Kept.{Pairs, PairsMoved, PairsKept, LacksPlaceholder, LacksRules, NothingFits, ComesOutFitting}
+use Rattle.keys.specs.Kept.{Pairs, PairsKept, LacksPlaceholder, LacksRules, NothingFits, ComesOutFitting}
 use Rattle.keys.proofs.Ways.{Way, unequal, meeting, moving, missing, way, side-arranges, found-fits}
 use Rattle.keys.proofs.Decided.{met-fits, moved-fits, impossible-none, none-impossible}
 use Rattle.keys.proofs.Again.{comes-out}

@@ -3,13 +3,13 @@ use Prim.Native.Nat.{ℕ}
 use mathlib.Core.Path.{_≡_, refl, sym, _∙_}
 use mathlib.Core.Bool.{Bool, true, false, cond, _||_}
 use mathlib.Core.Option.{Option, none, some}
-use mathlib.Core.List.{List, [], _∷_, map}
+use mathlib.Core.List.{List}
 use borrow.Author.Tests.{eqb-true, eqb-false}
 use lib.Dec.{eqb}
 use lib.ListN.{length, length-map}
 use Rattle.keys.specs.Lists.{expectedExprPositions, orElse}
 use Rattle.keys.specs.Reorder.{Rule, Tried, met, movedBy, rewriteOne, rewrite, meets, eitherSide, tryReorder}
-use Rattle.keys.specs.Arrange.{Arrangement, Lacks, Fits, FitsSide, left, right, leftRewritten, rightRewritten}
+use Rattle.keys.specs.Arrange.{Arrangement, Lacks, FitsSide, left, right, leftRewritten, rightRewritten}
 use Rattle.keys.proofs.Exact.{fits-length, positions-fit}
 
 module _ {A : Type 0} (same : A → A → Bool) (w : List (Rule A)) where
