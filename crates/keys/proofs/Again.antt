@@ -38,14 +38,14 @@ module _ {A : Type 0} (same : A → A → Bool) (gone : A) (w : List (Rule A)) w
   record Meeting (r l g : List A) : Type 0 where
     required : length l ≡ length r
     even : length l ≡ length g
-    meets : meetsEither same gone w r l g ≡ true
+    meets : meetsEither same w r l g ≡ true
 
   now-met : (r l g : List A) → Meeting r l g → tryReorder same gone w r l g ≡ met l g
   unfolding tryReorder
   now-met r l g m = rw (eq-eqb (length l) (length r) (m .required), m .meets)
 
   module _ (eq : Equivalence same) (r l g : List A) (n : length l ≡ length g) where
-    side-meets : (ps : List ℕ) → FitsSide same gone w r l g ps → meetsEither same gone w r (permute gone l ps) (permute gone g ps) ≡ true
+    side-meets : (ps : List ℕ) → FitsSide same gone w r l g ps → meetsEither same w r (permute gone l ps) (permute gone g ps) ≡ true
     side-meets ps f = go f
       where
         new : List A → List A
@@ -57,7 +57,7 @@ module _ {A : Type 0} (same : A → A → Bool) (gone : A) (w : List (Rule A)) w
         g' : List A
         g' = permute gone g ps
 
-        go : FitsSide same gone w r l g ps → meetsEither same gone w r l' g' ≡ true
+        go : FitsSide same gone w r l g ps → meetsEither same w r l' g' ≡ true
         go (left f) =
             or-first (meets same r l' g') (meets same (new r) (new l') (new g'))
             (or-first (sameList same r l') (sameList same r g') (sameList-sym same eq l' r (f .equal)))

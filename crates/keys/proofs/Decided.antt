@@ -31,12 +31,13 @@ positive n h = omega arith
 module _ {A : Type 0} (same : A → A → Bool) (gone : A) (w : List (Rule A)) where
   -- two sides of which one is the requirement fit in their own order
   pub meets-fits :
-      Equivalence same → (r l g : List A) → length l ≡ length g → meetsEither same gone w r l g ≡ true →
+      Equivalence same → (r l g : List A) → length l ≡ length g → meetsEither same w r l g ≡ true →
       FitsSide same gone w r l g (upFrom 0 (length l))
   meets-fits eq r l g n m =
       ⊎-elim
       (λ a. ⊎-elim (λ s. left (fit l r refl s)) (λ s. right (fit g r (sym n) s)) (or-either (sameList same r l) (sameList same r g) a))
-      (λ a. ⊎-elim (λ s. leftRewritten (fit (new l) (new r) (rewrite-length same w l) s)) (λ s. rightRewritten (fit (new g) (new r) (rewrite-length same w g ∙ sym n) s))
+      (λ a. ⊎-elim (λ s. leftRewritten (fit (new l) (new r) (rewrite-length same w l) s))
+      (λ s. rightRewritten (fit (new g) (new r) (rewrite-length same w g ∙ sym n) s))
       (or-either (sameList same (new r) (new l)) (sameList same (new r) (new g)) a))
       (or-either (meets same r l g) (meets same (new r) (new l) (new g)) m)
     where
@@ -76,7 +77,7 @@ module _ {A : Type 0} (same : A → A → Bool) (gone : A) (w : List (Rule A)) w
             positions-exact same gone eq (new g) (new r) (rw (rewrite-length same w r) h)
             (or-none-second (expectedExprPositions same gone (new l) (new r)) (expectedExprPositions same gone (new g) (new r)) b) ps f
 
-        filled : length l ≡ length r → meetsEither same gone w r l g ≡ false → 0 < length r
+        filled : length l ≡ length r → meetsEither same w r l g ≡ false → 0 < length r
         filled z m =
             positive (length r)
             (λ k. true-false

@@ -1,4 +1,4 @@
--- Demand 3 of I sheets, by the ways to the answer: no list is asked, every list asked is impossible, or one is followed.
+-- Demand 3 of I sheets, the same two sentences, by the ways to the answer: no list is asked, each is impossible, or one is followed.
 --     inputs-pairs-once         each pair once, its direction with it (any equality)
 --     inputs-impossible-exact   impossible exactly when no arrangement fits for any list with mark 1 (any equivalence)
 --     inputs-fit                else one side fits the list followed, as it comes out
@@ -22,9 +22,11 @@ use Rattle.keys.proofs.TriedPairs.{lacks-placeholder, tried-kept, tried
 
 -- it suffices that neither a list with mark 1 nor a rule's right side is the placeholder
 pub inputs-lack-placeholder :
-    (same : Expression → Expression → Bool) (s : JoinSheet) → LacksRules same placeholder (s .leftRewriting) → LacksRules same placeholder (s .rightRewriting) →
+    (same : Expression → Expression → Bool) (s : JoinSheet) →
+    LacksRules same placeholder (s .leftRewriting) → LacksRules same placeholder (s .rightRewriting) →
     ((side : ℕ) (r : List Expression) → asked s side ≡ some r → Lacks same placeholder r) → InputsLackPlaceholder same s
-inputs-lack-placeholder same s h k l side r e = lacks-placeholder same (askedUnder s side) r (by-test (LacksRules same placeholder) (eqb side 1) (λ t. h) (λ t. k)) (l side r e)
+inputs-lack-placeholder same s h k l side r e =
+    lacks-placeholder same (askedUnder s side) r (by-test (LacksRules same placeholder) (eqb side 1) (λ t. h) (λ t. k)) (l side r e)
 
 module _ (same : Expression → Expression → Bool) (s : JoinSheet) where
   -- the list r of a side, tried
@@ -53,7 +55,9 @@ module _ (same : Expression → Expression → Bool) (s : JoinSheet) where
   handed : (side : ℕ) (r : List Expression) → asked s side ≡ some r → followedKeys s side ≡ r
   handed side r = go (eqb side 1) (eqb side 2)
     where
-      go : (a b : Bool) → cond a (s .leftInput) (cond b (s .rightInput) none) ≡ some r → cond a (inputKeys (s .leftInput)) (cond b (inputKeys (s .rightInput)) []) ≡ r
+      go :
+          (a b : Bool) → cond a (s .leftInput) (cond b (s .rightInput) none) ≡ some r →
+          cond a (inputKeys (s .leftInput)) (cond b (inputKeys (s .rightInput)) []) ≡ r
       go true b e = ap inputKeys e
       go false true e = ap inputKeys e
       go false false e = none-some refl e

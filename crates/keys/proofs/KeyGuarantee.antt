@@ -1,4 +1,4 @@
--- Demand 3 of K sheets: pairs each exactly once, called impossible exactly where nothing fits, and planning twice.
+-- Demand 3 of K sheets, "Its join pairs come out each exactly once .." and "Where a join's order is tried .."; and planning twice.
 --     pairs-stand        no order is tried: the pairs stand as they stood
 --     pairs-once         an order is tried, no placeholder required: each pair once, its direction with it (any equality)
 --     impossible-exact   impossible exactly when no arrangement fits a side (any equivalence)
@@ -99,7 +99,9 @@ module _ (same : Expression → Expression → Bool) where
               (tried-fits same (s .rewriting) (s .required) (sheetPairs s) even eq clean)
 
           pub planned-twice : adjustInputKeysOrdering same (replanned s a) ≡ answered (confirmed a)
-          planned-twice = by-join (λ b. adjustInputKeysOrdering same (replanned s b) ≡ answered (confirmed b)) (joins s' o ∙ ap (λ (b : KeyAnswer). answered b) second)
+          planned-twice =
+              by-join (λ b. adjustInputKeysOrdering same (replanned s b) ≡ answered (confirmed b))
+              (joins s' o ∙ ap (λ (b : KeyAnswer). answered b) second)
             where
               s' : KeySheet
               s' = replanned s (joined s)

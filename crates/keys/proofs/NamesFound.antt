@@ -40,7 +40,6 @@ arranged-names groups aggregates ps a =
     (λ y. omega (arith, occ-append eqb y (permute 0 groups ps) aggregates, occ-arranged eqb y groups 0 ps a))
 
 module _ (same : Expression → Expression → Bool) (s : KeySheet) where
-  -- A SHEET WHOSE REQUIRED LIST LACKS THE PLACEHOLDER IS ANSWERED
   pub names-found : Lacks same placeholder (s .required) → adjustInputKeysOrdering same s ≡ nameNotFound → ⊥
   names-found clean e = go (adjustInputKeysOrdering same s) (key-way same s) e
     where
@@ -59,3 +58,11 @@ module _ (same : Expression → Expression → Bool) (s : KeySheet) where
           (arranged-names (s .groups) (s .aggregates) ps
           (rw (columns-length 0 (s .groups)) at
           (positions-fit same placeholder (columnsFrom 0 (s .groups)) (s .required) ps (sym n) clean p .arrangement))) e
+
+  -- A SHEET WHOSE REQUIRED LIST LACKS THE PLACEHOLDER IS ANSWERED
+  pub key-answered : Lacks same placeholder (s .required) → (a : KeyAnswer) × (adjustInputKeysOrdering same s ≡ answered a)
+  key-answered clean = go (adjustInputKeysOrdering same s) refl
+    where
+      go : (x : Adjustment) → adjustInputKeysOrdering same s ≡ x → (a : KeyAnswer) × (adjustInputKeysOrdering same s ≡ answered a)
+      go (answered a) e = (a, e)
+      go nameNotFound e = absurd (names-found clean e)

@@ -54,7 +54,8 @@ module _ {A : Type 0} (same : A → A → Bool) where
       rw (eq .symmetric x y (and-first (same x y) (sameList same xs ys) e)) (sameList-sym eq xs ys (and-second (same x y) (sameList same xs ys) e))
 
   pub own-order-fits :
-      (gone : A) (current expected : List A) (n : ℕ) → length current ≡ n → sameList same current expected ≡ true → Fits same gone current expected (upFrom 0 n)
+      (gone : A) (current expected : List A) (n : ℕ) → length current ≡ n → sameList same current expected ≡ true →
+      Fits same gone current expected (upFrom 0 n)
   own-order-fits gone current expected n k e = record {
     arrangement = rw k (up-arranges n);
     equal = rw (up-permutes gone current 0 n (omega arith)) e;

@@ -59,7 +59,8 @@ sum-at (suc n) (suc p) f h =
 pub counted : (n : ℕ) (f : ℕ → ℕ) (ps : List ℕ) → Below n ps → weigh f ps ≡ sum n (λ k. times k ps * f k)
 counted n f [] b = sym (sum-none n (λ k. 0 * f k) (λ k h. zero-mul (f k)))
 counted n f (p ∷ ps) b =
-    let a : sum n (λ k. (one (eqb k p) + times k ps) * f k) ≡ sum n (λ k. one (eqb k p) * f k + times k ps * f k) = sum-ext n _ _ (λ k h. add-mul (one (eqb k p)) (times k ps) (f k)) in
+    let a : sum n (λ k. (one (eqb k p) + times k ps) * f k) ≡ sum n (λ k. one (eqb k p) * f k + times k ps * f k)
+    = sum-ext n _ _ (λ k h. add-mul (one (eqb k p)) (times k ps) (f k)) in
     let d : sum n (λ k. one (eqb k p) * f k + times k ps * f k) ≡ sum n (λ k. one (eqb k p) * f k) + sum n (λ k. times k ps * f k) = sum-both n _ _ in
     let e : sum n (λ k. one (eqb k p) * f k) ≡ f p = sum-at n p f (b .0) in
     let i : weigh f ps ≡ sum n (λ k. times k ps * f k) = counted n f ps (b .1) in

@@ -16,27 +16,27 @@ module _ {A : Type 0} (same : A → A → Bool) (w : List (Rule A)) where
   pub rewrite-length : (xs : List A) → length (rewrite same w xs) ≡ length xs
   rewrite-length xs = length-map xs (rewriteOne same w)
 
-module _ {A : Type 0} (same : A → A → Bool) (gone : A) (w : List (Rule A)) (r l g : List A) where
   -- the requirement is a side, both raw or both rewritten
-  abbrev pub meetsEither : Bool
-  meetsEither = meets same r l g || meets same (rewrite same w r) (rewrite same w l) (rewrite same w g)
+  abbrev pub meetsEither : List A → List A → List A → Bool
+  meetsEither r l g = meets same r l g || meets same (rewrite same w r) (rewrite same w l) (rewrite same w g)
 
+module _ {A : Type 0} (same : A → A → Bool) (gone : A) (w : List (Rule A)) (r l g : List A) where
   -- the four searches, in turn
   abbrev pub searched : Option (List ℕ)
   searched = orElse (eitherSide same gone r l g) (eitherSide same gone (rewrite same w r) (rewrite same w l) (rewrite same w g))
 
   pub data Way : Tried A → Type 0 where
     unequal : (length l ≡ length r → ⊥) → Way (movedBy gone l g none)
-    meeting : length l ≡ length r → meetsEither ≡ true → Way (met l g)
+    meeting : length l ≡ length r → meetsEither same w r l g ≡ true → Way (met l g)
     moving : length l ≡ length r → (ps : List ℕ) → searched ≡ some ps → Way (movedBy gone l g (some ps))
-    missing : length l ≡ length r → meetsEither ≡ false → searched ≡ none → Way (movedBy gone l g none)
+    missing : length l ≡ length r → meetsEither same w r l g ≡ false → searched ≡ none → Way (movedBy gone l g none)
 
   pub way : Way (tryReorder same gone w r l g)
   unfolding tryReorder
-  way = tests (eqb (length l) (length r)) refl meetsEither refl searched refl
+  way = tests (eqb (length l) (length r)) refl (meetsEither same w r l g) refl searched refl
     where
       tests :
-          (z : Bool) → eqb (length l) (length r) ≡ z → (m : Bool) → meetsEither ≡ m → (o : Option (List ℕ)) → searched ≡ o →
+          (z : Bool) → eqb (length l) (length r) ≡ z → (m : Bool) → meetsEither same w r l g ≡ m → (o : Option (List ℕ)) → searched ≡ o →
           Way (cond z (cond m (met l g) (movedBy gone l g o)) (movedBy gone l g none))
       tests false z m p o q = unequal (eqb-false (length l) (length r) z)
       tests true z true p o q = meeting (eqb-true (length l) (length r) z) p
