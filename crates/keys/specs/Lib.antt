@@ -7,3 +7,4 @@ pub mod Inputs
 pub mod Arrange
 pub mod Searched
 pub mod Answers
+pub mod Kept
