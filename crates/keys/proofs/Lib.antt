@@ -19,3 +19,4 @@ pub mod KeyGuarantee
 pub mod InputGuarantee
 pub mod Marked
 pub mod Needed
+pub mod Packed

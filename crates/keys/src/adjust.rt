@@ -14,12 +14,11 @@ ghost use Rattle.keys.specs.Adjust.{reorderAggregateKeys, aggregate, pro
 ghost use Rattle.keys.specs.Arrange.{Below};
 ghost use Rattle.keys.specs.Values.{keys, numbers, Whole, WholeNumbers, found, positionsOf};
 ghost use Rattle.keys.specs.Answers.{Directed, keySheet, WholeAdjusted, adjustedOf};
-
 use crate::expr::Expr;
 use crate::list::KeyList;
 use crate::list::NumberList;
-use crate::reorder::Positions;
 use crate::reorder::Placed;
+use crate::reorder::Positions;
 use crate::reorder::Reordered;
 
 // The numbers of a K line; `columns` is its `left`.
@@ -99,7 +98,9 @@ pub fn shift_right_required(required: &[u64], columns: u64) -> KeyList
         if crate::expr::index_of(e) < columns {
             return crate::list::no_keys();
         }
-        out.items[i] = Expr { number: e - columns };
+        out.items[i] = Expr {
+            number: e - columns,
+        };
         i += 1;
     }
     out.count = i;
@@ -159,7 +160,13 @@ fn collect_left(k: Operator, r: &[u64]) -> Adjusted
 }
 
 // The pairs and their directions in the order that the requirement asks.
-pub fn reorder_partitioned_join_keys(w: &[[u64; 2]], r: &[u64], l: &[u64], g: &[u64], s: &[u64]) -> Adjusted
+pub fn reorder_partitioned_join_keys(
+    w: &[[u64; 2]],
+    r: &[u64],
+    l: &[u64],
+    g: &[u64],
+    s: &[u64],
+) -> Adjusted
     requires { ⌜ (length (now r) ≤ 32) × (length (now l) ≤ 32) × (length (now g) ≡ length (now l)) × Directed (now s) (now l) ⌝ }
     ensures { λ x. ⌜ WholeAdjusted x × ((k : Operator) (o a m : List ℕ) (cs : List (List Expression)) → let t = keySheet k (now (r .entry)) (now (l .entry)) (now (g .entry)) (now (s .entry)) (now (w .entry)) o a m cs in adjustedOf t x ≡ reorderPartitionedJoinKeys sameExpr t) ⌝ }
 {

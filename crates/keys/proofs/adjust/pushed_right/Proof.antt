@@ -25,27 +25,26 @@ no-numbers-requires-3 : tie.Need-no-numbers-requires-3
 no-numbers-requires-3 c κs = search needs
 
 returns : tie.Need-returns
-returns c =
-    (
-      record {
-        at = c .before .before .before .no-numbers .ensures .0;
-        left = c .before .before .no-keys .ensures .0;
-        right = c .before .before .before .before .pre;
-        directions = c .before .no-numbers2 .ensures .0;
-        places = c .no-numbers3 .ensures .0;
-      },
-      λ s. adjusted-by s (record {
-        outcome = Passed;
-        cleared = false;
-        first = Kept;
-        others = Built;
-        at = c .before .before .before .no-numbers .result;
-        left = c .before .before .no-keys .result;
-        right = c .before .before .before .before .args .right;
-        directions = c .before .no-numbers2 .result;
-        places = c .no-numbers3 .result;
-      }) Passed false Kept Built [] refl refl refl refl (c .before .before .before .no-numbers .ensures .1),
-    )
+returns c = (
+  record {
+    at = c .before .before .before .no-numbers .ensures .0;
+    left = c .before .before .no-keys .ensures .0;
+    right = c .before .before .before .before .pre;
+    directions = c .before .no-numbers2 .ensures .0;
+    places = c .no-numbers3 .ensures .0;
+  },
+  λ s. adjusted-by s (record {
+    outcome = Passed;
+    cleared = false;
+    first = Kept;
+    others = Built;
+    at = c .before .before .before .no-numbers .result;
+    left = c .before .before .no-keys .result;
+    right = c .before .before .before .before .args .right;
+    directions = c .before .no-numbers2 .result;
+    places = c .no-numbers3 .result;
+  }) Passed false Kept Built [] refl refl refl refl (c .before .before .before .no-numbers .ensures .1),
+)
 
 pub pushed-right-spec : {M : Type 1} → statement M
 pushed-right-spec =

@@ -88,13 +88,12 @@ loop-again c =
     let k = s .args .required .now in
     let i = l .loop .i in
     let t = c .before .before .before .before .before .loop-test .taken in
-    let n = getD k i 0 in
-    (
+    let n = getD k i 0 in (
       search needs,
       search needs,
       l .loop .inv .2
-      ∙ shift-turn (s .args .columns) k i t (take i (map numberOf (l .loop .out .items))) (sym (c .before .before .before .kind-of .ensures) ∙ c .before .before .if1 .left) (rw (c .before .index-of .ensures) at (c .if2 .left))
-      ∙ rw (map-set numberOf (l .loop .out .items) i (record { number = n - s .args .columns }), first-pushed (map numberOf (l .loop .out .items)) i (n - s .args .columns) (rw (length-map (l .loop .out .items) numberOf) (omega (arith, t, l .loop .inv .1, s .pre)))),
+          ∙ shift-turn (s .args .columns) k i t (take i (map numberOf (l .loop .out .items))) (sym (c .before .before .before .kind-of .ensures) ∙ c .before .before .if1 .left) (rw (c .before .index-of .ensures) at (c .if2 .left))
+          ∙ rw (map-set numberOf (l .loop .out .items) i (record { number = n - s .args .columns }), first-pushed (map numberOf (l .loop .out .items)) i (n - s .args .columns) (rw (length-map (l .loop .out .items) numberOf) (omega (arith, t, l .loop .inv .1, s .pre)))),
     )
 
 returns-3 : tie.Need-returns-3 Inv-loop μ-loop
