@@ -20,3 +20,7 @@ pub mod InputGuarantee
 pub mod Marked
 pub mod Needed
 pub mod Packed
+pub mod Names
+pub mod Rules
+pub mod Placement
+pub mod Joins

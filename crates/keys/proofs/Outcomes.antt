@@ -26,7 +26,7 @@ from-start n xs = let z : n - 0 ≡ n = omega arith in rw z
 
 module _ (l g : List ℕ) (r : Reorder) where
   -- an outcome that is known
-  tried-by : (o : Reordered) → r .outcome ≡ o → (ps : List ℕ) → numbers (r .at) ≡ ps →
+  pub tried-by : (o : Reordered) → r .outcome ≡ o → (ps : List ℕ) → numbers (r .at) ≡ ps →
       triedOf l g r ≡ record { report = reportOf o; positions = ps; left = resulting o l (r .left); right = resulting o g (r .right) }
   tried-by o e ps z = λ k. record { report = reportOf (e k); positions = z k; left = resulting (e k) l (r .left); right = resulting (e k) g (r .right) }
 

@@ -311,8 +311,9 @@ fn regroup(o: &[u64], a: &[u64], at: NumberList) -> Adjusted
     let n = at.count;
     let items = at.items;
     let moved = crate::list::moved_numbers(o, &items[0..n]);
+    let count = moved.count;
     let names = moved.items;
-    let p = name_places(&names[0..n], a, o);
+    let p = name_places(&names[0..count], a, o);
     let f = p.outcome;
     let Placed::All = f else {
         return passed(Outcome::NameNotFound, false, Handed::Kept, Handed::Kept);

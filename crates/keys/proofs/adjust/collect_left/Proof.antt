@@ -1,3 +1,13 @@
+use mathlib.Core.Path.{_≡_, refl, sym, ap, _∙_}
+use mathlib.Core.Bool.{true, false}
+use mathlib.Core.List.{List, []}
+use lib.ListN.{length, length-map}
+use Rattle.keys.specs.Expressions.{sameExpr, expression, expressions}
+use Rattle.keys.specs.Answers.{keySheet}
+use Rattle.keys.specs.declared.adjust.Outcome.the-variants.{Unchanged, Passed}
+use Rattle.keys.specs.declared.adjust.Handed.the-variants.{Kept, Cleared, Required, Keys, Mapped}
+use Rattle.keys.proofs.Outcomes.{adjusted-by}
+use Rattle.keys.proofs.Rules.{collect-inner, collect-right, collect-required, collect-other}
 use borrow.Author.Needs.{needs}
 use Rattle.keys.proofs.adjust.collect_left.Statement.{statement}
 use Rattle.keys.proofs.adjust.collect_left.Tie as tie
@@ -6,53 +16,75 @@ use Rattle.keys.proofs.adjust.collect_left.Lts as lts
 use Rattle.keys.proofs.adjust.cross_join.Reads as cross-join-reads
 use Rattle.keys.proofs.adjust.passed.Reads as passed-reads
 
--- src/adjust.rt:144:9
 cross-join-requires : tie.Need-cross-join-requires
 cross-join-requires c κs = search needs
 
--- src/adjust.rt:144:9
 returns : tie.Need-returns
-returns c = ?
+returns c =
+    let s₀ = c .before .before .before .before in
+    let e = c .cross-join .ensures in
+    (e .0, λ l g s w o a m cs. e .1 l g s w o a m cs ∙ collect-inner sameExpr (keySheet (s₀ .args .k) (s₀ .args .r .now) l g s w o a m cs) (c .before .if1 .taken))
 
--- src/adjust.rt:147:9
 cross-join-requires-2 : tie.Need-cross-join-requires-2
 cross-join-requires-2 c κs = search needs
 
--- src/adjust.rt:147:9
 returns-2 : tie.Need-returns-2
-returns-2 c = ?
+returns-2 c =
+    let s₀ = c .before .before .before .before .before .before in
+    let e = c .cross-join2 .ensures in
+    (e .0, λ l g s w o a m cs. e .1 l g s w o a m cs ∙ collect-right sameExpr (keySheet (s₀ .args .k) (s₀ .args .r .now) l g s w o a m cs) (c .before .if2 .taken))
 
--- src/adjust.rt:150:9
 passed-requires : tie.Need-passed-requires
 passed-requires c κs = search needs
 
--- src/adjust.rt:150:9
 returns-3 : tie.Need-returns-3
-returns-3 c = ?
+returns-3 c =
+    let s₀ = c .before .before .before .before .before .before .before .before in
+    let e = c .passed .ensures in (
+      e .0,
+      λ l g s w o a m cs.
+          let t = keySheet (s₀ .args .k) (s₀ .args .r .now) l g s w o a m cs in
+          adjusted-by t (c .passed .result) Passed false Kept Required [] (e .1) (e .2) (e .3) (e .4) (e .5) ∙ collect-required sameExpr t 5 (c .before .if3 .taken) refl,
+    )
 
--- src/adjust.rt:153:9
 passed-requires-2 : tie.Need-passed-requires-2
 passed-requires-2 c κs = search needs
 
--- src/adjust.rt:153:9
 returns-4 : tie.Need-returns-4
-returns-4 c = ?
+returns-4 c =
+    let s₀ = c .before .before .before .before .before .before .before .before .before .before in
+    let e = c .passed2 .ensures in (
+      e .0,
+      λ l g s w o a m cs.
+          let t = keySheet (s₀ .args .k) (s₀ .args .r .now) l g s w o a m cs in
+          adjusted-by t (c .passed2 .result) Passed false Kept Required [] (e .1) (e .2) (e .3) (e .4) (e .5) ∙ collect-required sameExpr t 7 (c .before .if4 .taken) refl,
+    )
 
--- src/adjust.rt:156:9
 passed-requires-3 : tie.Need-passed-requires-3
 passed-requires-3 c κs = search needs
 
--- src/adjust.rt:156:9
 returns-5 : tie.Need-returns-5
-returns-5 c = ?
+returns-5 c =
+    let s₀ = c .before .before .before .before .before .before .before .before .before .before .before .before in
+    let e = c .passed3 .ensures in (
+      e .0,
+      λ l g s w o a m cs.
+          let t = keySheet (s₀ .args .k) (s₀ .args .r .now) l g s w o a m cs in
+          adjusted-by t (c .passed3 .result) Passed false Kept Required [] (e .1) (e .2) (e .3) (e .4) (e .5) ∙ collect-required sameExpr t 9 (c .before .if5 .taken) refl,
+    )
 
--- src/adjust.rt:158:5
 passed-requires-4 : tie.Need-passed-requires-4
 passed-requires-4 c κs = search needs
 
--- src/adjust.rt:139:1
 returns-6 : tie.Need-returns-6
-returns-6 c = ?
+returns-6 c =
+    let s₀ = c .before .before .before .before .before .before .before .before .before .before .before .before in
+    let e = c .passed4 .ensures in (
+      e .0,
+      λ l g s w o a m cs.
+          let t = keySheet (s₀ .args .k) (s₀ .args .r .now) l g s w o a m cs in
+          adjusted-by t (c .passed4 .result) Passed false Kept Cleared [] (e .1) (e .2) (e .3) (e .4) (e .5) ∙ collect-other sameExpr t (c .before .before .before .before .before .before .before .before .before .if1 .left) (c .before .before .before .before .before .before .before .if2 .left) (c .before .before .before .before .before .if3 .left) (c .before .before .before .if4 .left) (c .before .if5 .left),
+    )
 
 pub collect-left-spec : {M : Type 1} → statement M
 collect-left-spec =

@@ -1,3 +1,8 @@
+use mathlib.Core.Path.{_≡_, ap, _∙_}
+use mathlib.Core.List.{List}
+use Rattle.keys.specs.Expressions.{Expression}
+use Rattle.keys.specs.Adjust.{passed, kept, given}
+use Rattle.keys.specs.Answers.{keySheet}
 use borrow.Author.Needs.{needs}
 use Rattle.keys.proofs.adjust.cross_join.Statement.{statement}
 use Rattle.keys.proofs.adjust.cross_join.Tie as tie
@@ -6,17 +11,20 @@ use Rattle.keys.proofs.adjust.cross_join.Lts as lts
 use Rattle.keys.proofs.adjust.pushed_right.Reads as pushed-right-reads
 use Rattle.keys.proofs.adjust.shift_right_required.Reads as shift-right-required-reads
 
--- src/adjust.rt:135:9
 shift-right-required-requires : tie.Need-shift-right-required-requires
 shift-right-required-requires c κs = search needs
 
--- src/adjust.rt:136:5
 pushed-right-requires : tie.Need-pushed-right-requires
 pushed-right-requires c κs = search needs
 
--- src/adjust.rt:131:1
 returns : tie.Need-returns
-returns c = ?
+returns c =
+    let v = c .before .shift-right-required .ensures in (
+      c .pushed-right .ensures .0,
+      λ l g s w o a m cs.
+          let t = keySheet (c .before .before .before .args .k) (c .before .before .before .args .r .now) l g s w o a m cs in
+          c .pushed-right .ensures .1 t ∙ ap (λ (xs : List Expression). passed t 1 (t .required) kept (given xs)) (v .1),
+    )
 
 pub cross-join-spec : {M : Type 1} → statement M
 cross-join-spec = tie.close (tie.spec shift-right-required-requires pushed-right-requires returns)

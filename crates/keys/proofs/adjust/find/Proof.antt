@@ -1,45 +1,54 @@
+use mathlib.Core.Path.{_≡_, sym, _∙_}
+use Prim.Native.Nat.{ℕ, _≤_, _-_}
+use borrow.Author.Tests.{eq-eqb, ne-eqb}
+use lib.Dec.{eqb}
+use lib.ListN.{length, drop}
+use Rattle.keys.specs.Lists.{placeOf}
+use Rattle.keys.proofs.Lists.{from, place-starts, place-here, place-later, place-nowhere}
+use borrow.Author.Needs.{needs}
 use Rattle.keys.proofs.adjust.find.Statement.{statement}
 use Rattle.keys.proofs.adjust.find.Tie as tie
 use Rattle.keys.proofs.adjust.find.Reads as reads
 use Rattle.keys.proofs.adjust.find.Lts as lts
 
 abbrev Inv-loop : tie.InvT-loop
-Inv-loop all x i₀ i = ?
+Inv-loop all x i₀ i = (i ≤ length all) × (placeOf eqb x all ≡ from i (placeOf eqb x (drop i all)))
 
 abbrev μ-loop : tie.MeasureT-loop
-μ-loop all x i₀ i = ?
+μ-loop all x i₀ i = length all - i
 
--- src/adjust.rt:231:5
 loop-holds : tie.Need-loop-holds Inv-loop μ-loop
-loop-holds c = ?
+loop-holds c = (search needs, place-starts eqb (c .args .x) (c .args .all .now))
 
--- src/adjust.rt:232:12
 mul-if1 : tie.Need-mul-if1 Inv-loop μ-loop
-mul-if1 c = ?
+mul-if1 c = search needs
 
--- src/adjust.rt:232:12
 shared-slice-read-if1 : tie.Need-shared-slice-read-if1 Inv-loop μ-loop
-shared-slice-read-if1 c = ?
+shared-slice-read-if1 c = search needs
 
--- src/adjust.rt:233:13
 returns : tie.Need-returns Inv-loop μ-loop
-returns c = ?
+returns c =
+    let l = c .before .before .before in
+    let s = l .before in
+    sym (l .loop .inv .1 ∙ place-here eqb (s .args .x) (s .args .all .now) (l .loop .i) 0 (c .before .before .loop-test .taken) (eq-eqb _ _ (c .if1 .taken)))
 
--- src/adjust.rt:235:9
 add-i : tie.Need-add-i Inv-loop μ-loop
-add-i c = ?
+add-i c = search needs
 
--- src/adjust.rt:231:5
 loop-less : tie.Need-loop-less Inv-loop μ-loop
-loop-less c = ?
+loop-less c = search needs
 
--- src/adjust.rt:231:5
 loop-again : tie.Need-loop-again Inv-loop μ-loop
-loop-again c = ?
+loop-again c =
+    let l = c .before .before .before in
+    let s = l .before in
+    (search needs, l .loop .inv .1 ∙ place-later eqb (s .args .x) (s .args .all .now) (l .loop .i) 0 (c .before .before .loop-test .taken) (ne-eqb _ _ (c .if1 .left)))
 
--- src/adjust.rt:227:1
 returns-2 : tie.Need-returns-2 Inv-loop μ-loop
-returns-2 c = ?
+returns-2 c =
+    let l = c .before in
+    let s = l .before in
+    sym (l .loop .inv .1 ∙ place-nowhere eqb (s .args .x) (s .args .all .now) (l .loop .i) (c .loop-test .left))
 
 pub find-spec : {M : Type 1} → statement M
 find-spec =

@@ -1,3 +1,13 @@
+use mathlib.Core.Path.{_≡_, refl, sym, ap, _∙_}
+use mathlib.Core.Bool.{true, false}
+use mathlib.Core.List.{List, []}
+use lib.ListN.{length, length-map}
+use Rattle.keys.specs.Expressions.{sameExpr, expression, expressions}
+use Rattle.keys.specs.Answers.{keySheet}
+use Rattle.keys.specs.declared.adjust.Outcome.the-variants.{Unchanged, Passed}
+use Rattle.keys.specs.declared.adjust.Handed.the-variants.{Kept, Cleared, Required, Keys, Mapped}
+use Rattle.keys.proofs.Outcomes.{adjusted-by}
+use Rattle.keys.proofs.Rules.{hash-partitioned, hash-collect, hash-auto}
 use borrow.Author.Needs.{needs}
 use Rattle.keys.proofs.adjust.hash_join.Statement.{statement}
 use Rattle.keys.proofs.adjust.hash_join.Tie as tie
@@ -7,29 +17,36 @@ use Rattle.keys.proofs.adjust.collect_left.Reads as collect-left-reads
 use Rattle.keys.proofs.adjust.passed.Reads as passed-reads
 use Rattle.keys.proofs.adjust.reorder_partitioned_join_keys.Reads as reorder-partitioned-join-keys-reads
 
--- src/adjust.rt:196:9
 reorder-partitioned-join-keys-requires : tie.Need-reorder-partitioned-join-keys-requires
 reorder-partitioned-join-keys-requires c κs = search needs
 
--- src/adjust.rt:196:9
 returns : tie.Need-returns
-returns c = ?
+returns c =
+    let s₀ = c .before .before .before .before .before .before .before in
+    let e = c .reorder-partitioned-join-keys .ensures in
+    (e .0, λ o a m cs. e .1 (s₀ .args .k) o a m cs ∙ hash-partitioned sameExpr (keySheet (s₀ .args .k) (s₀ .args .r .now) (s₀ .args .l .now) (s₀ .args .g .now) (s₀ .args .s .now) (s₀ .args .w .now) o a m cs) (c .before .if1 .taken))
 
--- src/adjust.rt:199:9
 collect-left-requires : tie.Need-collect-left-requires
 collect-left-requires c κs = search needs
 
--- src/adjust.rt:199:9
 returns-2 : tie.Need-returns-2
-returns-2 c = ?
+returns-2 c =
+    let s₀ = c .before .before .before .before .before .before .before .before .before in
+    let e = c .collect-left .ensures in
+    (e .0, λ o a m cs. e .1 (s₀ .args .l .now) (s₀ .args .g .now) (s₀ .args .s .now) (s₀ .args .w .now) o a m cs ∙ hash-collect sameExpr (keySheet (s₀ .args .k) (s₀ .args .r .now) (s₀ .args .l .now) (s₀ .args .g .now) (s₀ .args .s .now) (s₀ .args .w .now) o a m cs) (c .before .if2 .taken))
 
--- src/adjust.rt:201:5
 passed-requires : tie.Need-passed-requires
 passed-requires c κs = search needs
 
--- src/adjust.rt:191:1
 returns-3 : tie.Need-returns-3
-returns-3 c = ?
+returns-3 c =
+    let s₀ = c .before .before .before .before .before .before .before .before .before in
+    let e = c .passed .ensures in (
+      e .0,
+      λ o a m cs.
+          let t = keySheet (s₀ .args .k) (s₀ .args .r .now) (s₀ .args .l .now) (s₀ .args .g .now) (s₀ .args .s .now) (s₀ .args .w .now) o a m cs in
+          adjusted-by t (c .passed .result) Passed true Kept Kept [] (e .1) (e .2) (e .3) (e .4) (e .5) ∙ hash-auto sameExpr t (c .before .before .before .if1 .left) (c .before .if2 .left),
+    )
 
 pub hash-join-spec : {M : Type 1} → statement M
 hash-join-spec =

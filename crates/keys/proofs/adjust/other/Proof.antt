@@ -1,3 +1,13 @@
+use mathlib.Core.Path.{_≡_, refl, sym, ap, _∙_}
+use mathlib.Core.Bool.{true, false}
+use mathlib.Core.List.{List, []}
+use lib.ListN.{length, length-map}
+use Rattle.keys.specs.Expressions.{sameExpr, expression, expressions}
+use Rattle.keys.specs.Answers.{keySheet}
+use Rattle.keys.specs.declared.adjust.Outcome.the-variants.{Unchanged, Passed}
+use Rattle.keys.specs.declared.adjust.Handed.the-variants.{Kept, Cleared, Required, Keys, Mapped}
+use Rattle.keys.proofs.Outcomes.{adjusted-by}
+use Rattle.keys.proofs.Rules.{other-unchanged, other-pushed}
 use borrow.Author.Needs.{needs}
 use Rattle.keys.proofs.adjust.other.Statement.{statement}
 use Rattle.keys.proofs.adjust.other.Tie as tie
@@ -5,21 +15,31 @@ use Rattle.keys.proofs.adjust.other.Reads as reads
 use Rattle.keys.proofs.adjust.other.Lts as lts
 use Rattle.keys.proofs.adjust.passed.Reads as passed-reads
 
--- src/adjust.rt:377:9
 passed-requires : tie.Need-passed-requires
 passed-requires c κs = search needs
 
--- src/adjust.rt:377:9
 returns : tie.Need-returns
-returns c = ?
+returns c =
+    let s₀ = c .before .before .before in
+    let e = c .passed .ensures in (
+      e .0,
+      λ k l g s w o a m cs.
+          let t = keySheet k (s₀ .args .r .now) l g s w o a m cs in
+          adjusted-by t (c .passed .result) Unchanged false Kept Kept [] (e .1) (e .2) (e .3) (e .4) (e .5) ∙ other-unchanged sameExpr t (length-map (s₀ .args .r .now) expression ∙ c .before .if1 .taken),
+    )
 
--- src/adjust.rt:379:5
 passed-requires-2 : tie.Need-passed-requires-2
 passed-requires-2 c κs = search needs
 
--- src/adjust.rt:373:1
 returns-2 : tie.Need-returns-2
-returns-2 c = ?
+returns-2 c =
+    let s₀ = c .before .before .before in
+    let e = c .passed2 .ensures in (
+      e .0,
+      λ k l g s w o a m cs.
+          let t = keySheet k (s₀ .args .r .now) l g s w o a m cs in
+          adjusted-by t (c .passed2 .result) Passed false Required Required [] (e .1) (e .2) (e .3) (e .4) (e .5) ∙ other-pushed sameExpr t (λ z. c .before .if1 .left (sym (length-map (s₀ .args .r .now) expression) ∙ z)),
+    )
 
 pub other-spec : {M : Type 1} → statement M
 other-spec = tie.close (tie.spec passed-requires returns passed-requires-2 returns-2)

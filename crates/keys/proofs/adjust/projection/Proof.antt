@@ -1,3 +1,13 @@
+use mathlib.Core.Path.{_≡_, refl, sym, ap, _∙_}
+use mathlib.Core.Bool.{true, false}
+use mathlib.Core.List.{List, []}
+use lib.ListN.{length, length-map}
+use Rattle.keys.specs.Expressions.{sameExpr, expression, expressions}
+use Rattle.keys.specs.Answers.{keySheet}
+use Rattle.keys.specs.declared.adjust.Outcome.the-variants.{Unchanged, Passed}
+use Rattle.keys.specs.declared.adjust.Handed.the-variants.{Kept, Cleared, Required, Keys, Mapped}
+use Rattle.keys.proofs.Outcomes.{adjusted-by}
+use Rattle.keys.proofs.Rules.{projection-mapped, projection-cleared}
 use borrow.Author.Needs.{needs}
 use Rattle.keys.proofs.adjust.projection.Statement.{statement}
 use Rattle.keys.proofs.adjust.projection.Tie as tie
@@ -5,21 +15,31 @@ use Rattle.keys.proofs.adjust.projection.Reads as reads
 use Rattle.keys.proofs.adjust.projection.Lts as lts
 use Rattle.keys.proofs.adjust.passed.Reads as passed-reads
 
--- src/adjust.rt:368:9
 passed-requires : tie.Need-passed-requires
 passed-requires c κs = search needs
 
--- src/adjust.rt:368:9
 returns : tie.Need-returns
-returns c = ?
+returns c =
+    let s₀ = c .before .before .before .before in
+    let e = c .passed .ensures in (
+      e .0,
+      λ k l g s w o a cs.
+          let t = keySheet k (s₀ .args .r .now) l g s w o a (s₀ .args .m .now) cs in
+          adjusted-by t (c .passed .result) Passed false Mapped Kept [] (e .1) (e .2) (e .3) (e .4) (e .5) ∙ projection-mapped sameExpr t (length-map (s₀ .args .m .now) expression ∙ c .before .if1 .taken ∙ sym (length-map (s₀ .args .r .now) expression)),
+    )
 
--- src/adjust.rt:370:5
 passed-requires-2 : tie.Need-passed-requires-2
 passed-requires-2 c κs = search needs
 
--- src/adjust.rt:364:1
 returns-2 : tie.Need-returns-2
-returns-2 c = ?
+returns-2 c =
+    let s₀ = c .before .before .before .before in
+    let e = c .passed2 .ensures in (
+      e .0,
+      λ k l g s w o a cs.
+          let t = keySheet k (s₀ .args .r .now) l g s w o a (s₀ .args .m .now) cs in
+          adjusted-by t (c .passed2 .result) Passed true Kept Kept [] (e .1) (e .2) (e .3) (e .4) (e .5) ∙ projection-cleared sameExpr t (λ z. c .before .if1 .left (sym (length-map (s₀ .args .m .now) expression) ∙ z ∙ length-map (s₀ .args .r .now) expression)),
+    )
 
 pub projection-spec : {M : Type 1} → statement M
 projection-spec = tie.close (tie.spec passed-requires returns passed-requires-2 returns-2)
