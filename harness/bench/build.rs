@@ -2,7 +2,8 @@
 use std::{env, path::PathBuf};
 
 fn main() {
-    let folder = PathBuf::from(env::var("CARGO_MANIFEST_DIR").unwrap()).join("../../target/staticlib");
+    let folder =
+        PathBuf::from(env::var("CARGO_MANIFEST_DIR").unwrap()).join("../../target/staticlib");
     let archive = folder.join("libbench.a");
     println!("cargo:rerun-if-changed={}", archive.display());
     if !archive.exists() {

@@ -1,7 +1,7 @@
 //! Common plain Rust: `split(',')` and `parse` for reading, `write!` and `format!` for writing.
 
-use crate::proved::Line;
-use crate::tight::WRONG;
+use crate::proved::Found;
+use crate::tight::NONE;
 use std::borrow::Cow;
 use std::io::Write;
 
@@ -20,7 +20,7 @@ fn field(text: &str) -> [u64; 2] {
 }
 
 #[inline(never)]
-pub fn line_at(s: &[u8], at: usize, letter: u8, out: &mut [[u64; 2]]) -> Line {
+pub fn line_at(s: &[u8], at: usize, letter: u8, out: &mut [[u64; 2]]) -> Found {
     let rest = s.get(at..).unwrap_or(&[]);
     let end = rest.iter().position(|b| *b == b'\n');
     let bytes = &rest[..end.unwrap_or(rest.len())];
@@ -30,21 +30,29 @@ pub fn line_at(s: &[u8], at: usize, letter: u8, out: &mut [[u64; 2]]) -> Line {
     };
     let mut parts = text.split(',');
     if parts.next().map(str::as_bytes) != Some(&[letter]) {
-        return WRONG;
+        return NONE;
     }
-    let mut line = Line { next: 0, count: 0, worst: 0, top: 0 };
+    let mut found = Found {
+        next: 0,
+        count: 0,
+        worst: 0,
+        largest: 0,
+    };
     for part in parts {
         let row = field(part);
-        if let Some(place) = out.get_mut(line.count as usize) {
+        if let Some(place) = out.get_mut(found.count as usize) {
             *place = row;
         }
-        line.count += 1;
-        line.worst = line.worst.max(row[0]);
-        line.top = line.top.max(row[1]);
+        found.count += 1;
+        found.worst = found.worst.max(row[0]);
+        found.largest = found.largest.max(row[1]);
     }
     match end {
-        Some(end) => Line { next: (at + end + 1) as u64, ..line },
-        None => WRONG,
+        Some(end) => Found {
+            next: (at + end + 1) as u64,
+            ..found
+        },
+        None => NONE,
     }
 }
 
@@ -77,7 +85,11 @@ pub fn put_line_write(out: &mut [u8], at: usize, letter: u8, rows: &[[u64; 2]]) 
 pub fn put_line_format(out: &mut [u8], at: usize, letter: u8, rows: &[[u64; 2]]) -> u64 {
     let mut line = String::from(letter as char);
     for [state, value] in rows {
-        line += &if *state == 0 { format!(",{value}") } else { ",".to_string() };
+        line += &if *state == 0 {
+            format!(",{value}")
+        } else {
+            ",".to_string()
+        };
     }
     line.push('\n');
     match out.get_mut(at..).and_then(|out| out.get_mut(..line.len())) {

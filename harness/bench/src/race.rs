@@ -33,14 +33,23 @@ pub struct Table {
 
 impl Table {
     pub fn new() -> Table {
-        Table { columns: vec![], names: vec![], figures: vec![] }
+        Table {
+            columns: vec![],
+            names: vec![],
+            figures: vec![],
+        }
     }
 
     /// Races the sides, and divides their times by `units` (bytes, or calls).
     pub fn column(&mut self, name: &'static str, units: usize, mut sides: Vec<Side>) {
         self.columns.push(name);
         self.names = sides.iter().map(|side| side.name).collect();
-        self.figures.push(best(&mut sides).iter().map(|ns| ns / units as f64).collect());
+        self.figures.push(
+            best(&mut sides)
+                .iter()
+                .map(|ns| ns / units as f64)
+                .collect(),
+        );
     }
 
     pub fn print(&self, title: &str) {

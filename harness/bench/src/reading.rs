@@ -1,22 +1,29 @@
 //! The proved line reader beside plain Rust.
 
-use crate::proved::Line;
+use crate::proved::Found;
 use crate::race::{Side, Table};
 use crate::texts::{lines, random_text, text, Random, Sort, LINES};
 use crate::{common, proved, tight};
 
-type LineAt = fn(&[u8], usize, u8, &mut [[u64; 2]]) -> Line;
+type LineAt = fn(&[u8], usize, u8, &mut [[u64; 2]]) -> Found;
 
 const ROOM: usize = 64;
 
 /// Compares answers and stored rows on random texts, into rooms of random size.
 pub fn compare(random: &mut Random, texts: usize) -> Result<(), String> {
-    let sides: [(&str, LineAt); 2] = [("tight", tight::line_at), ("split and parse", common::line_at)];
+    let sides: [(&str, LineAt); 2] = [
+        ("tight", tight::line_at),
+        ("split and parse", common::line_at),
+    ];
     let mut s = Vec::new();
     let mut whole = 0;
     for _ in 0..texts {
         let at = random_text(random, &mut s);
-        let room = if random.below(4) == 0 { random.below(4) } else { 16 };
+        let room = if random.below(4) == 0 {
+            random.below(4)
+        } else {
+            16
+        };
         let mut rows = [[7, 7]; 16];
         let answer = proved::line_at(&s, at, b'K', &mut rows[..room]);
         whole += (answer.next != 0) as usize;
@@ -44,7 +51,7 @@ fn side<'a>(name: &'static str, line_at: LineAt, s: &'a [u8]) -> Side<'a> {
             let mut sum = 0;
             while at < s.len() {
                 let line = line_at(s, at, s[at], &mut rows);
-                sum += line.count + line.worst + line.top % 16 + rows[0][1] % 16;
+                sum += line.count + line.worst + line.largest % 16 + rows[0][1] % 16;
                 at = line.next as usize;
             }
             sum

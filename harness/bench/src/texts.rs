@@ -111,8 +111,22 @@ pub fn random_rows(random: &mut Random, most: usize) -> Vec<[u64; 2]> {
 }
 
 const PIECES: [&[u8]; 16] = [
-    b",", b"\n", b"0", b"1", b"9", b"-", b"+", b" ", b"K", b"\r", b"\0", b"\xff", b",,", b"00",
-    b"18446744073709551615", b"18446744073709551616",
+    b",",
+    b"\n",
+    b"0",
+    b"1",
+    b"9",
+    b"-",
+    b"+",
+    b" ",
+    b"K",
+    b"\r",
+    b"\0",
+    b"\xff",
+    b",,",
+    b"00",
+    b"18446744073709551615",
+    b"18446744073709551616",
 ];
 
 /// A text and a place in it: lines of letter K, whole, damaged, or a heap of pieces.
@@ -150,7 +164,10 @@ pub fn random_text(random: &mut Random, text_out: &mut Vec<u8>) -> usize {
     }
     match random.below(8) {
         0 => random.below(text_out.len() + 3),
-        1 => text_out.iter().position(|b| *b == b'\n').map_or(0, |k| k + 1),
+        1 => text_out
+            .iter()
+            .position(|b| *b == b'\n')
+            .map_or(0, |k| k + 1),
         _ => 0,
     }
 }

@@ -1,9 +1,14 @@
 //! Tight plain Rust: one pass, field by field, a digit and a comma first, rows of state and value,
 //! no allocation, 64-bit overflow checked.
 
-use crate::proved::Line;
+use crate::proved::Found;
 
-pub const WRONG: Line = Line { next: 0, count: 0, worst: 0, top: 0 };
+pub const NONE: Found = Found {
+    next: 0,
+    count: 0,
+    worst: 0,
+    largest: 0,
+};
 
 const TENTH: u64 = u64::MAX / 10;
 
@@ -49,24 +54,29 @@ fn malformed_at(s: &[u8], at: usize) -> (usize, u64, u64) {
 
 /// The line of a letter that begins at `at`; its fields go into as much room as there is.
 #[inline(never)]
-pub fn line_at(s: &[u8], at: usize, letter: u8, out: &mut [[u64; 2]]) -> Line {
+pub fn line_at(s: &[u8], at: usize, letter: u8, out: &mut [[u64; 2]]) -> Found {
     if at >= s.len() || s[at] == b'\n' || s[at] != letter {
-        return WRONG;
+        return NONE;
     }
     let after = at + 1;
     if after >= s.len() {
-        return WRONG;
+        return NONE;
     }
     if s[after] == b'\n' {
-        return Line { next: after as u64 + 1, count: 0, worst: 0, top: 0 };
+        return Found {
+            next: after as u64 + 1,
+            count: 0,
+            worst: 0,
+            largest: 0,
+        };
     }
     if s[after] != b',' {
-        return WRONG;
+        return NONE;
     }
     let mut i = after + 1;
     let mut count = 0;
     let mut worst = 0;
-    let mut top = 0;
+    let mut largest = 0;
     loop {
         if i + 1 < s.len() && s[i + 1] == b',' {
             let d = s[i].wrapping_sub(b'0') as u64;
@@ -74,7 +84,7 @@ pub fn line_at(s: &[u8], at: usize, letter: u8, out: &mut [[u64; 2]]) -> Line {
                 if count < out.len() {
                     out[count] = [0, d];
                 }
-                top = u64::max(top, d);
+                largest = u64::max(largest, d);
                 count += 1;
                 i += 2;
                 continue;
@@ -85,13 +95,18 @@ pub fn line_at(s: &[u8], at: usize, letter: u8, out: &mut [[u64; 2]]) -> Line {
             out[count] = [state, value];
         }
         worst = u64::max(worst, state);
-        top = u64::max(top, value);
+        largest = u64::max(largest, value);
         count += 1;
         if end >= s.len() {
-            return WRONG;
+            return NONE;
         }
         if s[end] == b'\n' {
-            return Line { next: end as u64 + 1, count: count as u64, worst, top };
+            return Found {
+                next: end as u64 + 1,
+                count: count as u64,
+                worst,
+                largest,
+            };
         }
         i = end + 1;
     }
@@ -114,16 +129,9 @@ fn line_length(rows: &[[u64; 2]]) -> usize {
     n
 }
 
-/// Writes a letter, the rows' fields and LF at `at`. The place after them, or 0 where there is no room.
-#[inline(never)]
-pub fn put_line(out: &mut [u8], at: usize, letter: u8, rows: &[[u64; 2]]) -> u64 {
-    let Some(out) = out.get_mut(at..) else {
-        return 0;
-    };
-    // No field has over 20 digits, so most lines need no exact length.
-    if out.len() < 2 + 21 * rows.len() && out.len() < line_length(rows) {
-        return 0;
-    }
+/// Writes a letter, the rows' fields and LF at the front of `out`, where there is room. How many bytes.
+#[inline(always)]
+fn filled(out: &mut [u8], letter: u8, rows: &[[u64; 2]]) -> usize {
     out[0] = letter;
     let mut p = 1;
     for [state, value] in rows {
@@ -146,5 +154,30 @@ pub fn put_line(out: &mut [u8], at: usize, letter: u8, rows: &[[u64; 2]]) -> u64
         p = end;
     }
     out[p] = b'\n';
-    (at + p + 1) as u64
+    p + 1
+}
+
+/// Writes a line at `at`. The place after it, or 0 where there is no room.
+#[inline(never)]
+pub fn put_line(out: &mut [u8], at: usize, letter: u8, rows: &[[u64; 2]]) -> u64 {
+    let Some(out) = out.get_mut(at..) else {
+        return 0;
+    };
+    // No field has over 20 digits, so most lines need no exact length.
+    if out.len() < 2 + 21 * rows.len() && out.len() < line_length(rows) {
+        return 0;
+    }
+    (at + filled(out, letter, rows)) as u64
+}
+
+/// The same, with the exact length taken of every line, as the proved one does.
+#[inline(never)]
+pub fn put_line_exact(out: &mut [u8], at: usize, letter: u8, rows: &[[u64; 2]]) -> u64 {
+    let Some(out) = out.get_mut(at..) else {
+        return 0;
+    };
+    if out.len() < line_length(rows) {
+        return 0;
+    }
+    (at + filled(out, letter, rows)) as u64
 }

@@ -8,8 +8,9 @@ type PutLine = fn(&mut [u8], usize, u8, &[[u64; 2]]) -> u64;
 
 /// Compares answers and bytes on random rows, with room and without.
 pub fn compare(random: &mut Random, texts: usize) -> Result<(), String> {
-    let sides: [(&str, PutLine); 3] = [
+    let sides: [(&str, PutLine); 4] = [
         ("tight", tight::put_line),
+        ("tight, exact length", tight::put_line_exact),
         ("write!", common::put_line_write),
         ("format!", common::put_line_format),
     ];
@@ -17,7 +18,11 @@ pub fn compare(random: &mut Random, texts: usize) -> Result<(), String> {
     for _ in 0..texts {
         let rows = random_rows(random, 9);
         let at = random.below(6);
-        let room = if random.below(2) == 0 { 256 } else { random.below(100) };
+        let room = if random.below(2) == 0 {
+            256
+        } else {
+            random.below(100)
+        };
         let mut out = [7u8; 256];
         let answer = proved::put_line(&mut out[..room], at, b'K', &rows);
         whole += (answer != 0) as usize;
@@ -62,7 +67,18 @@ pub fn race(random: &mut Random) {
             bytes,
             vec![
                 side("tight plain Rust", tight::put_line, &work, room),
-                side("proved, `put_line`", proved::put_line, &work, room),
+                side(
+                    "the same, exact length first",
+                    tight::put_line_exact,
+                    &work,
+                    room,
+                ),
+                side(
+                    "proved, `line_length` and `put_line`",
+                    proved::put_line,
+                    &work,
+                    room,
+                ),
                 side("`write!`", common::put_line_write, &work, room),
                 side("`format!`", common::put_line_format, &work, room),
             ],
