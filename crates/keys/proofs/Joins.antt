@@ -22,10 +22,10 @@ use Rattle.keys.specs.declared.reorder.Reordered.{Reordered}
 use Rattle.keys.specs.declared.reorder.Reordered.the-variants.{Met, Moved, Impossible}
 use Rattle.keys.specs.declared.reorder.Reorder.{Reorder}
 use Rattle.keys.specs.declared.list.NumberList.{NumberList}
-use Rattle.keys.specs.declared.adjust.Operator.{Operator}
-use Rattle.keys.specs.declared.adjust.Outcome.the-variants as O
-use Rattle.keys.specs.declared.adjust.Handed.the-variants.{Keys, Built}
-use Rattle.keys.specs.declared.adjust.Adjusted.{Adjusted}
+use Rattle.keys.specs.declared.answer.Operator.{Operator}
+use Rattle.keys.specs.declared.answer.Outcome.the-variants as O
+use Rattle.keys.specs.declared.answer.Handed.the-variants.{Keys, Built}
+use Rattle.keys.specs.declared.answer.Adjusted.{Adjusted}
 use Rattle.keys.proofs.reorder.Reordered as R
 use Rattle.keys.proofs.Placement.{tried-stood, tried-below, tried-long}
 use Rattle.keys.proofs.Packed.{mapTried, try-expressions}

@@ -12,9 +12,9 @@ use Rattle.keys.specs.Reorder.{Tried, met, movedBy}
 use Rattle.keys.specs.Expressions.{goneNumber}
 use Rattle.keys.specs.Adjust.{KeySheet, KeyAnswer, handOver, placedNames, namesFrom}
 use Rattle.keys.specs.Answers.{handed, changedBy, reportedBy, movedOr, projectedBy, adjustedBy, adjustedOf}
-use Rattle.keys.specs.declared.adjust.Outcome.{Outcome}
-use Rattle.keys.specs.declared.adjust.Handed.{Handed}
-use Rattle.keys.specs.declared.adjust.Adjusted.{Adjusted}
+use Rattle.keys.specs.declared.answer.Outcome.{Outcome}
+use Rattle.keys.specs.declared.answer.Handed.{Handed}
+use Rattle.keys.specs.declared.answer.Adjusted.{Adjusted}
 use Rattle.keys.specs.Values.{keys, packedKeys, numbers, reportOf, resulting, triedOf}
 use Rattle.keys.specs.declared.reorder.Reordered.{Reordered}
 use Rattle.keys.specs.declared.reorder.Reordered.the-variants.{Met, Moved, Impossible}

@@ -11,12 +11,12 @@ use Rattle.keys.specs.Values.{keys, numbers, Whole, WholeNumbers, report
 use Rattle.keys.specs.declared.reorder.Reordered.{Reordered}
 use Rattle.keys.specs.declared.reorder.Reordered.the-variants.{Met, Moved, Impossible}
 use Rattle.keys.specs.declared.list.KeyList.{KeyList}
-use Rattle.keys.specs.declared.adjust.Operator.{Operator}
-use Rattle.keys.specs.declared.adjust.Handed.{Handed}
-use Rattle.keys.specs.declared.adjust.Handed.the-variants.{Kept, Cleared, Required, Keys, Built, Mapped}
-use Rattle.keys.specs.declared.adjust.Outcome.{Outcome}
-use Rattle.keys.specs.declared.adjust.Outcome.the-variants.{Unchanged, Passed, Tried, Regrouped, NameNotFound}
-use Rattle.keys.specs.declared.adjust.Adjusted.{Adjusted}
+use Rattle.keys.specs.declared.answer.Operator.{Operator}
+use Rattle.keys.specs.declared.answer.Handed.{Handed}
+use Rattle.keys.specs.declared.answer.Handed.the-variants.{Kept, Cleared, Required, Keys, Built, Mapped}
+use Rattle.keys.specs.declared.answer.Outcome.{Outcome}
+use Rattle.keys.specs.declared.answer.Outcome.the-variants.{Unchanged, Passed, Tried, Regrouped, NameNotFound}
+use Rattle.keys.specs.declared.answer.Adjusted.{Adjusted}
 
 -- the sheet that lent lists and the K line's numbers make, with the children's lists
 abbrev pub keySheet :

@@ -12,8 +12,8 @@ use Rattle.keys.specs.declared.list.NumberList.{NumberList}
 use Rattle.keys.specs.declared.reorder.Placed.{Placed}
 use Rattle.keys.specs.declared.reorder.Placed.the-variants.{All, Missing}
 use Rattle.keys.specs.declared.reorder.Positions.{Positions}
-use Rattle.keys.specs.declared.adjust.Found.{Found}
-use Rattle.keys.specs.declared.adjust.Found.the-variants.{At, Nowhere}
+use Rattle.keys.specs.declared.aggregate.Found.{Found}
+use Rattle.keys.specs.declared.aggregate.Found.the-variants.{At, Nowhere}
 use Rattle.keys.specs.declared.reorder.Reordered.{Reordered}
 use Rattle.keys.specs.declared.reorder.Reordered.the-variants.{Met, Moved, Impossible}
 use Rattle.keys.specs.declared.reorder.Reorder.{Reorder}

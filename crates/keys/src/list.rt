@@ -53,6 +53,12 @@ pub fn key_list(keys: &[u64]) -> KeyList
     out
 }
 
+pub fn wide(p: usize) -> u64
+    ensures { λ r. ⌜ r ≡ p ⌝ }
+{
+    p as u64
+}
+
 fn place(p: u64) -> usize
     ensures { λ r. ⌜ r ≡ p ⌝ }
 {

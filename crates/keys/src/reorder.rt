@@ -45,12 +45,6 @@ pub fn same_keys(a: &[u64], b: &[u64]) -> bool
     true
 }
 
-fn wide(p: usize) -> u64
-    ensures { λ r. ⌜ r ≡ p ⌝ }
-{
-    p as u64
-}
-
 // Each expected key takes its leftmost place among the current ones, which then becomes the placeholder.
 fn take_places(current: &[u64], expected: &[u64]) -> Positions
     requires { ⌜ (length (now current) ≤ 32) × (length (now expected) ≤ 32) ⌝ }
@@ -70,7 +64,7 @@ fn take_places(current: &[u64], expected: &[u64]) -> Positions
         let e = left.items[p];
         if e.number == expected[i] {
             left.items[p] = Expr { number: GONE };
-            at.items[i] = wide(p);
+            at.items[i] = crate::list::wide(p);
             i += 1;
             p = 0;
             continue;
@@ -245,8 +239,8 @@ pub fn try_reorder(w: &[[u64; 2]], r: &[u64], l: &[u64], g: &[u64]) -> Reorder
         return unmoved(Reordered::Met);
     }
     if w.len() == 0 {
-        let p = either_side(r, l, g);
-        return moved_by(l, g, p);
+        let raw = either_side(r, l, g);
+        return moved_by(l, g, raw);
     }
     try_rewritten(w, r, l, g)
 }

@@ -1,25 +1,18 @@
+-- `keys::adjust::adjust_input_keys_ordering` meets its contract. One law of `adjustInputKeysOrdering` for each op (`Rules`).
+-- Assumes nothing.
 use mathlib.Core.Path.{_≡_, refl, sym, ap, _∙_}
 use mathlib.Core.Bool.{true, false}
 use mathlib.Core.List.{List, []}
 use lib.ListN.{length, length-map}
 use Rattle.keys.specs.Expressions.{Expression, sameExpr, placeholder, goneNumber, expression, expressions}
 use Rattle.keys.specs.Answers.{keySheet}
-use Rattle.keys.specs.declared.adjust.Outcome.the-variants.{Unchanged, Passed}
-use Rattle.keys.specs.declared.adjust.Handed.the-variants.{Kept}
+use Rattle.keys.specs.declared.answer.Outcome.the-variants.{Unchanged, Passed}
+use Rattle.keys.specs.declared.answer.Handed.the-variants.{Kept}
 use Rattle.keys.proofs.Outcomes.{adjusted-by}
 use Rattle.keys.proofs.Rules.{op-hash, op-cross, op-merge, op-aggregate, op-projection, op-clearing, op-other}
 use borrow.Author.Needs.{needs}
 use Rattle.keys.proofs.adjust.adjust_input_keys_ordering.Statement.{statement}
 use Rattle.keys.proofs.adjust.adjust_input_keys_ordering.Tie as tie
-use Rattle.keys.proofs.adjust.adjust_input_keys_ordering.Reads as reads
-use Rattle.keys.proofs.adjust.adjust_input_keys_ordering.Lts as lts
-use Rattle.keys.proofs.adjust.aggregate.Reads as aggregate-reads
-use Rattle.keys.proofs.adjust.cross_join.Reads as cross-join-reads
-use Rattle.keys.proofs.adjust.hash_join.Reads as hash-join-reads
-use Rattle.keys.proofs.adjust.other.Reads as other-reads
-use Rattle.keys.proofs.adjust.passed.Reads as passed-reads
-use Rattle.keys.proofs.adjust.projection.Reads as projection-reads
-use Rattle.keys.proofs.adjust.reorder_partitioned_join_keys.Reads as reorder-partitioned-join-keys-reads
 
 hash-join-requires : tie.Need-hash-join-requires
 hash-join-requires c κs = search needs

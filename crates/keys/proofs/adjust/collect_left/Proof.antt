@@ -1,20 +1,18 @@
+-- `keys::adjust::collect_left` meets its contract. One law of `collectLeft` for each join type (`Rules`).
+-- Assumes nothing.
 use mathlib.Core.Path.{_≡_, refl, sym, ap, _∙_}
 use mathlib.Core.Bool.{true, false}
 use mathlib.Core.List.{List, []}
 use lib.ListN.{length, length-map}
 use Rattle.keys.specs.Expressions.{sameExpr, expression, expressions}
 use Rattle.keys.specs.Answers.{keySheet}
-use Rattle.keys.specs.declared.adjust.Outcome.the-variants.{Unchanged, Passed}
-use Rattle.keys.specs.declared.adjust.Handed.the-variants.{Kept, Cleared, Required, Keys, Mapped}
+use Rattle.keys.specs.declared.answer.Outcome.the-variants.{Unchanged, Passed}
+use Rattle.keys.specs.declared.answer.Handed.the-variants.{Kept, Cleared, Required, Keys, Mapped}
 use Rattle.keys.proofs.Outcomes.{adjusted-by}
 use Rattle.keys.proofs.Rules.{collect-inner, collect-right, collect-required, collect-other}
 use borrow.Author.Needs.{needs}
 use Rattle.keys.proofs.adjust.collect_left.Statement.{statement}
 use Rattle.keys.proofs.adjust.collect_left.Tie as tie
-use Rattle.keys.proofs.adjust.collect_left.Reads as reads
-use Rattle.keys.proofs.adjust.collect_left.Lts as lts
-use Rattle.keys.proofs.adjust.cross_join.Reads as cross-join-reads
-use Rattle.keys.proofs.adjust.passed.Reads as passed-reads
 
 cross-join-requires : tie.Need-cross-join-requires
 cross-join-requires c κs = search needs

@@ -1,3 +1,5 @@
+-- `keys::adjust::cross_join` meets its contract. The second child gets R shifted.
+-- Assumes nothing.
 use mathlib.Core.Path.{_≡_, ap, _∙_}
 use mathlib.Core.List.{List}
 use Rattle.keys.specs.Expressions.{Expression}
@@ -6,10 +8,6 @@ use Rattle.keys.specs.Answers.{keySheet}
 use borrow.Author.Needs.{needs}
 use Rattle.keys.proofs.adjust.cross_join.Statement.{statement}
 use Rattle.keys.proofs.adjust.cross_join.Tie as tie
-use Rattle.keys.proofs.adjust.cross_join.Reads as reads
-use Rattle.keys.proofs.adjust.cross_join.Lts as lts
-use Rattle.keys.proofs.adjust.pushed_right.Reads as pushed-right-reads
-use Rattle.keys.proofs.adjust.shift_right_required.Reads as shift-right-required-reads
 
 shift-right-required-requires : tie.Need-shift-right-required-requires
 shift-right-required-requires c κs = search needs

@@ -1,21 +1,18 @@
+-- `keys::adjust::hash_join` meets its contract. One law of `hashJoin` for each mode (`Rules`).
+-- Assumes nothing.
 use mathlib.Core.Path.{_≡_, refl, sym, ap, _∙_}
 use mathlib.Core.Bool.{true, false}
 use mathlib.Core.List.{List, []}
 use lib.ListN.{length, length-map}
 use Rattle.keys.specs.Expressions.{sameExpr, expression, expressions}
 use Rattle.keys.specs.Answers.{keySheet}
-use Rattle.keys.specs.declared.adjust.Outcome.the-variants.{Unchanged, Passed}
-use Rattle.keys.specs.declared.adjust.Handed.the-variants.{Kept, Cleared, Required, Keys, Mapped}
+use Rattle.keys.specs.declared.answer.Outcome.the-variants.{Unchanged, Passed}
+use Rattle.keys.specs.declared.answer.Handed.the-variants.{Kept, Cleared, Required, Keys, Mapped}
 use Rattle.keys.proofs.Outcomes.{adjusted-by}
 use Rattle.keys.proofs.Rules.{hash-partitioned, hash-collect, hash-auto}
 use borrow.Author.Needs.{needs}
 use Rattle.keys.proofs.adjust.hash_join.Statement.{statement}
 use Rattle.keys.proofs.adjust.hash_join.Tie as tie
-use Rattle.keys.proofs.adjust.hash_join.Reads as reads
-use Rattle.keys.proofs.adjust.hash_join.Lts as lts
-use Rattle.keys.proofs.adjust.collect_left.Reads as collect-left-reads
-use Rattle.keys.proofs.adjust.passed.Reads as passed-reads
-use Rattle.keys.proofs.adjust.reorder_partitioned_join_keys.Reads as reorder-partitioned-join-keys-reads
 
 reorder-partitioned-join-keys-requires : tie.Need-reorder-partitioned-join-keys-requires
 reorder-partitioned-join-keys-requires c κs = search needs

@@ -1,19 +1,18 @@
+-- `keys::adjust::other` meets its contract. By whether R is empty (`Rules`).
+-- Assumes nothing.
 use mathlib.Core.Path.{_≡_, refl, sym, ap, _∙_}
 use mathlib.Core.Bool.{true, false}
 use mathlib.Core.List.{List, []}
 use lib.ListN.{length, length-map}
 use Rattle.keys.specs.Expressions.{sameExpr, expression, expressions}
 use Rattle.keys.specs.Answers.{keySheet}
-use Rattle.keys.specs.declared.adjust.Outcome.the-variants.{Unchanged, Passed}
-use Rattle.keys.specs.declared.adjust.Handed.the-variants.{Kept, Cleared, Required, Keys, Mapped}
+use Rattle.keys.specs.declared.answer.Outcome.the-variants.{Unchanged, Passed}
+use Rattle.keys.specs.declared.answer.Handed.the-variants.{Kept, Cleared, Required, Keys, Mapped}
 use Rattle.keys.proofs.Outcomes.{adjusted-by}
 use Rattle.keys.proofs.Rules.{other-unchanged, other-pushed}
 use borrow.Author.Needs.{needs}
 use Rattle.keys.proofs.adjust.other.Statement.{statement}
 use Rattle.keys.proofs.adjust.other.Tie as tie
-use Rattle.keys.proofs.adjust.other.Reads as reads
-use Rattle.keys.proofs.adjust.other.Lts as lts
-use Rattle.keys.proofs.adjust.passed.Reads as passed-reads
 
 passed-requires : tie.Need-passed-requires
 passed-requires c κs = search needs

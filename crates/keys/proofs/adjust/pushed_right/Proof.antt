@@ -1,16 +1,14 @@
+-- `keys::adjust::pushed_right` meets its contract. The answer that hands the second child what was built (`adjusted-by`).
+-- Assumes nothing.
 use mathlib.Core.Path.{refl}
 use mathlib.Core.Bool.{false}
 use mathlib.Core.List.{[]}
-use Rattle.keys.specs.declared.adjust.Outcome.the-variants.{Passed}
-use Rattle.keys.specs.declared.adjust.Handed.the-variants.{Kept, Built}
+use Rattle.keys.specs.declared.answer.Outcome.the-variants.{Passed}
+use Rattle.keys.specs.declared.answer.Handed.the-variants.{Kept, Built}
 use Rattle.keys.proofs.Outcomes.{adjusted-by}
 use borrow.Author.Needs.{needs}
 use Rattle.keys.proofs.adjust.pushed_right.Statement.{statement}
 use Rattle.keys.proofs.adjust.pushed_right.Tie as tie
-use Rattle.keys.proofs.adjust.pushed_right.Reads as reads
-use Rattle.keys.proofs.adjust.pushed_right.Lts as lts
-use Rattle.keys.proofs.list.no_keys.Reads as no-keys-reads
-use Rattle.keys.proofs.list.no_numbers.Reads as no-numbers-reads
 
 no-numbers-requires : tie.Need-no-numbers-requires
 no-numbers-requires c κs = search needs

@@ -1,3 +1,5 @@
+-- `keys::adjust::reorder_partitioned_join_keys` meets its contract. What `try_reorder` answers, with the directions at the positions (`join-stood`, `join-moved`).
+-- Assumes nothing.
 use mathlib.Core.Path.{_≡_, refl, sym, ap, _∙_}
 use Prim.Native.Nat.{ℕ, _≤_, _-_}
 use native.Mathlib.Omega.{arith}
@@ -10,12 +12,6 @@ use Rattle.keys.proofs.Joins.{not-moved, join-stood, join-moved, moved-
 use borrow.Author.Needs.{needs}
 use Rattle.keys.proofs.adjust.reorder_partitioned_join_keys.Statement.{statement}
 use Rattle.keys.proofs.adjust.reorder_partitioned_join_keys.Tie as tie
-use Rattle.keys.proofs.adjust.reorder_partitioned_join_keys.Reads as reads
-use Rattle.keys.proofs.adjust.reorder_partitioned_join_keys.Lts as lts
-use Rattle.keys.proofs.adjust.passed.Reads as passed-reads
-use Rattle.keys.proofs.list.moved_numbers.Reads as moved-numbers-reads
-use Rattle.keys.proofs.list.no_numbers.Reads as no-numbers-reads
-use Rattle.keys.proofs.reorder.try_reorder.Reads as try-reorder-reads
 
 abbrev T : tie.After-try-reorder → Reorder
 T d = d .try-reorder .result

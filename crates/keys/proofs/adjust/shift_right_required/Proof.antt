@@ -1,3 +1,5 @@
+-- `keys::adjust::shift_right_required` meets its contract. The keys shifted so far, before what shifting the rest gives, are all (`shift-turn`).
+-- Assumes nothing.
 use mathlib.Core.Path.{_≡_, refl, sym, ap, _∙_}
 use mathlib.Core.List.{List, map}
 use Prim.Native.Nat.{ℕ, _≤_, _<_, _-_}
@@ -12,11 +14,6 @@ use Rattle.keys.proofs.Shifts.{prefixed, prefixed-none, shift-turn, shi
 use borrow.Author.Needs.{needs}
 use Rattle.keys.proofs.adjust.shift_right_required.Statement.{statement}
 use Rattle.keys.proofs.adjust.shift_right_required.Tie as tie
-use Rattle.keys.proofs.adjust.shift_right_required.Reads as reads
-use Rattle.keys.proofs.adjust.shift_right_required.Lts as lts
-use Rattle.keys.proofs.expr.index_of.Reads as index-of-reads
-use Rattle.keys.proofs.expr.kind_of.Reads as kind-of-reads
-use Rattle.keys.proofs.list.no_keys.Reads as no-keys-reads
 
 abbrev Inv-loop : tie.InvT-loop
 Inv-loop required columns out₀ i₀ out i =

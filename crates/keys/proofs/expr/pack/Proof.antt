@@ -1,11 +1,11 @@
+-- `keys::expr::pack` meets its contract. Each of the three numbers comes back out of the packed one, by arithmetic.
+-- Assumes nothing.
 use mathlib.Core.Path.{_≡_}
 use Prim.Native.Nat.{ℕ, _+_, _*_, _/_, _%_}
 use native.Mathlib.Omega.{arith}
 use borrow.Author.Needs.{needs}
 use Rattle.keys.proofs.expr.pack.Statement.{statement}
 use Rattle.keys.proofs.expr.pack.Tie as tie
-use Rattle.keys.proofs.expr.pack.Reads as reads
-use Rattle.keys.proofs.expr.pack.Lts as lts
 
 -- src/expr.rt:14:5
 mul-result : tie.Need-mul-result

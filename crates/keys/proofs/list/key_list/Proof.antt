@@ -1,3 +1,5 @@
+-- `keys::list::key_list` meets its contract. The array filled so far, with what is left of the keys, is all the keys (`key-turn`).
+-- Assumes nothing.
 use mathlib.Core.Path.{_≡_, refl, sym, ap, _∙_}
 use mathlib.Core.List.{List, [], _∷_, _++_, map}
 use Prim.Native.Nat.{ℕ, _+_, _≤_, _<_, _-_}
@@ -8,9 +10,6 @@ use Rattle.keys.proofs.Turns.{key-turn, key-end}
 use borrow.Author.Needs.{needs}
 use Rattle.keys.proofs.list.key_list.Statement.{statement}
 use Rattle.keys.proofs.list.key_list.Tie as tie
-use Rattle.keys.proofs.list.key_list.Reads as reads
-use Rattle.keys.proofs.list.key_list.Lts as lts
-use Rattle.keys.proofs.list.no_keys.Reads as no-keys-reads
 
 abbrev Inv-loop : tie.InvT-loop
 Inv-loop keys out₀ i₀ out i = (i ≤ length keys) × (length (out .items) ≡ 32) × (take i (map numberOf (out .items)) ++ drop i keys ≡ keys)

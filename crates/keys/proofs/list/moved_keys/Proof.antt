@@ -1,3 +1,5 @@
+-- `keys::list::moved_keys` meets its contract. The array filled so far, with what is left, is the keys at the positions (`key-turn`).
+-- Assumes nothing.
 use mathlib.Core.Path.{_≡_, refl, sym, ap, _∙_}
 use mathlib.Core.List.{List, [], _∷_, _++_, map}
 use Prim.Native.Nat.{ℕ, _+_, _≤_, _<_, _-_}
@@ -11,10 +13,6 @@ use Rattle.keys.proofs.Lists.{below-at, getD-any}
 use borrow.Author.Needs.{needs}
 use Rattle.keys.proofs.list.moved_keys.Statement.{statement}
 use Rattle.keys.proofs.list.moved_keys.Tie as tie
-use Rattle.keys.proofs.list.moved_keys.Reads as reads
-use Rattle.keys.proofs.list.moved_keys.Lts as lts
-use Rattle.keys.proofs.list.no_keys.Reads as no-keys-reads
-use Rattle.keys.proofs.list.place.Reads as place-reads
 
 abbrev Inv-loop : tie.InvT-loop
 Inv-loop keys at out₀ i₀ out i = (i ≤ length at) × (length (out .items) ≡ 32) × (take i (map numberOf (out .items)) ++ drop i (permute goneNumber keys at) ≡ permute goneNumber keys at)

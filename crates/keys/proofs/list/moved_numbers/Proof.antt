@@ -1,3 +1,5 @@
+-- `keys::list::moved_numbers` meets its contract. The array filled so far, with what is left, is the numbers at the positions (`fill-turn`).
+-- Assumes nothing.
 use mathlib.Core.Path.{_≡_, refl, sym, ap, _∙_}
 use mathlib.Core.List.{List, [], _∷_, _++_, map}
 use Prim.Native.Nat.{ℕ, _+_, _≤_, _<_, _-_}
@@ -9,10 +11,6 @@ use Rattle.keys.proofs.Lists.{below-at, getD-any}
 use borrow.Author.Needs.{needs}
 use Rattle.keys.proofs.list.moved_numbers.Statement.{statement}
 use Rattle.keys.proofs.list.moved_numbers.Tie as tie
-use Rattle.keys.proofs.list.moved_numbers.Reads as reads
-use Rattle.keys.proofs.list.moved_numbers.Lts as lts
-use Rattle.keys.proofs.list.no_numbers.Reads as no-numbers-reads
-use Rattle.keys.proofs.list.place.Reads as place-reads
 
 abbrev Inv-loop : tie.InvT-loop
 Inv-loop all at out₀ i₀ out i = (i ≤ length at) × (length (out .items) ≡ 32) × (take i (out .items) ++ drop i (permute 0 all at) ≡ permute 0 all at)

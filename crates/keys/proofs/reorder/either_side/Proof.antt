@@ -1,3 +1,5 @@
+-- `keys::reorder::either_side` meets its contract. The first search that finds all positions.
+-- Assumes nothing.
 use mathlib.Core.Path.{_≡_, sym, _∙_}
 use lib.Dec.{eqb}
 use Rattle.keys.specs.Lists.{expectedExprPositions}
@@ -7,9 +9,6 @@ use Rattle.keys.proofs.Tries.{when-all, when-missing, first-found, next
 use borrow.Author.Needs.{needs}
 use Rattle.keys.proofs.reorder.either_side.Statement.{statement}
 use Rattle.keys.proofs.reorder.either_side.Tie as tie
-use Rattle.keys.proofs.reorder.either_side.Reads as reads
-use Rattle.keys.proofs.reorder.either_side.Lts as lts
-use Rattle.keys.proofs.reorder.expected_expr_positions.Reads as expected-expr-positions-reads
 
 expected-expr-positions-requires : tie.Need-expected-expr-positions-requires
 expected-expr-positions-requires c κs = search needs

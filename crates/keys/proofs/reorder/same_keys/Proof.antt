@@ -1,3 +1,5 @@
+-- `keys::reorder::same_keys` meets its contract. The rests of the two lists are the same exactly where the lists are.
+-- Assumes nothing.
 use mathlib.Core.Path.{_≡_, refl, sym, ap, _∙_}
 use Prim.Native.Nat.{ℕ, _+_, _≤_, _<_, _-_}
 use native.Mathlib.Omega.{arith}
@@ -9,8 +11,6 @@ use Rattle.keys.proofs.Lists.{sameList-agree, sameList-differ, sameList
 use borrow.Author.Needs.{needs}
 use Rattle.keys.proofs.reorder.same_keys.Statement.{statement}
 use Rattle.keys.proofs.reorder.same_keys.Tie as tie
-use Rattle.keys.proofs.reorder.same_keys.Reads as reads
-use Rattle.keys.proofs.reorder.same_keys.Lts as lts
 
 abbrev Inv-loop : tie.InvT-loop
 Inv-loop a b i₀ i = (i ≤ length a) × (sameList eqb (drop i a) (drop i b) ≡ sameList eqb a b)

@@ -1,3 +1,5 @@
+-- `keys::reorder::search_order` meets its contract. One law of `searched` for each way out.
+-- Assumes nothing.
 use mathlib.Core.Path.{_≡_, refl, sym, ap, _∙_}
 use mathlib.Core.List.{List}
 use Prim.Native.Nat.{ℕ}
@@ -11,12 +13,6 @@ use Rattle.keys.proofs.Outcomes.{tried-met}
 use borrow.Author.Needs.{needs}
 use Rattle.keys.proofs.reorder.search_order.Statement.{statement}
 use Rattle.keys.proofs.reorder.search_order.Tie as tie
-use Rattle.keys.proofs.reorder.search_order.Reads as reads
-use Rattle.keys.proofs.reorder.search_order.Lts as lts
-use Rattle.keys.proofs.reorder.either_side.Reads as either-side-reads
-use Rattle.keys.proofs.reorder.meets.Reads as meets-reads
-use Rattle.keys.proofs.reorder.moved_by.Reads as moved-by-reads
-use Rattle.keys.proofs.reorder.unmoved.Reads as unmoved-reads
 
 abbrev R : tie.Start → List ℕ
 R s = s .args .r .now

@@ -1,3 +1,5 @@
+-- `keys::reorder::take_places` meets its contract. The positions taken so far, before what the search goes on to find, are all (`resume`).
+-- Assumes nothing.
 use mathlib.Core.Path.{_≡_, refl, sym, ap, _∙_}
 use mathlib.Core.List.{List, [], _∷_, _++_, map}
 use mathlib.Core.Option.{Option, none, some}
@@ -17,11 +19,6 @@ use Rattle.keys.proofs.Turns.{key-entry, key-changed, key-length, resum
 use borrow.Author.Needs.{needs}
 use Rattle.keys.proofs.reorder.take_places.Statement.{statement}
 use Rattle.keys.proofs.reorder.take_places.Tie as tie
-use Rattle.keys.proofs.reorder.take_places.Reads as reads
-use Rattle.keys.proofs.reorder.take_places.Lts as lts
-use Rattle.keys.proofs.list.key_list.Reads as key-list-reads
-use Rattle.keys.proofs.list.no_numbers.Reads as no-numbers-reads
-use Rattle.keys.proofs.reorder.wide.Reads as wide-reads
 
 record Turn (current expected : List ℕ) (left : KeyList) (at : NumberList) (i p : ℕ) : Type 0 where
   within : i ≤ length expected

@@ -1,3 +1,5 @@
+-- `keys::reorder::try_reorder` meets its contract. One law of `tryReorder` for each way out.
+-- Assumes nothing.
 use mathlib.Core.Path.{_≡_, refl, sym, ap, _∙_}
 use mathlib.Core.Bool.{false}
 use mathlib.Core.List.{List}
@@ -12,13 +14,6 @@ use Rattle.keys.proofs.Outcomes.{tried-met, tried-impossible, no-entry}
 use borrow.Author.Needs.{needs}
 use Rattle.keys.proofs.reorder.try_reorder.Statement.{statement}
 use Rattle.keys.proofs.reorder.try_reorder.Tie as tie
-use Rattle.keys.proofs.reorder.try_reorder.Reads as reads
-use Rattle.keys.proofs.reorder.try_reorder.Lts as lts
-use Rattle.keys.proofs.reorder.either_side.Reads as either-side-reads
-use Rattle.keys.proofs.reorder.meets.Reads as meets-reads
-use Rattle.keys.proofs.reorder.moved_by.Reads as moved-by-reads
-use Rattle.keys.proofs.reorder.try_rewritten.Reads as try-rewritten-reads
-use Rattle.keys.proofs.reorder.unmoved.Reads as unmoved-reads
 
 abbrev W : tie.Start → List (Rule ℕ)
 W s = numberRules (s .args .w .now)

@@ -1,3 +1,5 @@
+-- `keys::reorder::try_rewritten` meets its contract. The three rewritten lists are the fronts of the arrays (`front-is`).
+-- Assumes nothing.
 use mathlib.Core.Path.{_≡_, refl, sym, ap, _∙_}
 use lib.Dec.{eqb}
 use lib.ListN.{length}
@@ -9,10 +11,6 @@ use Rattle.keys.proofs.Outcomes.{front-is}
 use borrow.Author.Needs.{needs}
 use Rattle.keys.proofs.reorder.try_rewritten.Statement.{statement}
 use Rattle.keys.proofs.reorder.try_rewritten.Tie as tie
-use Rattle.keys.proofs.reorder.try_rewritten.Reads as reads
-use Rattle.keys.proofs.reorder.try_rewritten.Lts as lts
-use Rattle.keys.proofs.reorder.rewrite_keys.Reads as rewrite-keys-reads
-use Rattle.keys.proofs.reorder.search_order.Reads as search-order-reads
 
 rewrite-keys-requires : tie.Need-rewrite-keys-requires
 rewrite-keys-requires c κs = search needs

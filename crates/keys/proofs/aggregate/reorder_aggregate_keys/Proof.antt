@@ -1,11 +1,13 @@
+-- `keys::aggregate::reorder_aggregate_keys` meets its contract. One law of `reorderAggregateKeys` for each test (`Rules`).
+-- Assumes nothing.
 use mathlib.Core.Path.{_≡_, refl, sym, ap, _∙_}
 use mathlib.Core.Bool.{true, false}
 use mathlib.Core.List.{List, []}
 use lib.ListN.{length, length-map}
 use Rattle.keys.specs.Expressions.{Expression, sameExpr, placeholder, goneNumber, expression, expressions}
 use Rattle.keys.specs.Answers.{keySheet}
-use Rattle.keys.specs.declared.adjust.Outcome.the-variants.{Unchanged, Passed}
-use Rattle.keys.specs.declared.adjust.Handed.the-variants.{Kept}
+use Rattle.keys.specs.declared.answer.Outcome.the-variants.{Unchanged, Passed}
+use Rattle.keys.specs.declared.answer.Handed.the-variants.{Kept}
 use Rattle.keys.proofs.Outcomes.{adjusted-by}
 use Prim.Native.Nat.{ℕ, _-_}
 use borrow.Author.Tests.{not-true, not-false}
@@ -16,14 +18,8 @@ use Rattle.keys.proofs.Outcomes.{from-start}
 use Rattle.keys.proofs.Packed.{same-expressions}
 use Rattle.keys.proofs.Rules.{aggregate-stays, aggregate-searched, lengths-differ, null-there, same-already, all-let}
 use borrow.Author.Needs.{needs}
-use Rattle.keys.proofs.adjust.reorder_aggregate_keys.Statement.{statement}
-use Rattle.keys.proofs.adjust.reorder_aggregate_keys.Tie as tie
-use Rattle.keys.proofs.adjust.reorder_aggregate_keys.Reads as reads
-use Rattle.keys.proofs.adjust.reorder_aggregate_keys.Lts as lts
-use Rattle.keys.proofs.adjust.group_columns.Reads as group-columns-reads
-use Rattle.keys.proofs.adjust.passed.Reads as passed-reads
-use Rattle.keys.proofs.adjust.regroup_by.Reads as regroup-by-reads
-use Rattle.keys.proofs.reorder.same_keys.Reads as same-keys-reads
+use Rattle.keys.proofs.aggregate.reorder_aggregate_keys.Statement.{statement}
+use Rattle.keys.proofs.aggregate.reorder_aggregate_keys.Tie as tie
 
 -- the group names' columns, as the code packs them
 columns : (d : tie.After-group-columns) →

@@ -1,3 +1,5 @@
+-- `keys::aggregate::group_columns` meets its contract. The columns packed so far, before the columns left, are all (`columns-turn`).
+-- Assumes nothing.
 use mathlib.Core.Path.{_≡_, refl}
 use mathlib.Core.List.{_++_}
 use Prim.Native.Nat.{ℕ, _≤_, _<_, _-_}
@@ -8,11 +10,8 @@ use Rattle.keys.specs.Adjust.{columnsFrom}
 use Rattle.keys.proofs.Lists.{below-at}
 use Rattle.keys.proofs.Names.{columns-turn, columns-end}
 use borrow.Author.Needs.{needs}
-use Rattle.keys.proofs.adjust.group_columns.Statement.{statement}
-use Rattle.keys.proofs.adjust.group_columns.Tie as tie
-use Rattle.keys.proofs.adjust.group_columns.Reads as reads
-use Rattle.keys.proofs.adjust.group_columns.Lts as lts
-use Rattle.keys.proofs.adjust.wide.Reads as wide-reads
+use Rattle.keys.proofs.aggregate.group_columns.Statement.{statement}
+use Rattle.keys.proofs.aggregate.group_columns.Tie as tie
 
 abbrev Inv-loop : tie.InvT-loop
 Inv-loop o out₀ i₀ out i = (i ≤ length o) × (length out ≡ 32) × (expressions (take i out) ++ columnsFrom i (drop i o) ≡ columnsFrom 0 o)

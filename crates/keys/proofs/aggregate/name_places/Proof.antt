@@ -1,3 +1,5 @@
+-- `keys::aggregate::name_places` meets its contract. The places found so far, before those of the names left, are all (`names-turn`).
+-- Assumes nothing.
 use mathlib.Core.Path.{_≡_, sym, ap, _∙_}
 use mathlib.Core.List.{_++_}
 use Prim.Native.Nat.{ℕ, _≤_, _-_}
@@ -8,13 +10,8 @@ use Rattle.keys.specs.Values.{found}
 use Rattle.keys.proofs.Lists.{first-pushed, behind, behind-none}
 use Rattle.keys.proofs.Names.{names-turn, names-missing, names-end}
 use borrow.Author.Needs.{needs}
-use Rattle.keys.proofs.adjust.name_places.Statement.{statement}
-use Rattle.keys.proofs.adjust.name_places.Tie as tie
-use Rattle.keys.proofs.adjust.name_places.Reads as reads
-use Rattle.keys.proofs.adjust.name_places.Lts as lts
-use Rattle.keys.proofs.adjust.find_field.Reads as find-field-reads
-use Rattle.keys.proofs.adjust.wide.Reads as wide-reads
-use Rattle.keys.proofs.list.no_numbers.Reads as no-numbers-reads
+use Rattle.keys.proofs.aggregate.name_places.Statement.{statement}
+use Rattle.keys.proofs.aggregate.name_places.Tie as tie
 
 abbrev Inv-loop : tie.InvT-loop
 Inv-loop moved aggregates names at₀ i₀ at i =

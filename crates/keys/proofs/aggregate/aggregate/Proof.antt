@@ -1,20 +1,18 @@
+-- `keys::aggregate::aggregate` meets its contract. One law of `aggregate` for each way out (`Rules`).
+-- Assumes nothing.
 use mathlib.Core.Path.{_≡_, refl, sym, ap, _∙_}
 use mathlib.Core.Bool.{true, false}
 use mathlib.Core.List.{List, []}
 use lib.ListN.{length, length-map}
 use Rattle.keys.specs.Expressions.{Expression, sameExpr, placeholder, goneNumber, expression, expressions}
 use Rattle.keys.specs.Answers.{keySheet}
-use Rattle.keys.specs.declared.adjust.Outcome.the-variants.{Unchanged, Passed}
-use Rattle.keys.specs.declared.adjust.Handed.the-variants.{Kept}
+use Rattle.keys.specs.declared.answer.Outcome.the-variants.{Unchanged, Passed}
+use Rattle.keys.specs.declared.answer.Handed.the-variants.{Kept}
 use Rattle.keys.proofs.Outcomes.{adjusted-by}
 use Rattle.keys.proofs.Rules.{aggregate-unchanged, aggregate-final, aggregate-other}
 use borrow.Author.Needs.{needs}
-use Rattle.keys.proofs.adjust.aggregate.Statement.{statement}
-use Rattle.keys.proofs.adjust.aggregate.Tie as tie
-use Rattle.keys.proofs.adjust.aggregate.Reads as reads
-use Rattle.keys.proofs.adjust.aggregate.Lts as lts
-use Rattle.keys.proofs.adjust.passed.Reads as passed-reads
-use Rattle.keys.proofs.adjust.reorder_aggregate_keys.Reads as reorder-aggregate-keys-reads
+use Rattle.keys.proofs.aggregate.aggregate.Statement.{statement}
+use Rattle.keys.proofs.aggregate.aggregate.Tie as tie
 
 passed-requires : tie.Need-passed-requires
 passed-requires c κs = search needs

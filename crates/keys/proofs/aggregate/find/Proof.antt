@@ -1,3 +1,5 @@
+-- `keys::aggregate::find` meets its contract. The search from i on finds what the whole search does.
+-- Assumes nothing.
 use mathlib.Core.Path.{_≡_, sym, _∙_}
 use Prim.Native.Nat.{ℕ, _≤_, _-_}
 use borrow.Author.Tests.{eq-eqb, ne-eqb}
@@ -6,10 +8,8 @@ use lib.ListN.{length, drop}
 use Rattle.keys.specs.Lists.{placeOf}
 use Rattle.keys.proofs.Lists.{from, place-starts, place-here, place-later, place-nowhere}
 use borrow.Author.Needs.{needs}
-use Rattle.keys.proofs.adjust.find.Statement.{statement}
-use Rattle.keys.proofs.adjust.find.Tie as tie
-use Rattle.keys.proofs.adjust.find.Reads as reads
-use Rattle.keys.proofs.adjust.find.Lts as lts
+use Rattle.keys.proofs.aggregate.find.Statement.{statement}
+use Rattle.keys.proofs.aggregate.find.Tie as tie
 
 abbrev Inv-loop : tie.InvT-loop
 Inv-loop all x i₀ i = (i ≤ length all) × (placeOf eqb x all ≡ from i (placeOf eqb x (drop i all)))

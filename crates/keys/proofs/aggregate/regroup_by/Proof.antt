@@ -1,11 +1,13 @@
+-- `keys::aggregate::regroup_by` meets its contract. By the positions of R among the columns, and whether the input is partial (`Rules`).
+-- Assumes nothing.
 use mathlib.Core.Path.{_≡_, refl, sym, ap, _∙_}
 use mathlib.Core.Bool.{true, false}
 use mathlib.Core.List.{List, []}
 use lib.ListN.{length, length-map}
 use Rattle.keys.specs.Expressions.{Expression, sameExpr, placeholder, goneNumber, expression, expressions}
 use Rattle.keys.specs.Answers.{keySheet}
-use Rattle.keys.specs.declared.adjust.Outcome.the-variants.{Unchanged, Passed}
-use Rattle.keys.specs.declared.adjust.Handed.the-variants.{Kept}
+use Rattle.keys.specs.declared.answer.Outcome.the-variants.{Unchanged, Passed}
+use Rattle.keys.specs.declared.answer.Handed.the-variants.{Kept}
 use Rattle.keys.proofs.Outcomes.{adjusted-by}
 use lib.Dec.{eqb}
 use Rattle.keys.specs.Lists.{expectedExprPositions}
@@ -17,13 +19,8 @@ use Rattle.keys.proofs.Packed.{positions-expressions}
 use Rattle.keys.proofs.Names.{columns-length}
 use Rattle.keys.proofs.Rules.{regrouped-none, regrouped-acts, regrouped-stays}
 use borrow.Author.Needs.{needs}
-use Rattle.keys.proofs.adjust.regroup_by.Statement.{statement}
-use Rattle.keys.proofs.adjust.regroup_by.Tie as tie
-use Rattle.keys.proofs.adjust.regroup_by.Reads as reads
-use Rattle.keys.proofs.adjust.regroup_by.Lts as lts
-use Rattle.keys.proofs.adjust.passed.Reads as passed-reads
-use Rattle.keys.proofs.adjust.regroup.Reads as regroup-reads
-use Rattle.keys.proofs.reorder.expected_expr_positions.Reads as expected-expr-positions-reads
+use Rattle.keys.proofs.aggregate.regroup_by.Statement.{statement}
+use Rattle.keys.proofs.aggregate.regroup_by.Tie as tie
 
 long : (s : tie.Start) → length (s .args .columns .now) ≡ length (s .args .o .now)
 long s = sym (length-map (s .args .columns .now) expression) ∙ ap length (s .pre .3) ∙ columns-length 0 (s .args .o .now)

@@ -1,3 +1,5 @@
+-- `keys::aggregate::find_field` meets its contract. The first list, or else the second, behind it (`Names`).
+-- Assumes nothing.
 use mathlib.Core.Path.{_≡_, sym, ap, _∙_}
 use mathlib.Core.Option.{some}
 use native.Mathlib.Omega.{arith}
@@ -7,11 +9,8 @@ use Rattle.keys.specs.Values.{found}
 use Rattle.keys.proofs.Lists.{place-below}
 use Rattle.keys.proofs.Names.{place-first, place-second, place-neither}
 use borrow.Author.Needs.{needs}
-use Rattle.keys.proofs.adjust.find_field.Statement.{statement}
-use Rattle.keys.proofs.adjust.find_field.Tie as tie
-use Rattle.keys.proofs.adjust.find_field.Reads as reads
-use Rattle.keys.proofs.adjust.find_field.Lts as lts
-use Rattle.keys.proofs.adjust.find.Reads as find-reads
+use Rattle.keys.proofs.aggregate.find_field.Statement.{statement}
+use Rattle.keys.proofs.aggregate.find_field.Tie as tie
 
 -- the place in the second list
 second : (c : tie.After-p) → placeOf eqb (c .before .before .before .before .before .before .before .before .args .name) (c .before .before .before .before .before .before .before .before .args .aggregates .now) ≡ some (c .p .given .0 .0)

@@ -1,3 +1,5 @@
+-- `keys::aggregate::regroup` meets its contract. By whether every group name is found again.
+-- Assumes nothing.
 use mathlib.Core.Path.{_≡_, sym, ap, _∙_}
 use mathlib.Core.Bool.{false}
 use mathlib.Core.List.{List, [], _++_}
@@ -10,19 +12,13 @@ use Rattle.keys.specs.Expressions.{sameExpr}
 use Rattle.keys.specs.Adjust.{namePlaces, regrouped}
 use Rattle.keys.specs.Values.{numbers, positionsOf}
 use Rattle.keys.specs.Answers.{keySheet}
-use Rattle.keys.specs.declared.adjust.Outcome.the-variants.{NameNotFound}
-use Rattle.keys.specs.declared.adjust.Handed.the-variants.{Kept}
+use Rattle.keys.specs.declared.answer.Outcome.the-variants.{NameNotFound}
+use Rattle.keys.specs.declared.answer.Handed.the-variants.{Kept}
 use Rattle.keys.proofs.Tries.{when-all, when-missing}
 use Rattle.keys.proofs.Outcomes.{from-start, adjusted-by}
 use borrow.Author.Needs.{needs}
-use Rattle.keys.proofs.adjust.regroup.Statement.{statement}
-use Rattle.keys.proofs.adjust.regroup.Tie as tie
-use Rattle.keys.proofs.adjust.regroup.Reads as reads
-use Rattle.keys.proofs.adjust.regroup.Lts as lts
-use Rattle.keys.proofs.adjust.name_places.Reads as name-places-reads
-use Rattle.keys.proofs.adjust.passed.Reads as passed-reads
-use Rattle.keys.proofs.adjust.regrouped.Reads as regrouped-reads
-use Rattle.keys.proofs.list.moved_numbers.Reads as moved-numbers-reads
+use Rattle.keys.proofs.aggregate.regroup.Statement.{statement}
+use Rattle.keys.proofs.aggregate.regroup.Tie as tie
 
 -- where the group names are found again
 places : (c : tie.After-name-places) →

@@ -1,0 +1,70 @@
+// What is answered of an operator: an outcome, what each child's list becomes, and the lists that were built.
+ghost use mathlib.Core.Path.{_≡_};
+ghost use mathlib.Core.List.{[]};
+ghost use Rattle.keys.specs.Values.{numbers};
+ghost use Rattle.keys.specs.Answers.{WholeAdjusted};
+use crate::list::KeyList;
+use crate::list::NumberList;
+use crate::reorder::Reordered;
+
+// The numbers of a K line; `columns` is its `left`.
+pub struct Operator {
+    pub op: u64,
+    pub mode: u64,
+    pub join: u64,
+    pub columns: u64,
+    pub plain: bool,
+    pub partial: bool,
+}
+
+// What a child's list becomes.
+pub enum Handed {
+    Kept,
+    Cleared,
+    Required,
+    Keys,
+    Built,
+    Mapped,
+}
+
+pub enum Outcome {
+    Unchanged,
+    Passed,
+    Tried(Reordered),
+    Regrouped,
+    NameNotFound,
+}
+
+// Lists that an outcome doesn't speak of are empty.
+pub struct Adjusted {
+    pub outcome: Outcome,
+    pub cleared: bool,
+    pub first: Handed,
+    pub others: Handed,
+    pub at: NumberList,
+    pub left: KeyList,
+    pub right: KeyList,
+    pub directions: NumberList,
+    pub places: NumberList,
+}
+
+pub fn passed(outcome: Outcome, cleared: bool, first: Handed, others: Handed) -> Adjusted
+    ensures { λ r. ⌜ WholeAdjusted r × (r .outcome ≡ outcome) × (r .cleared ≡ cleared) × (r .first ≡ first) × (r .others ≡ others) × (numbers (r .at) ≡ []) ⌝ }
+{
+    let at = crate::list::no_numbers();
+    let left = crate::list::no_keys();
+    let right = crate::list::no_keys();
+    let directions = crate::list::no_numbers();
+    let places = crate::list::no_numbers();
+    Adjusted {
+        outcome: outcome,
+        cleared: cleared,
+        first: first,
+        others: others,
+        at: at,
+        left: left,
+        right: right,
+        directions: directions,
+        places: places,
+    }
+}
