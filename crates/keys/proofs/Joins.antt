@@ -2,18 +2,17 @@
 -- Assumes nothing.
 use Prim.Native.Nat.{ℕ, zero, suc, _≤_}
 use mathlib.Core.Path.{_≡_, refl, ap, sym, _∙_}
-use mathlib.Core.Bool.{Bool, true, false}
+use mathlib.Core.Bool.{false}
 use mathlib.Core.List.{List, [], _∷_}
 use mathlib.Core.Logic.{_⊎_, inl, inr, ⊎-elim}
 use native.Mathlib.Omega.{arith}
 use lib.Dec.{eqb}
-use lib.ListN.{length, take, length-map}
-use lib.Seq.{take-take, length-take-le, take-all}
+use lib.ListN.{length, take}
+use lib.Seq.{take-take, length-take-le}
 use types.Run.{OneOf}
 use denote.Enum.Declared.{tagOf}
-use Rattle.keys.specs.Lists.{permute}
-use Rattle.keys.specs.Reorder.{Tried, met, movedBy, tryReorder}
-use Rattle.keys.specs.Expressions.{Expression, sameExpr, placeholder, goneNumber, expression, expressions, rules}
+use Rattle.keys.specs.Reorder.{Tried, tryReorder}
+use Rattle.keys.specs.Expressions.{Expression, sameExpr, goneNumber, expression, expressions}
 use Rattle.keys.specs.Adjust.{KeySheet, Adjustment, answered, handOver, given, movedDirections, directionsOf, reorderPartitionedJoinKeys}
 use Rattle.keys.specs.Arrange.{Below}
 use Rattle.keys.specs.Values.{packedKeys, numbers, WholeNumbers, numberRules, reportOf, triedOf}

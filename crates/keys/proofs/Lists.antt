@@ -5,12 +5,12 @@ use mathlib.Core.Path.{_≡_, refl, ap, sym, _∙_, subst}
 use mathlib.Core.Bool.{Bool, true, false, cond, _&&_}
 use mathlib.Core.Option.{Option, none, some}
 use mathlib.Core.List.{List, [], _∷_, _++_, map, append-assoc, append-nil}
-use native.Mathlib.Nat.{add-zero, add-suc, zero-add, suc-add}
+use native.Mathlib.Nat.{add-zero, zero-add}
 use native.Mathlib.Numerals.{add-one}
 use native.Mathlib.Omega.{arith}
 use lib.ListN.{length, getD, drop, take, set, drop-of-length-le, length-set}
-use lib.Seq.{drop-cons, take-suc-set, take-set-lt}
-use Rattle.keys.specs.Lists.{next, also, andThen, sameList, placeOf, takePlaces, expectedExprPositions, orElse, permute}
+use lib.Seq.{drop-cons, take-suc-set}
+use Rattle.keys.specs.Lists.{next, also, andThen, sameList, placeOf, takePlaces, expectedExprPositions, orElse}
 use Rattle.keys.specs.Arrange.{Below, AllBelow}
 
 -- a list that is kept in the first n places of an array: one more entry, and one entry changed

@@ -4,15 +4,15 @@ use Prim.Native.Nat.{ℕ, zero, suc, _+_, _*_, _/_, _%_, _≤_, _<_}
 use mathlib.Core.Path.{_≡_, refl, ap, sym, _∙_}
 use mathlib.Core.Bool.{Bool, true, false, cond}
 use mathlib.Core.Option.{Option, none, some}
-use mathlib.Core.List.{List, [], _∷_, _++_, map, append-assoc, append-nil}
+use mathlib.Core.List.{List, [], _∷_, _++_, append-assoc, append-nil}
 use native.Mathlib.Nat.{zero-add}
 use native.Mathlib.Numerals.{add-one}
 use native.Mathlib.Omega.{arith}
 use lib.Dec.{eqb}
 use lib.ListN.{length, getD, drop, take, set, drop-of-length-le}
 use lib.Seq.{drop-cons}
-use Rattle.keys.specs.Lists.{next, also, andThen, placeOf}
-use Rattle.keys.specs.Expressions.{Expression, column, expression, expressions}
+use Rattle.keys.specs.Lists.{next, placeOf}
+use Rattle.keys.specs.Expressions.{column, expression, expressions}
 use Rattle.keys.specs.Adjust.{columnsFrom, namePlaces}
 use Rattle.keys.proofs.Lists.{first-pushed, from, behind, behind-also}
 use Rattle.keys.proofs.Shifts.{map-append}

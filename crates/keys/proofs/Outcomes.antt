@@ -1,10 +1,10 @@
 -- What the code's answers stand for, by their outcome.
 -- Assumes nothing.
-use Prim.Native.Nat.{ℕ, _≤_, _-_}
-use mathlib.Core.Path.{_≡_, refl, ap, sym, _∙_, subst}
+use Prim.Native.Nat.{ℕ, _-_}
+use mathlib.Core.Path.{_≡_, refl, _∙_}
 use mathlib.Core.Option.{Option, none, some}
 use mathlib.Core.Bool.{Bool, cond}
-use mathlib.Core.List.{List, [], _∷_, _++_, map}
+use mathlib.Core.List.{List, [], _∷_, _++_}
 use native.Mathlib.Omega.{arith}
 use lib.ListN.{length, take}
 use Rattle.keys.specs.Lists.{permute}
@@ -15,9 +15,9 @@ use Rattle.keys.specs.Answers.{handed, changedBy, reportedBy, movedOr, p
 use Rattle.keys.specs.declared.answer.Outcome.{Outcome}
 use Rattle.keys.specs.declared.answer.Handed.{Handed}
 use Rattle.keys.specs.declared.answer.Adjusted.{Adjusted}
-use Rattle.keys.specs.Values.{keys, packedKeys, numbers, reportOf, resulting, triedOf}
+use Rattle.keys.specs.Values.{keys, numbers, reportOf, resulting, triedOf}
 use Rattle.keys.specs.declared.reorder.Reordered.{Reordered}
-use Rattle.keys.specs.declared.reorder.Reordered.the-variants.{Met, Moved, Impossible}
+use Rattle.keys.specs.declared.reorder.Reordered.the-variants.{Met, Impossible}
 use Rattle.keys.specs.declared.reorder.Reorder.{Reorder}
 
 -- the part from 0 on

@@ -1,19 +1,19 @@
 -- Keys of one type that stand for keys of another, with the same equality: what is decided about the ones is decided about the others.
 -- So packed numbers, compared as numbers, are as good as the expressions that they pack.
 -- Assumes nothing.
-use Prim.Native.Nat.{ℕ, zero, suc, _+_, _*_, _/_, _%_}
+use Prim.Native.Nat.{ℕ, _+_, _*_, _/_, _%_}
 use mathlib.Core.Path.{_≡_, refl, ap, sym, _∙_}
 use mathlib.Core.Bool.{Bool, true, false, cond, _&&_, _||_}
 use mathlib.Core.Option.{Option, none, some}
 use mathlib.Core.List.{List, [], _∷_, map}
 use native.Mathlib.Omega.{arith}
-use borrow.Author.Tests.{eq-eqb, ne-eqb, eqb-true, eqb-false}
+use borrow.Author.Tests.{eq-eqb, eqb-true, eqb-false}
 use lib.Dec.{eqb}
-use lib.ListN.{length, getD, set, length-map, List·getD-map}
+use lib.ListN.{length, set, length-map, List·getD-map}
 use Rattle.keys.specs.Lists.{also, andThen, orElse, sameList, placeOf, takePlaces, expectedExprPositions, permute}
 use Rattle.keys.specs.Reorder.{Rule, Tried, met, movedBy, rewriteOne, rewrite, meets, eitherSide, tryReorder}
 use Rattle.keys.specs.Expressions.{Expression, sameExpr, placeholder, goneNumber, expression, expressions, rule, rules}
-use Rattle.keys.specs.Values.{numberRule, numberRules}
+use Rattle.keys.specs.Values.{numberRules}
 use Rattle.keys.proofs.Turns.{map-set}
 
 -- what is tried of the ones, as what is tried of the others

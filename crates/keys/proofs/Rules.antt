@@ -1,17 +1,17 @@
 -- The rule that an operator's numbers choose, and what the rule answers, by the tests that the code makes.
 -- Assumes nothing.
 use Prim.Native.Nat.{ℕ}
-use mathlib.Core.Path.{_≡_, refl, ap, sym, _∙_}
+use mathlib.Core.Path.{_≡_, refl, sym, _∙_}
 use mathlib.Core.Bool.{Bool, true, false, cond, not, _&&_, _||_}
 use mathlib.Core.Option.{Option, none, some}
-use mathlib.Core.List.{List, [], _∷_, _++_}
+use mathlib.Core.List.{List, [], _++_}
 use native.Mathlib.Omega.{arith}
 use borrow.Author.Tests.{eq-eqb, ne-eqb}
 use lib.Dec.{eqb}
 use lib.ListN.{length}
 use Rattle.keys.specs.Lists.{sameList, expectedExprPositions, permute}
 use Rattle.keys.specs.Expressions.{Expression, placeholder}
-use Rattle.keys.specs.Adjust.{KeySheet, Adjustment, kept, given, passed, unchanged, cleared, shiftRightRequired, columnsFrom, namePlaces}
+use Rattle.keys.specs.Adjust.{KeySheet, kept, given, passed, unchanged, cleared, shiftRightRequired, columnsFrom, namePlaces}
 use Rattle.keys.specs.Adjust.{reorderPartitionedJoinKeys, collectLeft, hashJoin, crossJoin, notRegrouped, regrouped, regroupedBy}
 use Rattle.keys.specs.Adjust.{reorderAggregateKeys, aggregate, projection, other, adjustInputKeysOrdering}
 use Rattle.keys.proofs.Names.{columns-length}

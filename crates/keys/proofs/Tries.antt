@@ -1,16 +1,16 @@
 -- What the answers of the search come to, case by case, for any type of keys.
 -- Assumes nothing.
 use Prim.Native.Nat.{ℕ, _+_, _≤_, _<_}
-use mathlib.Core.Path.{_≡_, refl, ap, sym, _∙_}
+use mathlib.Core.Path.{_≡_, refl, ap}
 use mathlib.Core.Bool.{Bool, true, false, _||_}
 use mathlib.Core.Option.{Option, none, some}
-use mathlib.Core.List.{List, [], _∷_, map}
+use mathlib.Core.List.{List, [], _∷_}
 use native.Mathlib.Numerals.{add-one}
 use borrow.Author.Tests.{eq-eqb, ne-eqb}
 use lib.ListN.{length, getD, drop, drop-of-length-le}
 use lib.Seq.{drop-cons}
-use Rattle.keys.specs.Lists.{expectedExprPositions, orElse, permute}
-use Rattle.keys.specs.Reorder.{Rule, Tried, met, movedBy, rewriteOne, rewrite, meets, eitherSide, tryReorder}
+use Rattle.keys.specs.Lists.{expectedExprPositions, orElse}
+use Rattle.keys.specs.Reorder.{Rule, met, movedBy, rewriteOne, rewrite, meets, eitherSide, tryReorder}
 use Rattle.keys.specs.Searched.{searched, searchedBy}
 use Rattle.keys.specs.Arrange.{AllBelow}
 use Rattle.keys.specs.Values.{numbers, placed, positionsOf}

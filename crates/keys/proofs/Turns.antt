@@ -1,12 +1,11 @@
 -- What one turn of a loop does, over plain lists.
 -- Assumes nothing.
 use Prim.Native.Nat.{ℕ, zero, suc, _+_, _≤_, _<_}
-use mathlib.Core.Path.{_≡_, refl, ap, sym, _∙_}
+use mathlib.Core.Path.{_≡_, refl, ap, _∙_}
 use mathlib.Core.Bool.{Bool, true, false}
 use mathlib.Core.Option.{Option, none, some}
 use mathlib.Core.List.{List, [], _∷_, _++_, map, append-assoc, append-nil}
 use native.Mathlib.Numerals.{add-one}
-use native.Mathlib.Omega.{arith}
 use lib.ListN.{length, getD, drop, take, set, drop-of-length-le, length-map, List·getD-map}
 use lib.Seq.{drop-cons, length-take-le, getD-take, take-set-lt}
 use Rattle.keys.specs.Lists.{andThen, placeOf, takePlaces}

@@ -8,7 +8,6 @@ use lib.ListN.{length}
 use Rattle.keys.specs.Expressions.{Expression, expressions, rules}
 use Rattle.keys.specs.Adjust.{KeySheet, KeyAnswer, Projected, Adjustment, answered, nameNotFound, handOver, placedNames, namesFrom}
 use Rattle.keys.specs.Values.{keys, numbers, Whole, WholeNumbers, reportOf}
-use Rattle.keys.specs.declared.reorder.Reordered.{Reordered}
 use Rattle.keys.specs.declared.reorder.Reordered.the-variants.{Met, Moved, Impossible}
 use Rattle.keys.specs.declared.list.KeyList.{KeyList}
 use Rattle.keys.specs.declared.answer.Operator.{Operator}

@@ -1,8 +1,8 @@
 -- Expressions: three numbers, their equality, the placeholder, and the one number that packs the three.
 -- Renders document 01, "An expression is kind,name,index".
-use Prim.Native.Nat.{ℕ, zero, suc, _+_, _*_, _/_, _%_}
+use Prim.Native.Nat.{ℕ, _+_, _*_, _/_, _%_}
 use mathlib.Core.Bool.{Bool, _&&_}
-use mathlib.Core.List.{List, [], _∷_, map}
+use mathlib.Core.List.{List, map}
 use lib.Dec.{eqb}
 use lib.ListN.{getD}
 use Rattle.keys.specs.Reorder.{Rule}

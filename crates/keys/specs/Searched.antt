@@ -1,5 +1,4 @@
 -- The second half of `tryReorder`, for the contracts of private functions: the keys as they stand do not meet the requirement.
-use Prim.Native.Nat.{ℕ}
 use mathlib.Core.Bool.{Bool, cond}
 use mathlib.Core.List.{List}
 use Rattle.keys.specs.Lists.{orElse}

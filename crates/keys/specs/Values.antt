@@ -2,7 +2,7 @@
 use Prim.Native.Nat.{ℕ, _≤_}
 use mathlib.Core.Path.{_≡_}
 use mathlib.Core.Option.{Option, none, some}
-use mathlib.Core.List.{List, [], map}
+use mathlib.Core.List.{List, map}
 use lib.ListN.{length, take, getD}
 use Rattle.keys.specs.Expressions.{Expression, expressions}
 use Rattle.keys.specs.Reorder.{Rule, Tried}

@@ -1,12 +1,11 @@
 -- `keys::adjust::adjust_input_keys_ordering` meets its contract. One law of `adjustInputKeysOrdering` for each op (`Rules`).
 -- Assumes nothing.
-use mathlib.Core.Path.{_≡_, refl, sym, ap, _∙_}
-use mathlib.Core.Bool.{true, false}
-use mathlib.Core.List.{List, []}
-use lib.ListN.{length, length-map}
-use Rattle.keys.specs.Expressions.{Expression, sameExpr, placeholder, goneNumber, expression, expressions}
+use mathlib.Core.Path.{_∙_}
+use mathlib.Core.Bool.{true}
+use mathlib.Core.List.{[]}
+use Rattle.keys.specs.Expressions.{sameExpr}
 use Rattle.keys.specs.Answers.{keySheet}
-use Rattle.keys.specs.declared.answer.Outcome.the-variants.{Unchanged, Passed}
+use Rattle.keys.specs.declared.answer.Outcome.the-variants.{Passed}
 use Rattle.keys.specs.declared.answer.Handed.the-variants.{Kept}
 use Rattle.keys.proofs.Outcomes.{adjusted-by}
 use Rattle.keys.proofs.Rules.{op-hash, op-cross, op-merge, op-aggregate, op-projection, op-clearing, op-other}

@@ -1,13 +1,12 @@
 -- `keys::adjust::collect_left` meets its contract. One law of `collectLeft` for each join type (`Rules`).
 -- Assumes nothing.
-use mathlib.Core.Path.{_≡_, refl, sym, ap, _∙_}
-use mathlib.Core.Bool.{true, false}
-use mathlib.Core.List.{List, []}
-use lib.ListN.{length, length-map}
-use Rattle.keys.specs.Expressions.{sameExpr, expression, expressions}
+use mathlib.Core.Path.{refl, _∙_}
+use mathlib.Core.Bool.{false}
+use mathlib.Core.List.{[]}
+use Rattle.keys.specs.Expressions.{sameExpr}
 use Rattle.keys.specs.Answers.{keySheet}
-use Rattle.keys.specs.declared.answer.Outcome.the-variants.{Unchanged, Passed}
-use Rattle.keys.specs.declared.answer.Handed.the-variants.{Kept, Cleared, Required, Keys, Mapped}
+use Rattle.keys.specs.declared.answer.Outcome.the-variants.{Passed}
+use Rattle.keys.specs.declared.answer.Handed.the-variants.{Kept, Cleared, Required}
 use Rattle.keys.proofs.Outcomes.{adjusted-by}
 use Rattle.keys.proofs.Rules.{collect-inner, collect-right, collect-required, collect-other}
 use borrow.Author.Needs.{needs}

@@ -1,6 +1,6 @@
 -- `keys::adjust::cross_join` meets its contract. The second child gets R shifted.
 -- Assumes nothing.
-use mathlib.Core.Path.{_≡_, ap, _∙_}
+use mathlib.Core.Path.{ap, _∙_}
 use mathlib.Core.List.{List}
 use Rattle.keys.specs.Expressions.{Expression}
 use Rattle.keys.specs.Adjust.{passed, kept, given}

@@ -1,13 +1,12 @@
 -- `keys::adjust::hash_join` meets its contract. One law of `hashJoin` for each mode (`Rules`).
 -- Assumes nothing.
-use mathlib.Core.Path.{_≡_, refl, sym, ap, _∙_}
-use mathlib.Core.Bool.{true, false}
-use mathlib.Core.List.{List, []}
-use lib.ListN.{length, length-map}
-use Rattle.keys.specs.Expressions.{sameExpr, expression, expressions}
+use mathlib.Core.Path.{_∙_}
+use mathlib.Core.Bool.{true}
+use mathlib.Core.List.{[]}
+use Rattle.keys.specs.Expressions.{sameExpr}
 use Rattle.keys.specs.Answers.{keySheet}
-use Rattle.keys.specs.declared.answer.Outcome.the-variants.{Unchanged, Passed}
-use Rattle.keys.specs.declared.answer.Handed.the-variants.{Kept, Cleared, Required, Keys, Mapped}
+use Rattle.keys.specs.declared.answer.Outcome.the-variants.{Passed}
+use Rattle.keys.specs.declared.answer.Handed.the-variants.{Kept}
 use Rattle.keys.proofs.Outcomes.{adjusted-by}
 use Rattle.keys.proofs.Rules.{hash-partitioned, hash-collect, hash-auto}
 use borrow.Author.Needs.{needs}

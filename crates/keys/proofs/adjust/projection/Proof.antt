@@ -1,13 +1,13 @@
 -- `keys::adjust::projection` meets its contract. By whether M is as long as R (`Rules`).
 -- Assumes nothing.
-use mathlib.Core.Path.{_≡_, refl, sym, ap, _∙_}
+use mathlib.Core.Path.{sym, _∙_}
 use mathlib.Core.Bool.{true, false}
-use mathlib.Core.List.{List, []}
-use lib.ListN.{length, length-map}
-use Rattle.keys.specs.Expressions.{sameExpr, expression, expressions}
+use mathlib.Core.List.{[]}
+use lib.ListN.{length-map}
+use Rattle.keys.specs.Expressions.{sameExpr, expression}
 use Rattle.keys.specs.Answers.{keySheet}
-use Rattle.keys.specs.declared.answer.Outcome.the-variants.{Unchanged, Passed}
-use Rattle.keys.specs.declared.answer.Handed.the-variants.{Kept, Cleared, Required, Keys, Mapped}
+use Rattle.keys.specs.declared.answer.Outcome.the-variants.{Passed}
+use Rattle.keys.specs.declared.answer.Handed.the-variants.{Kept, Mapped}
 use Rattle.keys.proofs.Outcomes.{adjusted-by}
 use Rattle.keys.proofs.Rules.{projection-mapped, projection-cleared}
 use borrow.Author.Needs.{needs}

@@ -1,9 +1,9 @@
 -- `keys::adjust::reorder_partitioned_join_keys` meets its contract. What `try_reorder` answers, with the directions at the positions (`join-stood`, `join-moved`).
 -- Assumes nothing.
-use mathlib.Core.Path.{_≡_, refl, sym, ap, _∙_}
-use Prim.Native.Nat.{ℕ, _≤_, _-_}
+use mathlib.Core.Path.{ap, _∙_}
+use Prim.Native.Nat.{_≤_}
 use native.Mathlib.Omega.{arith}
-use lib.ListN.{length, take}
+use lib.ListN.{length}
 use lib.Seq.{length-take-le}
 use Rattle.keys.specs.Lists.{permute}
 use Rattle.keys.specs.declared.reorder.Reorder.{Reorder}

@@ -1,10 +1,10 @@
 -- `keys::aggregate::aggregate` meets its contract. One law of `aggregate` for each way out (`Rules`).
 -- Assumes nothing.
-use mathlib.Core.Path.{_≡_, refl, sym, ap, _∙_}
+use mathlib.Core.Path.{sym, _∙_}
 use mathlib.Core.Bool.{true, false}
-use mathlib.Core.List.{List, []}
-use lib.ListN.{length, length-map}
-use Rattle.keys.specs.Expressions.{Expression, sameExpr, placeholder, goneNumber, expression, expressions}
+use mathlib.Core.List.{[]}
+use lib.ListN.{length-map}
+use Rattle.keys.specs.Expressions.{sameExpr, expression}
 use Rattle.keys.specs.Answers.{keySheet}
 use Rattle.keys.specs.declared.answer.Outcome.the-variants.{Unchanged, Passed}
 use Rattle.keys.specs.declared.answer.Handed.the-variants.{Kept}

@@ -1,12 +1,12 @@
 -- `keys::aggregate::regroup_by` meets its contract. By the positions of R among the columns, and whether the input is partial (`Rules`).
 -- Assumes nothing.
-use mathlib.Core.Path.{_≡_, refl, sym, ap, _∙_}
-use mathlib.Core.Bool.{true, false}
+use mathlib.Core.Path.{_≡_, sym, ap, _∙_}
+use mathlib.Core.Bool.{false}
 use mathlib.Core.List.{List, []}
 use lib.ListN.{length, length-map}
 use Rattle.keys.specs.Expressions.{Expression, sameExpr, placeholder, goneNumber, expression, expressions}
 use Rattle.keys.specs.Answers.{keySheet}
-use Rattle.keys.specs.declared.answer.Outcome.the-variants.{Unchanged, Passed}
+use Rattle.keys.specs.declared.answer.Outcome.the-variants.{Passed}
 use Rattle.keys.specs.declared.answer.Handed.the-variants.{Kept}
 use Rattle.keys.proofs.Outcomes.{adjusted-by}
 use lib.Dec.{eqb}

@@ -1,7 +1,7 @@
 -- `keys::expr::pack` meets its contract. Each of the three numbers comes back out of the packed one, by arithmetic.
 -- Assumes nothing.
 use mathlib.Core.Path.{_≡_}
-use Prim.Native.Nat.{ℕ, _+_, _*_, _/_, _%_}
+use Prim.Native.Nat.{_+_, _*_, _/_, _%_}
 use native.Mathlib.Omega.{arith}
 use borrow.Author.Needs.{needs}
 use Rattle.keys.proofs.expr.pack.Statement.{statement}

@@ -1,10 +1,10 @@
 -- `keys::list::key_list` meets its contract. The array filled so far, with what is left of the keys, is all the keys (`key-turn`).
 -- Assumes nothing.
-use mathlib.Core.Path.{_≡_, refl, sym, ap, _∙_}
-use mathlib.Core.List.{List, [], _∷_, _++_, map}
-use Prim.Native.Nat.{ℕ, _+_, _≤_, _<_, _-_}
+use mathlib.Core.Path.{_≡_, refl}
+use mathlib.Core.List.{_++_, map}
+use Prim.Native.Nat.{_≤_, _-_}
 use native.Mathlib.Omega.{arith}
-use lib.ListN.{length, getD, take, drop, set, length-set, length-map}
+use lib.ListN.{length, getD, take, drop}
 use Rattle.keys.specs.Values.{numberOf}
 use Rattle.keys.proofs.Turns.{key-turn, key-end}
 use borrow.Author.Needs.{needs}

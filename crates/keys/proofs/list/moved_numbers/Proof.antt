@@ -1,10 +1,10 @@
 -- `keys::list::moved_numbers` meets its contract. The array filled so far, with what is left, is the numbers at the positions (`fill-turn`).
 -- Assumes nothing.
-use mathlib.Core.Path.{_≡_, refl, sym, ap, _∙_}
-use mathlib.Core.List.{List, [], _∷_, _++_, map}
-use Prim.Native.Nat.{ℕ, _+_, _≤_, _<_, _-_}
+use mathlib.Core.Path.{_≡_, sym, _∙_}
+use mathlib.Core.List.{_++_}
+use Prim.Native.Nat.{_≤_, _<_, _-_}
 use native.Mathlib.Omega.{arith}
-use lib.ListN.{length, getD, take, drop, set, length-map, List·getD-map}
+use lib.ListN.{length, getD, take, drop, length-map, List·getD-map}
 use Rattle.keys.specs.Lists.{permute}
 use Rattle.keys.proofs.Turns.{fill-turn, fill-end}
 use Rattle.keys.proofs.Lists.{below-at, getD-any}

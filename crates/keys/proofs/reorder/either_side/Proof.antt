@@ -1,6 +1,6 @@
 -- `keys::reorder::either_side` meets its contract. The first search that finds all positions.
 -- Assumes nothing.
-use mathlib.Core.Path.{_≡_, sym, _∙_}
+use mathlib.Core.Path.{sym, _∙_}
 use lib.Dec.{eqb}
 use Rattle.keys.specs.Lists.{expectedExprPositions}
 use Rattle.keys.specs.Expressions.{goneNumber}

@@ -1,9 +1,8 @@
 -- `keys::reorder::expected_expr_positions` meets its contract. The search, unless a list is empty.
 -- Assumes nothing.
-use mathlib.Core.Path.{_≡_, sym, _∙_}
+use mathlib.Core.Path.{sym, _∙_}
 use native.Mathlib.Omega.{arith}
 use lib.Dec.{eqb}
-use lib.ListN.{length}
 use Rattle.keys.specs.Expressions.{goneNumber}
 use Rattle.keys.proofs.Lists.{positions-of, positions-nothing, positions-no-wish}
 use borrow.Author.Needs.{needs}

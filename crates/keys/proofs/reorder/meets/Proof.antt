@@ -1,6 +1,6 @@
 -- `keys::reorder::meets` meets its contract. The first side, or else the second.
 -- Assumes nothing.
-use mathlib.Core.Path.{_≡_, sym, _∙_}
+use mathlib.Core.Path.{sym, _∙_}
 use lib.Dec.{eqb}
 use Rattle.keys.specs.Lists.{sameList}
 use Rattle.keys.proofs.Tries.{or-left, or-right}

@@ -1,9 +1,9 @@
 -- `keys::reorder::moved_by` meets its contract. By the outcome of the search: `moved-is`, `tried-impossible`.
 -- Assumes nothing.
 use mathlib.Core.Path.{_≡_, sym, ap, _∙_}
-use Prim.Native.Nat.{ℕ, _≤_, _-_}
+use Prim.Native.Nat.{_≤_}
 use native.Mathlib.Omega.{arith}
-use lib.ListN.{length, take}
+use lib.ListN.{length}
 use lib.Seq.{length-take-le}
 use Rattle.keys.specs.Reorder.{movedBy}
 use Rattle.keys.specs.Expressions.{goneNumber}

@@ -1,11 +1,11 @@
 -- `keys::reorder::rewrite_keys` meets its contract. The array filled so far, with what is left, is the rewritten keys (`fill-turn`).
 -- Assumes nothing.
-use mathlib.Core.Path.{_≡_, refl, sym, ap, _∙_}
-use mathlib.Core.List.{List, _++_, map}
-use Prim.Native.Nat.{ℕ, _≤_, _<_, _-_}
+use mathlib.Core.Path.{_≡_, sym, _∙_}
+use mathlib.Core.List.{_++_, map}
+use Prim.Native.Nat.{_≤_, _-_}
 use native.Mathlib.Omega.{arith}
 use lib.Dec.{eqb}
-use lib.ListN.{length, getD, take, drop, length-map, List·getD-map}
+use lib.ListN.{length, take, drop, length-map, List·getD-map}
 use Rattle.keys.specs.Reorder.{rewriteOne, rewrite}
 use Rattle.keys.specs.Values.{numberRules}
 use Rattle.keys.proofs.Turns.{fill-turn, fill-end}

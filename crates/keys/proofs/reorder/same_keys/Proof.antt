@@ -1,11 +1,11 @@
 -- `keys::reorder::same_keys` meets its contract. The rests of the two lists are the same exactly where the lists are.
 -- Assumes nothing.
-use mathlib.Core.Path.{_≡_, refl, sym, ap, _∙_}
-use Prim.Native.Nat.{ℕ, _+_, _≤_, _<_, _-_}
+use mathlib.Core.Path.{_≡_, sym, _∙_}
+use Prim.Native.Nat.{_≤_, _-_}
 use native.Mathlib.Omega.{arith}
 use borrow.Author.Tests.{eq-eqb, ne-eqb}
 use lib.Dec.{eqb}
-use lib.ListN.{length, getD, drop}
+use lib.ListN.{length, drop}
 use Rattle.keys.specs.Lists.{sameList}
 use Rattle.keys.proofs.Lists.{sameList-agree, sameList-differ, sameList-end, sameList-lengths}
 use borrow.Author.Needs.{needs}

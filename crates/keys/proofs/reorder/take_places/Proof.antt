@@ -1,17 +1,15 @@
 -- `keys::reorder::take_places` meets its contract. The positions taken so far, before what the search goes on to find, are all (`resume`).
 -- Assumes nothing.
-use mathlib.Core.Path.{_≡_, refl, sym, ap, _∙_}
-use mathlib.Core.List.{List, [], _∷_, _++_, map}
-use mathlib.Core.Option.{Option, none, some}
+use mathlib.Core.Path.{_≡_, sym, ap, _∙_}
+use mathlib.Core.List.{List, map}
 use Prim.Native.Nat.{ℕ, _+_, _*_, _≤_, _<_, _-_}
 use native.Mathlib.Omega.{arith}
 use borrow.Author.Tests.{eq-eqb, ne-eqb}
 use lib.Dec.{eqb}
-use lib.ListN.{length, getD, take, drop, set, length-set, length-map, List·getD-map}
-use lib.Seq.{length-take-le, getD-take, take-set-lt}
+use lib.ListN.{length, getD, take, drop, length-set}
 use Rattle.keys.specs.Lists.{takePlaces}
 use Rattle.keys.specs.Expressions.{goneNumber}
-use Rattle.keys.specs.Values.{numberOf, numbers}
+use Rattle.keys.specs.Values.{numberOf}
 use Rattle.keys.specs.declared.list.KeyList.{KeyList}
 use Rattle.keys.specs.declared.list.NumberList.{NumberList}
 use Rattle.keys.proofs.Lists.{behind, behind-none, first-pushed}

@@ -1,6 +1,6 @@
 -- `keys::reorder::try_rewritten` meets its contract. The three rewritten lists are the fronts of the arrays (`front-is`).
 -- Assumes nothing.
-use mathlib.Core.Path.{_≡_, refl, sym, ap, _∙_}
+use mathlib.Core.Path.{refl, _∙_}
 use lib.Dec.{eqb}
 use lib.ListN.{length}
 use Rattle.keys.specs.Reorder.{rewrite}
