@@ -1,0 +1,11 @@
+pub mod Scanning
+pub mod Fields
+pub mod Digits
+pub mod FieldsTurn
+pub mod LineCases
+pub mod Limits
+pub mod Judging
+pub mod Decimal
+pub mod Lengths
+pub mod Stores
+pub mod Writing
