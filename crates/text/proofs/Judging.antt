@@ -40,7 +40,7 @@ shut·at : (t : Bool) (x : Option (List Field)) (fs : List Field) → cond t x n
 shut·at true x fs e = e
 shut·at false x fs e = let z : _≡_ {A = ℕ} 0 1 = cc in absurd (omega arith)
 
-shut : (letter : ℕ) (s : List ℕ) (at : ℕ) (fs : List Field) → lineAt letter s at ≡ some fs → lineFields letter (line (drop at s)) ≡ some fs
+pub shut : (letter : ℕ) (s : List ℕ) (at : ℕ) (fs : List Field) → lineAt letter s at ≡ some fs → lineFields letter (line (drop at s)) ≡ some fs
 unfolding lineAt
 shut letter s at fs e = shut·at (ltb (until 10 (drop at s)) (length (drop at s))) _ fs e
 

@@ -1,99 +1,52 @@
--- How long fields and lines are.
+-- How long lines are, and how long they can be.
 -- Assumes nothing.
 use mathlib.Core.Path.{_≡_, refl, sym, ap, _∙_}
-use mathlib.Core.List.{List, [], _∷_, _++_, map, append-assoc}
-use mathlib.Core.Bool.{Bool, true, false, cond}
-use Prim.Native.Nat.{ℕ, zero, suc, _+_, _-_, _*_, _/_, _^_, _≤_, _<_, max}
-use native.Mathlib.Nat.{pow-suc}
-use native.Mathlib.Numerals.{add-one}
+use mathlib.Core.List.{List, [], _∷_, _++_, append-assoc}
+use mathlib.Core.Bool.{true}
+use Prim.Native.Nat.{ℕ, zero, suc, _+_, _*_, _^_, _≤_, _<_}
+use native.Mathlib.Nat.{suc-mul}
 use native.Mathlib.Omega.{arith}
-use lib.Dec.{eqb, ltb}
-use lib.ListN.{length, drop, getD, length-append, drop-of-length-le}
-use lib.Seq.{drop-cons}
-use borrow.Author.Tests.{ltb-true, ltb-false, eq-eqb, ne-eqb}
+use lib.ListN.{length, getD, length-append}
+use borrow.Author.Tests.{leb-true}
 use Rattle.text.specs.Text.{Field, number, empty, malformed}
-use Rattle.text.specs.Write.{decimal, fieldText, fieldsText, lineText, fieldOf, rowField}
-use Rattle.text.proofs.Decimal.{length-one, decimal-between}
-
--- ---- a number: the powers of ten up to it are counted
-
-pub record Counting (n power k : ℕ) : Type 0 where
-  pub exponent : ℕ
-  pub count : k ≡ suc exponent
-  pub is : power ≡ 10 ^ exponent
-  pub within : power ≤ max n 1
-  pub few : k ≤ power
-
-pub counting-first : (n : ℕ) → Counting n 1 1
-counting-first n = record { exponent = 0; count = refl; is = refl; within = omega arith; few = omega arith }
-
-module _ (n power k : ℕ) (c : Counting n power k) where
-  pub counting-more : power ≤ n / 10 → Counting n (power * 10) (k + 1)
-  counting-more h =
-      record {
-        exponent = suc (c .exponent);
-        count = omega (arith, c .count);
-        is = rw (pow-suc 10 (c .exponent), ← c .is);
-        within = omega arith;
-        few = omega (arith, c .count, c .few);
-      }
-
-  counted·at : n / 10 < power → (t : Bool) → ltb n 1 ≡ t → k ≡ length (decimal n)
-  counted·at h true e =
-      let none : n < 1 = ltb-true n 1 e in
-      omega (arith, length-one n (omega arith), c .few, c .within, c .count)
-  counted·at h false e =
-      let some : 1 ≤ n = ltb-false n 1 e in
-      let less : n < 10 ^ suc (c .exponent) = rw (pow-suc 10 (c .exponent), ← c .is) (omega arith) in
-      omega (arith, c .count, decimal-between (c .exponent) n (omega (arith, c .is, c .within)) less)
-
-  pub counted : n / 10 < power → k ≡ length (decimal n)
-  counted h = counted·at h (ltb n 1) refl
-
--- ---- a field
-
-quiet : (t : Bool) → fieldText (cond t empty malformed) ≡ []
-unfolding fieldText
-quiet true = refl
-quiet false = refl
-
-module _ (state value : ℕ) where
-  pub number-text : state ≡ 0 → fieldText (fieldOf state value) ≡ decimal value
-  unfolding fieldText
-  number-text e = rw (eq-eqb state 0 e)
-
-  pub other-text : (state ≡ 0 → ⊥) → fieldText (fieldOf state value) ≡ []
-  other-text ne = rw (ne-eqb state 0 ne) (quiet (eqb state 1))
-
--- ---- a line
+use Rattle.text.specs.Bounds.{Bound, allows, allowsAll}
+use Rattle.text.specs.Write.{fieldText, fieldsText, lineText}
+use Rattle.text.proofs.Decimal.{decimal-below}
+use Rattle.text.proofs.Exact.{both}
 
 pub line-length : (letter : ℕ) (fs : List Field) → length (lineText letter fs) ≡ 2 + length (fieldsText fs)
 unfolding lineText
 line-length letter fs = omega (arith, length-append (fieldsText fs) (10 ∷ []))
 
--- the rows from i on are those from i + 1 on after a comma and the row at i
-pub rows-text : (rows : List (List ℕ)) (i : ℕ) → i < length rows → fieldsText (map rowField (drop i rows)) ≡ (44 ∷ fieldText (rowField (getD rows i []))) ++ fieldsText (map rowField (drop (i + 1) rows))
+-- fields that follow fields
+pub fields-append : (fs gs : List Field) → fieldsText (fs ++ gs) ≡ fieldsText fs ++ fieldsText gs
 unfolding fieldsText
-rows-text rows i h = rw (add-one, drop-cons rows i [] h)
+fields-append [] gs = refl
+fields-append (f ∷ fs) gs = ap (λ (t : List ℕ). 44 ∷ t) (ap (λ (t : List ℕ). fieldText f ++ t) (fields-append fs gs) ∙ sym (append-assoc (fieldText f) (fieldsText fs) (fieldsText gs)))
 
--- the length so far, with the length of the rows from i on, is the line's
-pub record Adding (rows : List (List ℕ)) (n i : ℕ) : Type 0 where
-  pub within : i ≤ length rows
-  pub near : n ≤ 2 + 21 * i
-  pub rest : n + length (fieldsText (map rowField (drop i rows))) ≡ length (lineText 0 (map rowField rows))
+-- each field has at most k bytes
+abbrev pub Short : ℕ → List Field → Type 0
+Short k fs = (i : ℕ) → i < length fs → length (fieldText (getD fs i empty)) ≤ k
 
-pub adding-first : (rows : List (List ℕ)) → Adding rows 2 0
-adding-first rows = record { within = omega arith; near = omega arith; rest = sym (line-length 0 (map rowField rows)) }
+fields-bound : (k : ℕ) (fs : List Field) → Short k fs → length (fieldsText fs) ≤ length fs * (k + 1)
+unfolding fieldsText
+fields-bound k [] s = omega arith
+fields-bound k (f ∷ fs) s =
+    let e : suc (length fs) * (k + 1) ≡ length fs * (k + 1) + (k + 1) = suc-mul (length fs) (k + 1) in
+    omega (arith, s 0 (omega arith), fields-bound k fs (λ i h. s (suc i) (omega arith)), length-append (fieldText f) (fieldsText fs))
 
-module _ (rows : List (List ℕ)) (n i : ℕ) (a : Adding rows n i) where
-  pub adding-more : i < length rows → (k : ℕ) → k ≡ length (fieldText (rowField (getD rows i []))) → k ≤ 20 → Adding rows (n + 1 + k) (i + 1)
-  adding-more h k is few =
-      record {
-        within = omega arith;
-        near = omega (arith, a .near);
-        rest = omega (arith, a .rest, ap length (rows-text rows i h), length-append (44 ∷ fieldText (rowField (getD rows i []))) (fieldsText (map rowField (drop (i + 1) rows))));
-      }
+pub line-bound : (letter k : ℕ) (fs : List Field) → Short k fs → length (lineText letter fs) ≤ 2 + length fs * (k + 1)
+line-bound letter k fs s = omega (arith, line-length letter fs, fields-bound k fs s)
 
-  pub adding-done : length rows ≤ i → n ≡ length (lineText 0 (map rowField rows))
-  unfolding fieldsText
-  adding-done h = omega (arith, simp (drop-of-length-le rows h) at (a .rest))
+allows-short : (b : Bound) (k : ℕ) → b .largest < 10 ^ suc k → (f : Field) → allows b f ≡ true → length (fieldText f) ≤ suc k
+unfolding fieldText
+allows-short b k h (number n) e = decimal-below k n (omega (arith, leb-true n (b .largest) e))
+allows-short b k h empty e = omega arith
+allows-short b k h malformed e = omega arith
+
+-- fields below 10^k, k at least 1, have at most k bytes
+pub all-short : (b : Bound) (k : ℕ) → b .largest < 10 ^ suc k → (fs : List Field) → allowsAll b fs ≡ true → Short (suc k) fs
+unfolding allowsAll
+all-short b k h [] e i l = absurd (omega arith)
+all-short b k h (f ∷ fs) e zero l = allows-short b k h f (both (allows b f) (allowsAll b fs) e .0)
+all-short b k h (f ∷ fs) e (suc i) l = all-short b k h fs (both (allows b f) (allowsAll b fs) e .1) i (omega arith)

@@ -1,3 +1,7 @@
+pub mod Decimal
+pub mod Exact
+pub mod Parts
+pub mod Places
 pub mod Scanning
 pub mod Fields
 pub mod Digits
@@ -5,7 +9,11 @@ pub mod FieldsTurn
 pub mod LineCases
 pub mod Limits
 pub mod Judging
-pub mod Decimal
+pub mod Rows
 pub mod Lengths
 pub mod Stores
+pub mod Measuring
 pub mod Writing
+pub mod RoundTrip
+pub mod WrittenBack
+pub mod Examples

@@ -10,7 +10,7 @@ use lib.Seq.{sets, drop-cons}
 use Rattle.text.specs.Text.{Field}
 use Rattle.text.specs.Write.{decimal, fieldText, fieldsText, lineText, rowField, Wrote}
 use Rattle.text.proofs.Decimal.{decimal-one, decimal-more, decimal-some, length-one, length-more}
-use Rattle.text.proofs.Lengths.{rows-text}
+use Rattle.text.proofs.Rows.{rows-text}
 use Rattle.text.proofs.Stores.{sets-last, Left, left-all, left-then, left-none, wrote-then, wrote-length}
 
 -- ---- a number, from its last digit backwards

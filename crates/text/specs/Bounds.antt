@@ -6,7 +6,7 @@ use mathlib.Core.Bool.{Bool, true, false, cond, _&&_}
 use mathlib.Core.Option.{Option, none, some}
 use lib.Dec.{leb}
 use lib.ListN.{length, getD}
-use Rattle.text.specs.Text.{Field, number, empty, malformed, most, row}
+use Rattle.text.specs.Text.{Field, number, empty, malformed, most, stateOf, row}
 use Rattle.text.specs.declared.bounds.Judged.{Judged}
 use Rattle.text.specs.declared.bounds.Judged.the-variants.{Line, Unfit, Wrong}
 
@@ -22,6 +22,11 @@ abbrev pub allows : Bound → Field → Bool
 allows b (number n) = leb n (b .largest)
 allows b empty = b .optional
 allows b malformed = false
+
+-- no field is malformed
+unfoldable pub wellFormed : List Field → Bool
+wellFormed [] = true
+wellFormed (f ∷ fs) = leb (stateOf f) 1 && wellFormed fs
 
 -- each field within one bound
 unfoldable pub allowsAll : Bound → List Field → Bool

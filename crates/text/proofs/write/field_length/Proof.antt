@@ -3,7 +3,7 @@
 use mathlib.Core.Path.{sym, ap, _∙_}
 use native.Mathlib.Omega.{arith}
 use lib.ListN.{length}
-use Rattle.text.proofs.Lengths.{number-text, other-text}
+use Rattle.text.proofs.Rows.{number-text, other-text}
 use borrow.Author.Needs.{needs}
 use Rattle.text.proofs.write.field_length.Statement.{statement}
 use Rattle.text.proofs.write.field_length.Tie as tie

@@ -3,7 +3,7 @@
 use Prim.Native.Nat.{_-_}
 use native.Mathlib.Omega.{arith}
 use lib.ListN.{length}
-use Rattle.text.proofs.Lengths.{Adding, adding-first, adding-more, adding-done}
+use Rattle.text.proofs.Measuring.{Adding, adding-first, adding-more, adding-done}
 use borrow.Author.Needs.{needs}
 use Rattle.text.proofs.write.line_length.Statement.{statement}
 use Rattle.text.proofs.write.line_length.Tie as tie

@@ -3,7 +3,7 @@
 use Prim.Native.Nat.{_+_, _-_}
 use native.Mathlib.Omega.{arith}
 use Rattle.text.proofs.Decimal.{decimal-below}
-use Rattle.text.proofs.Lengths.{Counting, counting-first, counting-more, counted}
+use Rattle.text.proofs.Measuring.{Counting, counting-first, counting-more, counted}
 use Rattle.text.proofs.write.number_length.Statement.{statement}
 use Rattle.text.proofs.write.number_length.Tie as tie
 

@@ -3,7 +3,7 @@
 use mathlib.Core.Path.{ap}
 use native.Mathlib.Omega.{arith}
 use lib.ListN.{length}
-use Rattle.text.proofs.Lengths.{number-text, other-text}
+use Rattle.text.proofs.Rows.{number-text, other-text}
 use Rattle.text.proofs.Stores.{wrote-then, wrote-length}
 use borrow.Author.Needs.{needs}
 use Rattle.text.proofs.write.put_field.Statement.{statement}
