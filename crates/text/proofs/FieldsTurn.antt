@@ -2,14 +2,15 @@
 -- Assumes nothing.
 use mathlib.Core.Path.{_≡_, refl, sym, ap, _∙_}
 use mathlib.Core.List.{List, [], _∷_, map}
+use mathlib.Core.Bool.{true, false}
 use Prim.Native.Nat.{ℕ, suc, _+_, _-_, _≤_, _<_, max}
 use native.Mathlib.Numerals.{add-one}
 use native.Mathlib.Omega.{arith}
 use lib.ListN.{length, drop, getD, set, length-set, length-drop}
 use lib.Seq.{sets}
 use Rattle.text.specs.Text.{Field, number, until, line, fields, stateOf, valueOf, row, greatest}
-use Rattle.text.specs.Scan.{span, first, DigitAndComma}
-use Rattle.text.proofs.Scanning.{span-next, span-comma, first-more, digits-comma}
+use Rattle.text.specs.Scan.{span, first, endsLine, DigitAndComma}
+use Rattle.text.proofs.Scanning.{span-next, span-comma, first-more, digits-comma, ends-cases, goes-on}
 use Rattle.text.specs.Read.{fieldTo, tallied}
 use Rattle.text.specs.declared.field.Scanned.{Scanned}
 use Rattle.text.specs.declared.line.Tally.{Tally}
@@ -67,15 +68,15 @@ module _ (s : List ℕ) (at : ℕ) (out₀ out : List (List ℕ)) (i n worst lar
         let e₄ : c .end ≡ at + until 10 (drop at s) = omega (arith, found, u, h .place) in
         ((λ k. record { count = e₁ k; worst = e₂ k; largest = e₃ k; end = e₄ k }), put-is ∙ sym (ap (λ (x : List Field). sets out n (map row x)) e) ∙ h .stored)
 
-  pub head-out : length s ≤ c .end → (record { count = n + 1; worst = worst′; largest = largest′; end = c .end } ≡ tallied (at + until 10 (drop at s)) (from s at)) × (out′ ≡ sets out₀ 0 (map row (from s at)))
-  head-out l = last (out-fields s i (c .end) found l) (out-until s i (c .end) found l)
+  pub head-last : endsLine (drop (c .end) s) ≡ true → (record { count = n + 1; worst = worst′; largest = largest′; end = c .end } ≡ tallied (at + until 10 (drop at s)) (from s at)) × (out′ ≡ sets out₀ 0 (map row (from s at)))
+  head-last t =
+      ends-cases s (c .end) t
+      (λ l. last (out-fields s i (c .end) found l) (out-until s i (c .end) found l))
+      (λ g. last (lf-fields s i (c .end) found g) (lf-until s i (c .end) found g))
 
-  pub head-lf : getD s (c .end) 0 ≡ 10 → (record { count = n + 1; worst = worst′; largest = largest′; end = c .end } ≡ tallied (at + until 10 (drop at s)) (from s at)) × (out′ ≡ sets out₀ 0 (map row (from s at)))
-  head-lf g = last (lf-fields s i (c .end) found g) (lf-until s i (c .end) found g)
-
-  pub head-more : c .end < length s → (getD s (c .end) 0 ≡ 10 → ⊥) → Head s at out₀ out′ (c .end + 1) (n + 1) worst′ largest′
+  head-on : c .end < length s → (getD s (c .end) 0 ≡ 10 → ⊥) → Head s at out₀ out′ (c .end + 1) (n + 1) worst′ largest′
   unfolding greatest
-  head-more l g =
+  head-on l g =
       let j : ℕ = c .end in
       let R : List Field = from s (j + 1) in
       let e : from s i ≡ first (drop i s) ∷ R = comma-fields s i j found l g in
@@ -89,6 +90,9 @@ module _ (s : List ℕ) (at : ℕ) (out₀ out : List (List ℕ)) (i n worst lar
         stored = rw (add-one, put-is) (sym (ap (λ (x : List Field). sets out n (map row x)) e) ∙ h .stored);
         room = room′;
       }
+
+  pub head-more : endsLine (drop (c .end) s) ≡ false → Head s at out₀ out′ (c .end + 1) (n + 1) worst′ largest′
+  head-more t = let g = goes-on s (c .end) t in head-on (g .0) (g .1)
 
 -- the same for a digit with a comma after it
 module _ (s : List ℕ) (i : ℕ) (l : DigitAndComma s i) (d : ℕ) (is : d ≡ getD s i 0) where
@@ -107,4 +111,4 @@ module _ (s : List ℕ) (i : ℕ) (l : DigitAndComma s i) (d : ℕ) (is : d ≡ 
   head-digit at out₀ out n worst largest h out′ put largest′ up =
       let e : i + 1 + 1 ≡ i + 2 = omega arith in
       let e₀ : worst ≡ max worst 0 = omega arith in
-      rw (← e) (head-more s at out₀ out i n worst largest h (fieldTo (i + 1) (number (d - 48))) digit-scanned out′ put worst e₀ largest′ up (l .room) (λ g. omega (arith, l .comma)))
+      rw (← e) (head-on s at out₀ out i n worst largest h (fieldTo (i + 1) (number (d - 48))) digit-scanned out′ put worst e₀ largest′ up (l .room) (λ g. omega (arith, l .comma)))

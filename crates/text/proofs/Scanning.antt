@@ -6,12 +6,12 @@ use mathlib.Core.Bool.{Bool, true, false, cond}
 use Prim.Native.Nat.{ℕ, suc, _+_, _-_, _*_, _≤_, _<_}
 use native.Mathlib.Numerals.{add-one}
 use native.Mathlib.Omega.{arith}
-use lib.Dec.{eqb, leb}
+use lib.Dec.{eqb, leb, ltb}
 use lib.ListN.{length, drop, getD, drop-of-length-le}
 use lib.Seq.{drop-cons}
-use borrow.Author.Tests.{eq-eqb, ne-eqb, le-leb, lt-leb}
+use borrow.Author.Tests.{eq-eqb, ne-eqb, le-leb, lt-leb, eqb-true, eqb-false, ltb-true, ltb-false}
 use Rattle.text.specs.Text.{Field, number, empty, malformed, most}
-use Rattle.text.specs.Scan.{span, moreDigits, first}
+use Rattle.text.specs.Scan.{span, moreDigits, first, endsLine}
 
 pub span-end : (s : List ℕ) (i : ℕ) → length s ≤ i → span (drop i s) ≡ 0
 unfolding span
@@ -91,3 +91,30 @@ module _ (s : List ℕ) (i d : ℕ) (h : i < length s) (is : d ≡ getD s i 0) w
             pub digits-next : n * 10 + (d - 48) ≤ most → moreDigits n (drop i s) ≡ moreDigits (n * 10 + (d - 48)) (drop (i + 1) s)
             unfolding moreDigits
             digits-next e = rw (add-one, drop-cons s i 0 h, ← is, ne-eqb d 44 n44, ne-eqb d 10 n10, le-leb 48 d low, le-leb d 57 high, ne-eqb n 0 n0, le-leb _ _ e)
+
+-- whether the line ends at a place
+module _ (s : List ℕ) (i : ℕ) where
+  pub ends-out : length s ≤ i → endsLine (drop i s) ≡ true
+  unfolding endsLine
+  ends-out h = rw (drop-of-length-le s h)
+
+  pub ends-at : i < length s → endsLine (drop i s) ≡ eqb (getD s i 0) 10
+  unfolding endsLine
+  ends-at h = rw (drop-cons s i 0 h)
+
+  ends·at : {T : Type 0} (t : Bool) → ltb i (length s) ≡ t → endsLine (drop i s) ≡ true → (length s ≤ i → T) → (getD s i 0 ≡ 10 → T) → T
+  ends·at true t e out lf = lf (eqb-true (getD s i 0) 10 (sym (ends-at (ltb-true i (length s) t)) ∙ e))
+  ends·at false t e out lf = out (ltb-false i (length s) t)
+
+  pub ends-cases : {T : Type 0} → endsLine (drop i s) ≡ true → (length s ≤ i → T) → (getD s i 0 ≡ 10 → T) → T
+  ends-cases = ends·at (ltb i (length s)) refl
+
+  goes·at : (t : Bool) → ltb i (length s) ≡ t → endsLine (drop i s) ≡ false → (i < length s) × (getD s i 0 ≡ 10 → ⊥)
+  goes·at true t e = let h = ltb-true i (length s) t in (h, eqb-false (getD s i 0) 10 (sym (ends-at h) ∙ e))
+  goes·at false t e =
+      let q : endsLine (drop i s) ≡ true = ends-out (ltb-false i (length s) t) in
+      let z : _≡_ {A = ℕ} 0 1 = cc in
+      absurd (omega arith)
+
+  pub goes-on : endsLine (drop i s) ≡ false → (i < length s) × (getD s i 0 ≡ 10 → ⊥)
+  goes-on = goes·at (ltb i (length s)) refl

@@ -4,7 +4,7 @@ use mathlib.Core.Path.{_≡_}
 use Prim.Native.Nat.{ℕ, zero, suc, _+_, _-_, _*_, _≤_, _<_}
 use lib.ListN.{length, getD}
 use mathlib.Core.List.{List, [], _∷_}
-use mathlib.Core.Bool.{Bool, cond}
+use mathlib.Core.Bool.{Bool, true, cond}
 use lib.Dec.{leb, eqb}
 use Rattle.text.specs.Text.{Field, number, empty, malformed, most}
 
@@ -29,6 +29,11 @@ first (b ∷ bs) =
     cond (eqb b 44) empty
     (cond (eqb b 10) empty
     (cond (leb 48 b) (cond (leb b 57) (moreDigits (b - 48) bs) malformed) malformed))
+
+-- an LF, or nothing more
+unfoldable pub endsLine : List ℕ → Bool
+endsLine [] = true
+endsLine (x ∷ xs) = eqb x 10
 
 pub record DigitAndComma (s : List ℕ) (i : ℕ) : Type 0 where
   pub room : i + 1 < length s

@@ -3,7 +3,7 @@ ghost use mathlib.Core.Path.{_≡_};
 ghost use mathlib.Core.Bool.{true};
 ghost use Prim.Native.Nat.{_+_};
 ghost use lib.ListN.{drop};
-ghost use Rattle.text.specs.Text.{malformed};
+ghost use Rattle.text.specs.Text.{number, empty, malformed};
 ghost use Rattle.text.specs.Scan.{span, moreDigits, first, DigitAndComma};
 ghost use Rattle.text.specs.Read.{fieldTo};
 
@@ -23,6 +23,26 @@ pub(crate) fn widened(b: u8) -> u64
     ensures { λ r. ⌜ r ≡ b ⌝ }
 {
     b as u64
+}
+
+fn number_to(end: usize, n: u64) -> Scanned
+    ensures { λ r. ⌜ r ≡ fieldTo end (number n) ⌝ }
+{
+    Scanned {
+        end,
+        state: 0,
+        value: n,
+    }
+}
+
+fn empty_to(end: usize) -> Scanned
+    ensures { λ r. ⌜ r ≡ fieldTo end empty ⌝ }
+{
+    Scanned {
+        end,
+        state: 1,
+        value: 0,
+    }
 }
 
 // The place of the first comma or LF from `at` on, or the length.
@@ -64,18 +84,10 @@ fn more_digits(s: &[u8], at: usize, begun: u64) -> Scanned
     while i < s.len() {
         let b = widened(s[i]);
         if b == 44 {
-            return Scanned {
-                end: i,
-                state: 0,
-                value: n,
-            };
+            return number_to(i, n);
         }
         if b == 10 {
-            return Scanned {
-                end: i,
-                state: 0,
-                value: n,
-            };
+            return number_to(i, n);
         }
         if b < 48 {
             return malformed_at(s, i);
@@ -97,11 +109,7 @@ fn more_digits(s: &[u8], at: usize, begun: u64) -> Scanned
         n = m + d;
         i += 1;
     }
-    Scanned {
-        end: i,
-        state: 0,
-        value: n,
-    }
+    number_to(i, n)
 }
 
 // The field that begins at `at`.
@@ -109,26 +117,14 @@ pub(crate) fn field_at(s: &[u8], at: usize) -> Scanned
     ensures { λ r. ⌜ r ≡ fieldTo (at + span (drop at (now (s .entry)))) (first (drop at (now (s .entry)))) ⌝ }
 {
     if s.len() <= at {
-        return Scanned {
-            end: at,
-            state: 1,
-            value: 0,
-        };
+        return empty_to(at);
     }
     let b = widened(s[at]);
     if b == 44 {
-        return Scanned {
-            end: at,
-            state: 1,
-            value: 0,
-        };
+        return empty_to(at);
     }
     if b == 10 {
-        return Scanned {
-            end: at,
-            state: 1,
-            value: 0,
-        };
+        return empty_to(at);
     }
     if b < 48 {
         return malformed_at(s, at);

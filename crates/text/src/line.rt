@@ -5,6 +5,7 @@ ghost use Prim.Native.Nat.{_+_, max};
 ghost use lib.ListN.{drop, set};
 ghost use lib.Seq.{sets};
 ghost use Rattle.text.specs.Text.{until, line, fields, lineFields, lineAt, after, row};
+ghost use Rattle.text.specs.Scan.{endsLine};
 ghost use Rattle.text.specs.Read.{tallied, lineRead, storedIn};
 use crate::field::digit_and_comma;
 use crate::field::field_at;
@@ -24,6 +25,16 @@ fn greater(a: u64, b: u64) -> u64
     ensures { λ r. ⌜ r ≡ max a b ⌝ }
 {
     if a < b { b } else { a }
+}
+
+// The line ends at `at`: at an LF, or with the text.
+fn line_ended(s: &[u8], at: usize) -> bool
+    ensures { λ r. ⌜ r ≡ endsLine (drop at (now (s .entry))) ⌝ }
+{
+    if s.len() <= at {
+        return true;
+    }
+    s[at] == 10
 }
 
 // How many fields, the largest of their states, the largest of their values, and the place of the LF or the text's length.
@@ -60,15 +71,7 @@ pub fn fields_at(s: &[u8], at: usize, out: &mut [[u64; 2]]) -> Tally
         worst = greater(worst, state);
         largest = greater(largest, value);
         n += 1;
-        if s.len() <= end {
-            return Tally {
-                count: n,
-                worst,
-                largest,
-                end,
-            };
-        }
-        if s[end] == 10 {
+        if line_ended(s, end) {
             return Tally {
                 count: n,
                 worst,

@@ -8,8 +8,11 @@ use borrow.Author.Needs.{needs}
 use Rattle.text.proofs.field.field_at.Statement.{statement}
 use Rattle.text.proofs.field.field_at.Tie as tie
 
+empty-to-requires : tie.Need-empty-to-requires
+empty-to-requires c κs = search needs
+
 returns : tie.Need-returns
-returns c = let s = c .before .before .args .s .now in let a = c .before .before .args .at in begin-none s a (span-end s a (c .if1 .taken)) (first-end s a (c .if1 .taken))
+returns c = let s = c .before .before .before .args .s .now in let a = c .before .before .before .args .at in c .empty-to .ensures ∙ begin-none s a (span-end s a (c .before .if1 .taken)) (first-end s a (c .before .if1 .taken))
 
 shared-slice-read-widened : tie.Need-shared-slice-read-widened
 shared-slice-read-widened c = search needs
@@ -17,11 +20,17 @@ shared-slice-read-widened c = search needs
 widened-requires : tie.Need-widened-requires
 widened-requires c κs = search needs
 
+empty-to-requires-2 : tie.Need-empty-to-requires-2
+empty-to-requires-2 c κs = search needs
+
 returns-2 : tie.Need-returns-2
-returns-2 c = let w = c .before in let s = c .before .before .before .before .before .args .s .now in let a = c .before .before .before .before .before .args .at in let d = w .widened .result in let h : a < length s = omega arith in begin-none s a (span-comma s a d h (w .widened .ensures) (c .if2 .taken)) (first-comma s a d h (w .widened .ensures) (c .if2 .taken))
+returns-2 c = let w = c .before .before in let s = c .before .before .before .before .before .before .args .s .now in let a = c .before .before .before .before .before .before .args .at in let d = w .widened .result in let h : a < length s = omega arith in c .empty-to2 .ensures ∙ begin-none s a (span-comma s a d h (w .widened .ensures) (c .before .if2 .taken)) (first-comma s a d h (w .widened .ensures) (c .before .if2 .taken))
+
+empty-to-requires-3 : tie.Need-empty-to-requires-3
+empty-to-requires-3 c κs = search needs
 
 returns-3 : tie.Need-returns-3
-returns-3 c = let w = c .before .before in let s = c .before .before .before .before .before .before .args .s .now in let a = c .before .before .before .before .before .before .args .at in let d = w .widened .result in let h : a < length s = omega arith in begin-none s a (span-lf s a d h (w .widened .ensures) (c .before .if2 .left) (c .if3 .taken)) (first-lf s a d h (w .widened .ensures) (c .before .if2 .left) (c .if3 .taken))
+returns-3 c = let w = c .before .before .before in let s = c .before .before .before .before .before .before .before .args .s .now in let a = c .before .before .before .before .before .before .before .args .at in let d = w .widened .result in let h : a < length s = omega arith in c .empty-to3 .ensures ∙ begin-none s a (span-lf s a d h (w .widened .ensures) (c .before .before .if2 .left) (c .before .if3 .taken)) (first-lf s a d h (w .widened .ensures) (c .before .before .if2 .left) (c .before .if3 .taken))
 
 malformed-at-requires : tie.Need-malformed-at-requires
 malformed-at-requires c κs = search needs
@@ -48,10 +57,13 @@ pub field-at-spec : {M : Type 1} → statement M
 field-at-spec =
     tie.close
     (tie.spec
+    empty-to-requires
     returns
     shared-slice-read-widened
     widened-requires
+    empty-to-requires-2
     returns-2
+    empty-to-requires-3
     returns-3
     malformed-at-requires
     returns-4

@@ -24,11 +24,17 @@ shared-slice-read-widened c = omega arith
 widened-requires : tie.Need-widened-requires Inv-loop μ-loop
 widened-requires c κs = search needs
 
+number-to-requires : tie.Need-number-to-requires Inv-loop μ-loop
+number-to-requires c κs = search needs
+
 returns : tie.Need-returns Inv-loop μ-loop
-returns c = let w = c .before in let l = w .before .before .before in let s = l .before .before .args .s .now in let d = w .widened .result in let h : l .loop .i < length s = omega arith in going-done s (l .before .before .args .at) (l .before .before .args .begun) (l .loop .i) (l .loop .n) (l .loop .inv) (span-comma s (l .loop .i) d h (w .widened .ensures) (c .if1 .taken)) (digits-comma s (l .loop .i) d h (w .widened .ensures) (l .loop .n) (c .if1 .taken))
+returns c = let w = c .before .before in let l = w .before .before .before in let s = l .before .before .args .s .now in let d = w .widened .result in let h : l .loop .i < length s = omega arith in c .number-to .ensures ∙ going-done s (l .before .before .args .at) (l .before .before .args .begun) (l .loop .i) (l .loop .n) (l .loop .inv) (span-comma s (l .loop .i) d h (w .widened .ensures) (c .before .if1 .taken)) (digits-comma s (l .loop .i) d h (w .widened .ensures) (l .loop .n) (c .before .if1 .taken))
+
+number-to-requires-2 : tie.Need-number-to-requires-2 Inv-loop μ-loop
+number-to-requires-2 c κs = search needs
 
 returns-2 : tie.Need-returns-2 Inv-loop μ-loop
-returns-2 c = let w = c .before .before in let l = w .before .before .before in let s = l .before .before .args .s .now in let d = w .widened .result in let h : l .loop .i < length s = omega arith in going-done s (l .before .before .args .at) (l .before .before .args .begun) (l .loop .i) (l .loop .n) (l .loop .inv) (span-lf s (l .loop .i) d h (w .widened .ensures) (c .before .if1 .left) (c .if2 .taken)) (digits-lf s (l .loop .i) d h (w .widened .ensures) (c .before .if1 .left) (l .loop .n) (c .if2 .taken))
+returns-2 c = let w = c .before .before .before in let l = w .before .before .before in let s = l .before .before .args .s .now in let d = w .widened .result in let h : l .loop .i < length s = omega arith in c .number-to2 .ensures ∙ going-done s (l .before .before .args .at) (l .before .before .args .begun) (l .loop .i) (l .loop .n) (l .loop .inv) (span-lf s (l .loop .i) d h (w .widened .ensures) (c .before .before .if1 .left) (c .before .if2 .taken)) (digits-lf s (l .loop .i) d h (w .widened .ensures) (c .before .before .if1 .left) (l .loop .n) (c .before .if2 .taken))
 
 malformed-at-requires : tie.Need-malformed-at-requires Inv-loop μ-loop
 malformed-at-requires c κs = search needs
@@ -78,8 +84,11 @@ loop-less c = omega arith
 loop-again : tie.Need-loop-again Inv-loop μ-loop
 loop-again c = let w = c .before .before .before .before .before .before .before in let l = w .before .before .before in let s = l .before .before .args .s .now in let d = w .widened .result in let h : l .loop .i < length s = omega arith in going-on s (l .before .before .args .at) (l .before .before .args .begun) (l .loop .i) (l .loop .n) (l .loop .inv) _ (span-next s (l .loop .i) d h (w .widened .ensures) (c .before .before .before .before .before .before .if1 .left) (c .before .before .before .before .before .if2 .left)) (digits-next s (l .loop .i) d h (w .widened .ensures) (c .before .before .before .before .before .before .if1 .left) (c .before .before .before .before .before .if2 .left) (omega arith) (omega arith) (l .loop .n) (c .before .before .if5 .left) (omega arith))
 
+number-to-requires-3 : tie.Need-number-to-requires-3 Inv-loop μ-loop
+number-to-requires-3 c κs = search needs
+
 returns-8 : tie.Need-returns-8 Inv-loop μ-loop
-returns-8 c = let l = c .before in let s = l .before .before .args .s .now in going-done s (l .before .before .args .at) (l .before .before .args .begun) (l .loop .i) (l .loop .n) (l .loop .inv) (span-end s (l .loop .i) (c .loop-test .left)) (digits-end (l .loop .n) s (l .loop .i) (c .loop-test .left))
+returns-8 c = let l = c .before .before in let s = l .before .before .args .s .now in c .number-to3 .ensures ∙ going-done s (l .before .before .args .at) (l .before .before .args .begun) (l .loop .i) (l .loop .n) (l .loop .inv) (span-end s (l .loop .i) (c .before .loop-test .left)) (digits-end (l .loop .n) s (l .loop .i) (c .before .loop-test .left))
 
 pub more-digits-spec : {M : Type 1} → statement M
 more-digits-spec =
@@ -90,7 +99,9 @@ more-digits-spec =
     loop-holds
     shared-slice-read-widened
     widened-requires
+    number-to-requires
     returns
+    number-to-requires-2
     returns-2
     malformed-at-requires
     returns-3
@@ -108,4 +119,5 @@ more-digits-spec =
     add-i
     loop-less
     loop-again
+    number-to-requires-3
     returns-8)

@@ -1,9 +1,12 @@
-use Prim.Native.Nat.{_+_, _-_, _≤_, _<_}
-use mathlib.Core.Path.{_≡_, refl, sym, _∙_}
+-- `fields_at` meets its contract: what the fields from `i` on give, after those stored and counted, is what all of them give.
+-- Assumes nothing.
+use Prim.Native.Nat.{_-_, _<_}
+use mathlib.Core.Path.{sym, _∙_}
 use native.Mathlib.Omega.{arith}
+use lib.ListN.{length}
+use Rattle.text.proofs.Scanning.{goes-on}
+use Rattle.text.proofs.FieldsTurn.{Head, head-first, head-last, head-more, head-digit, found-ge, room′}
 use borrow.Author.Needs.{needs}
-use lib.ListN.{length, drop}
-use Rattle.text.proofs.FieldsTurn.{Head, head-first, head-out, head-lf, head-more, head-digit, found-le, found-ge, room′}
 use Rattle.text.proofs.line.fields_at.Statement.{statement}
 use Rattle.text.proofs.line.fields_at.Tie as tie
 
@@ -61,29 +64,23 @@ greater-requires-3 c κs = search needs
 add-n-2 : tie.Need-add-n-2 Inv-loop μ-loop
 add-n-2 c = omega arith
 
+line-ended-requires : tie.Need-line-ended-requires Inv-loop μ-loop
+line-ended-requires c κs = search needs
+
 same-length : tie.Need-same-length Inv-loop μ-loop
-same-length c = room′ _ _ _ _ _ _ _ _ (c .before .before .before .before .before .before .before .before .before .loop .inv) _ (c .before .before .before .before .before .before .field-at .ensures) _ (c .before .before .before .before .store-row2 .ensures) _ (c .before .before .greater2 .ensures) _ (c .before .greater3 .ensures)
+same-length c = room′ _ _ _ _ _ _ _ _ (c .before .before .before .before .before .before .before .before .before .before .loop .inv) _ (c .before .before .before .before .before .before .before .field-at .ensures) _ (c .before .before .before .before .before .store-row2 .ensures) _ (c .before .before .before .greater2 .ensures) _ (c .before .before .greater3 .ensures)
 
 returns : tie.Need-returns Inv-loop μ-loop
-returns c = head-out _ _ _ _ _ _ _ _ (c .before .before .before .before .before .before .before .before .before .loop .inv) _ (c .before .before .before .before .before .before .field-at .ensures) _ (c .before .before .before .before .store-row2 .ensures) _ (c .before .before .greater2 .ensures) _ (c .before .greater3 .ensures) (c .if2 .taken)
-
-shared-slice-read-if3 : tie.Need-shared-slice-read-if3 Inv-loop μ-loop
-shared-slice-read-if3 c = omega arith
-
-same-length-2 : tie.Need-same-length-2 Inv-loop μ-loop
-same-length-2 c = room′ _ _ _ _ _ _ _ _ (c .before .before .before .before .before .before .before .before .before .before .before .loop .inv) _ (c .before .before .before .before .before .before .before .before .field-at .ensures) _ (c .before .before .before .before .before .before .store-row2 .ensures) _ (c .before .before .before .before .greater2 .ensures) _ (c .before .before .before .greater3 .ensures)
-
-returns-2 : tie.Need-returns-2 Inv-loop μ-loop
-returns-2 c = head-lf _ _ _ _ _ _ _ _ (c .before .before .before .before .before .before .before .before .before .before .before .loop .inv) _ (c .before .before .before .before .before .before .before .before .field-at .ensures) _ (c .before .before .before .before .before .before .store-row2 .ensures) _ (c .before .before .before .before .greater2 .ensures) _ (c .before .before .before .greater3 .ensures) (c .if3 .taken)
+returns c = head-last _ _ _ _ _ _ _ _ (c .before .before .before .before .before .before .before .before .before .before .loop .inv) _ (c .before .before .before .before .before .before .before .field-at .ensures) _ (c .before .before .before .before .before .store-row2 .ensures) _ (c .before .before .before .greater2 .ensures) _ (c .before .before .greater3 .ensures) (sym (c .before .line-ended .ensures) ∙ c .if2 .taken)
 
 add-i-2 : tie.Need-add-i-2 Inv-loop μ-loop
-add-i-2 c = omega arith
+add-i-2 c = omega (arith, goes-on (c .before .before .before .before .before .before .before .before .before .before .before .before .args .s .now) (c .before .before .before .before .before .before .before .field-at .result .end) (sym (c .before .line-ended .ensures) ∙ c .if2 .left))
 
 loop-less-2 : tie.Need-loop-less-2 Inv-loop μ-loop
-loop-less-2 c = omega (arith, found-ge _ _ _ _ _ _ _ _ (c .before .before .before .before .before .before .before .before .before .before .before .loop .inv) _ (c .before .before .before .before .before .before .before .before .field-at .ensures) _ (c .before .before .before .before .before .before .store-row2 .ensures) _ (c .before .before .before .before .greater2 .ensures) _ (c .before .before .before .greater3 .ensures))
+loop-less-2 c = omega (arith, found-ge _ _ _ _ _ _ _ _ (c .before .before .before .before .before .before .before .before .before .before .loop .inv) _ (c .before .before .before .before .before .before .before .field-at .ensures) _ (c .before .before .before .before .before .store-row2 .ensures) _ (c .before .before .before .greater2 .ensures) _ (c .before .before .greater3 .ensures), goes-on (c .before .before .before .before .before .before .before .before .before .before .before .before .args .s .now) (c .before .before .before .before .before .before .before .field-at .result .end) (sym (c .before .line-ended .ensures) ∙ c .if2 .left))
 
 loop-again-2 : tie.Need-loop-again-2 Inv-loop μ-loop
-loop-again-2 c = head-more _ _ _ _ _ _ _ _ (c .before .before .before .before .before .before .before .before .before .before .before .loop .inv) _ (c .before .before .before .before .before .before .before .before .field-at .ensures) _ (c .before .before .before .before .before .before .store-row2 .ensures) _ (c .before .before .before .before .greater2 .ensures) _ (c .before .before .before .greater3 .ensures) (c .before .before .if2 .left) (c .if3 .left)
+loop-again-2 c = head-more _ _ _ _ _ _ _ _ (c .before .before .before .before .before .before .before .before .before .before .loop .inv) _ (c .before .before .before .before .before .before .before .field-at .ensures) _ (c .before .before .before .before .before .store-row2 .ensures) _ (c .before .before .before .greater2 .ensures) _ (c .before .before .greater3 .ensures) (sym (c .before .line-ended .ensures) ∙ c .if2 .left)
 
 pub fields-at-spec : {M : Type 1} → statement M
 fields-at-spec =
@@ -107,11 +104,9 @@ fields-at-spec =
     greater-requires-2
     greater-requires-3
     add-n-2
+    line-ended-requires
     same-length
     returns
-    shared-slice-read-if3
-    same-length-2
-    returns-2
     add-i-2
     loop-less-2
     loop-again-2)
