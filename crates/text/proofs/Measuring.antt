@@ -1,6 +1,6 @@
 -- The turns of the loops that give lengths, on plain values.
 -- Assumes nothing.
-use mathlib.Core.Path.{_≡_, refl, sym, ap}
+use mathlib.Core.Path.{_≡_, refl, ap}
 use mathlib.Core.List.{List, [], _∷_, map}
 use mathlib.Core.Bool.{Bool, true, false}
 use Prim.Native.Nat.{ℕ, suc, _+_, _*_, _/_, _^_, _≤_, _<_, max}
@@ -55,10 +55,10 @@ module _ (n power k : ℕ) (c : Counting n power k) where
 pub record Adding (rows : List (List ℕ)) (n i : ℕ) : Type 0 where
   pub within : i ≤ length rows
   pub near : n ≤ 2 + 21 * i
-  pub rest : n + length (fieldsText (map rowField (drop i rows))) ≡ length (lineText 0 (map rowField rows))
+  pub rest : n + length (fieldsText (map rowField (drop i rows))) ≡ 2 + length (fieldsText (map rowField rows))
 
 pub adding-first : (rows : List (List ℕ)) → Adding rows 2 0
-adding-first rows = record { within = omega arith; near = omega arith; rest = sym (line-length 0 (map rowField rows)) }
+adding-first rows = record { within = omega arith; near = omega arith; rest = refl }
 
 module _ (rows : List (List ℕ)) (n i : ℕ) (a : Adding rows n i) where
   pub adding-more : i < length rows → (k : ℕ) → k ≡ length (fieldText (rowField (getD rows i []))) → k ≤ 20 → Adding rows (n + 1 + k) (i + 1)
@@ -69,6 +69,6 @@ module _ (rows : List (List ℕ)) (n i : ℕ) (a : Adding rows n i) where
         rest = omega (arith, a .rest, ap length (rows-text rows i h), length-append (44 ∷ fieldText (rowField (getD rows i []))) (fieldsText (map rowField (drop (i + 1) rows))));
       }
 
-  pub adding-done : length rows ≤ i → n ≡ length (lineText 0 (map rowField rows))
+  pub adding-done : length rows ≤ i → (letter : ℕ) → n ≡ length (lineText letter (map rowField rows))
   unfolding fieldsText
-  adding-done h = omega (arith, simp (drop-of-length-le rows h) at (a .rest))
+  adding-done h letter = omega (arith, simp (drop-of-length-le rows h) at (a .rest), line-length letter (map rowField rows))

@@ -1,7 +1,7 @@
 // Writes numbers, fields and lines where there is room for them, and gives their exact length beforehand.
 ghost use mathlib.Core.Path.{_≡_};
 ghost use mathlib.Core.List.{[], _∷_, map, _++_};
-ghost use Prim.Native.Nat.{_+_, _-_, _≤_, _<_};
+ghost use Prim.Native.Nat.{ℕ, _+_, _-_, _≤_, _<_};
 ghost use lib.ListN.{length};
 ghost use lib.Seq.{sets};
 ghost use Rattle.text.specs.Write.{decimal, fieldOf, rowField, fieldText, fieldsText, lineText, Wrote};
@@ -31,9 +31,9 @@ pub fn field_length(state: u64, value: u64) -> usize
     number_length(value)
 }
 
-// The length of a line, its letter and LF among it.
+// The length of the rows' line, whatever its letter.
 pub fn line_length(rows: &[[u64; 2]]) -> usize
-    ensures { λ r. ⌜ r ≡ length (lineText 0 (map rowField (now (rows .entry)))) ⌝ }
+    ensures { λ r. ⌜ ((letter : ℕ) → r ≡ length (lineText letter (map rowField (now (rows .entry))))) ⌝ }
 {
     let mut n: usize = 2;
     let mut i: usize = 0;

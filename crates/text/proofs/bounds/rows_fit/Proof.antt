@@ -41,7 +41,7 @@ index-2-if2-2 : tie.Need-index-2-if2-2 Inv-loop μ-loop
 index-2-if2-2 c = search needs
 
 returns-2 : tie.Need-returns-2 Inv-loop μ-loop
-returns-2 c = let l = c .before .before .before .before .loop in let a = c .before .before .before .before .before .before .args in let e : length (a .bounds .now) ≡ length (a .rows .now) = omega arith in sym (fits-state (a .bounds .now) (a .rows .now) (l .i) e (omega arith) (c .if2 .taken)) ∙ l .inv .1
+returns-2 c = let l = c .before .before .before .before .loop in let a = c .before .before .before .before .before .before .args in let e : length (a .bounds .now) ≡ length (a .rows .now) = omega arith in sym (fits-state (a .bounds .now) (a .rows .now) (l .i) e (omega arith) (omega arith)) ∙ l .inv .1
 
 mul-if3 : tie.Need-mul-if3 Inv-loop μ-loop
 mul-if3 c = search needs
@@ -62,7 +62,7 @@ index-2-if3-2 : tie.Need-index-2-if3-2 Inv-loop μ-loop
 index-2-if3-2 c = search needs
 
 returns-3 : tie.Need-returns-3 Inv-loop μ-loop
-returns-3 c = let l = c .before .before .before .before .before .before .before .loop in let a = c .before .before .before .before .before .before .before .before .before .args in let e : length (a .bounds .now) ≡ length (a .rows .now) = omega arith in sym (fits-value (a .bounds .now) (a .rows .now) (l .i) e (omega arith) (c .if3 .taken)) ∙ l .inv .1
+returns-3 c = let l = c .before .before .before .before .before .before .before .loop in let a = c .before .before .before .before .before .before .before .before .before .args in let e : length (a .bounds .now) ≡ length (a .rows .now) = omega arith in sym (fits-value (a .bounds .now) (a .rows .now) (l .i) e (omega arith) (omega arith)) ∙ l .inv .1
 
 add-i : tie.Need-add-i Inv-loop μ-loop
 add-i c = omega arith
@@ -71,7 +71,7 @@ loop-less : tie.Need-loop-less Inv-loop μ-loop
 loop-less c = omega arith
 
 loop-again : tie.Need-loop-again Inv-loop μ-loop
-loop-again c = let l = c .before .before .before .before .before .before .before .loop in let a = c .before .before .before .before .before .before .before .before .before .args in let e : length (a .bounds .now) ≡ length (a .rows .now) = omega arith in (omega arith, sym (fits-next (a .bounds .now) (a .rows .now) (l .i) e (omega arith) (c .before .before .before .if2 .left) (c .if3 .left)) ∙ l .inv .1)
+loop-again c = let l = c .before .before .before .before .before .before .before .loop in let a = c .before .before .before .before .before .before .before .before .before .args in let e : length (a .bounds .now) ≡ length (a .rows .now) = omega arith in (omega arith, sym (fits-next (a .bounds .now) (a .rows .now) (l .i) e (omega arith) (omega arith) (omega arith)) ∙ l .inv .1)
 
 returns-4 : tie.Need-returns-4 Inv-loop μ-loop
 returns-4 c = let l = c .before .loop in let a = c .before .before .before .args in let e : length (a .bounds .now) ≡ length (a .rows .now) = omega arith in sym (fits-end (a .bounds .now) (a .rows .now) (l .i) e (omega arith)) ∙ l .inv .1
