@@ -23,8 +23,8 @@ pub record Counting (n power k : ℕ) : Type 0 where
   pub within : power ≤ max n 1
   pub few : k ≤ power
 
-pub counting-first : (n : ℕ) → Counting n 1 1
-counting-first n = record { exponent = 0; count = refl; is = refl; within = omega arith; few = omega arith }
+pub counting-first : (n power k : ℕ) → power ≡ 1 → k ≡ 1 → Counting n power k
+counting-first n power k e f = record { exponent = 0; count = f; is = e; within = omega arith; few = omega arith }
 
 module _ (n power k : ℕ) (c : Counting n power k) where
   pub counting-more : power ≤ n / 10 → Counting n (power * 10) (k + 1)
@@ -57,8 +57,8 @@ pub record Adding (rows : List (List ℕ)) (n i : ℕ) : Type 0 where
   pub near : n ≤ 2 + 21 * i
   pub rest : n + length (fieldsText (map rowField (drop i rows))) ≡ 2 + length (fieldsText (map rowField rows))
 
-pub adding-first : (rows : List (List ℕ)) → Adding rows 2 0
-adding-first rows = record { within = omega arith; near = omega arith; rest = refl }
+pub adding-first : (rows : List (List ℕ)) (n : ℕ) → n ≡ 2 → Adding rows n 0
+adding-first rows n e = record { within = omega arith; near = omega arith; rest = rw e }
 
 module _ (rows : List (List ℕ)) (n i : ℕ) (a : Adding rows n i) where
   pub adding-more : i < length rows → (k : ℕ) → k ≡ length (fieldText (rowField (getD rows i []))) → k ≤ 20 → Adding rows (n + 1 + k) (i + 1)

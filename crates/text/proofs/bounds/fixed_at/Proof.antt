@@ -1,3 +1,5 @@
+-- `fixed_at` meets its contract: what is judged are the rows of the line that was read.
+-- Assumes nothing.
 use mathlib.Core.Path.{sym, _∙_}
 use native.Mathlib.Omega.{arith}
 use borrow.Author.Tests.{not-true, not-false}
@@ -20,13 +22,13 @@ same-length : tie.Need-same-length
 same-length c = search needs
 
 returns : tie.Need-returns
-returns c = (wrong (c .before .before .before .before .before .before .args .bounds .now) (after (c .before .before .before .before .before .before .args .s .now) (c .before .before .before .before .before .before .args .at)) (lineAt (c .before .before .before .before .before .before .args .letter) (c .before .before .before .before .before .before .args .s .now) (c .before .before .before .before .before .before .args .at)) (sym (c .enum-told .given .1) ∙ c .before .before .before .line-at .ensures .0), c .before .before .before .line-at .ensures .1)
+returns c = let a = c .before .before .before .before .before .before .args in let r = c .before .before .before .line-at .ensures in (wrong (a .bounds .now) (after (a .s .now) (a .at)) (lineAt (a .letter) (a .s .now) (a .at)) (sym (c .enum-told .given .1) ∙ r .0), r .1)
 
 same-length-2 : tie.Need-same-length-2
 same-length-2 c = search needs
 
 returns-2 : tie.Need-returns-2
-returns-2 c = (other-count (c .before .before .before .before .before .before .before .before .args .bounds .now) (c .before .before .before .before .before .before .before .before .args .letter) (c .before .before .before .before .before .before .before .before .args .s .now) (c .before .before .before .before .before .before .before .before .args .at) _ _ _ _ (sym (c .before .before .count .given .1) ∙ c .before .before .before .before .before .line-at .ensures .0) (c .if1 .taken), c .before .before .before .before .before .line-at .ensures .1)
+returns-2 c = let a = c .before .before .before .before .before .before .before .before .args in let r = c .before .before .before .before .before .line-at .ensures in (other-count (a .bounds .now) (a .letter) (a .s .now) (a .at) _ _ _ _ (sym (c .before .before .count .given .1) ∙ r .0) (λ e. omega arith), r .1)
 
 sub-rows-fit : tie.Need-sub-rows-fit
 sub-rows-fit c = search needs
@@ -44,13 +46,13 @@ same-length-3 : tie.Need-same-length-3
 same-length-3 c = search needs
 
 returns-3 : tie.Need-returns-3
-returns-3 c = (unfit (c .before .before .before .before .before .before .before .before .before .before .before .before .args .bounds .now) (c .before .before .before .before .before .before .before .before .before .before .before .before .args .letter) (c .before .before .before .before .before .before .before .before .before .before .before .before .args .s .now) (c .before .before .before .before .before .before .before .before .before .before .before .before .args .at) _ _ _ _ (sym (c .before .before .before .before .before .before .count .given .1) ∙ c .before .before .before .before .before .before .before .before .before .line-at .ensures .0) _ _ (c .before .before .before .before .before .before .before .before .before .line-at .ensures .1) (omega arith) _ (c .before .rows-fit .ensures) (not-true _ (c .if2 .taken)), c .before .before .before .before .before .before .before .before .before .line-at .ensures .1)
+returns-3 c = let a = c .before .before .before .before .before .before .before .before .before .before .before .before .args in let r = c .before .before .before .before .before .before .before .before .before .line-at .ensures in (unfit (a .bounds .now) (a .letter) (a .s .now) (a .at) _ _ _ _ (sym (c .before .before .before .before .before .before .count .given .1) ∙ r .0) _ _ (r .1) (omega arith) _ (c .before .rows-fit .ensures) (not-true _ (c .if2 .taken)), r .1)
 
 same-length-4 : tie.Need-same-length-4
 same-length-4 c = search needs
 
 returns-4 : tie.Need-returns-4
-returns-4 c = (fit (c .before .before .before .before .before .before .before .before .before .before .before .before .args .bounds .now) (c .before .before .before .before .before .before .before .before .before .before .before .before .args .letter) (c .before .before .before .before .before .before .before .before .before .before .before .before .args .s .now) (c .before .before .before .before .before .before .before .before .before .before .before .before .args .at) _ _ _ _ (sym (c .before .before .before .before .before .before .count .given .1) ∙ c .before .before .before .before .before .before .before .before .before .line-at .ensures .0) _ _ (c .before .before .before .before .before .before .before .before .before .line-at .ensures .1) (omega arith) _ (c .before .rows-fit .ensures) (not-false _ (c .if2 .left)), c .before .before .before .before .before .before .before .before .before .line-at .ensures .1)
+returns-4 c = let a = c .before .before .before .before .before .before .before .before .before .before .before .before .args in let r = c .before .before .before .before .before .before .before .before .before .line-at .ensures in (fit (a .bounds .now) (a .letter) (a .s .now) (a .at) _ _ _ _ (sym (c .before .before .before .before .before .before .count .given .1) ∙ r .0) _ _ (r .1) (omega arith) _ (c .before .rows-fit .ensures) (not-false _ (c .if2 .left)), r .1)
 
 pub fixed-at-spec : {M : Type 1} → statement M
 fixed-at-spec =

@@ -1,3 +1,5 @@
+-- `digit_and_comma` meets its contract: it says yes only where each of its tests does.
+-- Assumes nothing.
 use Prim.Native.Nat.{ℕ}
 use mathlib.Core.Path.{_≡_}
 use native.Mathlib.Omega.{arith}

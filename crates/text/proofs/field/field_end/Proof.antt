@@ -1,3 +1,5 @@
+-- `field_end` meets its contract: the place of the first comma or LF from `i` on is that from `at` on.
+-- Assumes nothing.
 use Prim.Native.Nat.{_+_, _-_, _≤_, max}
 use mathlib.Core.Path.{_≡_, refl, sym, _∙_}
 use native.Mathlib.Omega.{arith}

@@ -1,3 +1,5 @@
+-- `malformed_at` meets its contract, from that of `field_end`.
+-- Assumes nothing.
 use mathlib.Core.Path.{ap}
 use Rattle.text.specs.Text.{malformed}
 use Rattle.text.specs.Read.{fieldTo}

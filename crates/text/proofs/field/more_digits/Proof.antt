@@ -1,11 +1,10 @@
-use Prim.Native.Nat.{_+_, _-_, _*_, _≤_, _<_}
-use mathlib.Core.Path.{_≡_, refl, sym, _∙_}
+-- `more_digits` meets its contract: the field that goes on at `i` after `n` is the whole one, and the byte at `i` says how.
+-- Assumes nothing.
+use Prim.Native.Nat.{_-_}
 use native.Mathlib.Omega.{arith}
 use borrow.Author.Needs.{needs}
-use lib.ListN.{length, drop}
-use Rattle.text.specs.Text.{most}
-use Rattle.text.proofs.Scanning.{span-end, span-comma, span-lf, span-next, digits-end, digits-comma, digits-lf, digits-low, digits-high, digits-zero, digits-over, digits-next}
-use Rattle.text.proofs.Digits.{Going, going-first, going-done, going-malformed, going-on}
+use lib.ListN.{length}
+use Rattle.text.proofs.Digits.{Going, going-first, going-end, Byte, byte-comma, byte-lf, byte-low, byte-high, byte-zero, byte-over, byte-digit}
 use Rattle.text.proofs.field.more_digits.Statement.{statement}
 use Rattle.text.proofs.field.more_digits.Tie as tie
 
@@ -24,41 +23,44 @@ shared-slice-read-widened c = omega arith
 widened-requires : tie.Need-widened-requires Inv-loop μ-loop
 widened-requires c κs = search needs
 
+byte : (c : tie.After-widened Inv-loop μ-loop) → Byte (c .before .before .before .before .before .args .s .now) (c .before .before .before .before .before .args .at) (c .before .before .before .before .before .args .begun) (c .before .before .before .loop .i) (c .before .before .before .loop .n) (c .widened .result)
+byte c = record { going = c .before .before .before .loop .inv; inside = omega arith; is = c .widened .ensures }
+
 number-to-requires : tie.Need-number-to-requires Inv-loop μ-loop
 number-to-requires c κs = search needs
 
 returns : tie.Need-returns Inv-loop μ-loop
-returns c = let w = c .before .before in let l = w .before .before .before in let s = l .before .before .args .s .now in let d = w .widened .result in let h : l .loop .i < length s = omega arith in c .number-to .ensures ∙ going-done s (l .before .before .args .at) (l .before .before .args .begun) (l .loop .i) (l .loop .n) (l .loop .inv) (span-comma s (l .loop .i) d h (w .widened .ensures) (c .before .if1 .taken)) (digits-comma s (l .loop .i) d h (w .widened .ensures) (l .loop .n) (c .before .if1 .taken))
+returns c = byte-comma (byte (c .before .before)) (omega arith) _ (c .number-to .ensures)
 
 number-to-requires-2 : tie.Need-number-to-requires-2 Inv-loop μ-loop
 number-to-requires-2 c κs = search needs
 
 returns-2 : tie.Need-returns-2 Inv-loop μ-loop
-returns-2 c = let w = c .before .before .before in let l = w .before .before .before in let s = l .before .before .args .s .now in let d = w .widened .result in let h : l .loop .i < length s = omega arith in c .number-to2 .ensures ∙ going-done s (l .before .before .args .at) (l .before .before .args .begun) (l .loop .i) (l .loop .n) (l .loop .inv) (span-lf s (l .loop .i) d h (w .widened .ensures) (c .before .before .if1 .left) (c .before .if2 .taken)) (digits-lf s (l .loop .i) d h (w .widened .ensures) (c .before .before .if1 .left) (l .loop .n) (c .before .if2 .taken))
+returns-2 c = byte-lf (byte (c .before .before .before)) (omega arith) _ (c .number-to2 .ensures)
 
 malformed-at-requires : tie.Need-malformed-at-requires Inv-loop μ-loop
 malformed-at-requires c κs = search needs
 
 returns-3 : tie.Need-returns-3 Inv-loop μ-loop
-returns-3 c = let w = c .before .before .before .before in let l = w .before .before .before in let s = l .before .before .args .s .now in let d = w .widened .result in let h : l .loop .i < length s = omega arith in going-malformed s (l .before .before .args .at) (l .before .before .args .begun) (l .loop .i) (l .loop .n) (l .loop .inv) _ (c .malformed-at .ensures) (digits-low s (l .loop .i) d h (w .widened .ensures) (c .before .before .before .if1 .left) (c .before .before .if2 .left) (l .loop .n) (c .before .if3 .taken))
+returns-3 c = byte-low (byte (c .before .before .before .before)) (λ e. omega arith) (λ e. omega arith) (omega arith) _ (c .malformed-at .ensures)
 
 malformed-at-requires-2 : tie.Need-malformed-at-requires-2 Inv-loop μ-loop
 malformed-at-requires-2 c κs = search needs
 
 returns-4 : tie.Need-returns-4 Inv-loop μ-loop
-returns-4 c = let w = c .before .before .before .before .before in let l = w .before .before .before in let s = l .before .before .args .s .now in let d = w .widened .result in let h : l .loop .i < length s = omega arith in going-malformed s (l .before .before .args .at) (l .before .before .args .begun) (l .loop .i) (l .loop .n) (l .loop .inv) _ (c .malformed-at2 .ensures) (digits-high s (l .loop .i) d h (w .widened .ensures) (c .before .before .before .before .if1 .left) (c .before .before .before .if2 .left) (omega arith) (l .loop .n) (c .before .if4 .taken))
+returns-4 c = byte-high (byte (c .before .before .before .before .before)) (omega arith) _ (c .malformed-at2 .ensures)
 
 malformed-at-requires-3 : tie.Need-malformed-at-requires-3 Inv-loop μ-loop
 malformed-at-requires-3 c κs = search needs
 
 returns-5 : tie.Need-returns-5 Inv-loop μ-loop
-returns-5 c = let w = c .before .before .before .before .before .before in let l = w .before .before .before in let s = l .before .before .args .s .now in let d = w .widened .result in let h : l .loop .i < length s = omega arith in going-malformed s (l .before .before .args .at) (l .before .before .args .begun) (l .loop .i) (l .loop .n) (l .loop .inv) _ (c .malformed-at3 .ensures) (digits-zero s (l .loop .i) d h (w .widened .ensures) (c .before .before .before .before .before .if1 .left) (c .before .before .before .before .if2 .left) (omega arith) (omega arith) (l .loop .n) (c .before .if5 .taken))
+returns-5 c = byte-zero (byte (c .before .before .before .before .before .before)) (omega arith) (omega arith) (omega arith) _ (c .malformed-at3 .ensures)
 
 malformed-at-requires-4 : tie.Need-malformed-at-requires-4 Inv-loop μ-loop
 malformed-at-requires-4 c κs = search needs
 
 returns-6 : tie.Need-returns-6 Inv-loop μ-loop
-returns-6 c = let w = c .before .before .before .before .before .before .before in let l = w .before .before .before in let s = l .before .before .args .s .now in let d = w .widened .result in let h : l .loop .i < length s = omega arith in going-malformed s (l .before .before .args .at) (l .before .before .args .begun) (l .loop .i) (l .loop .n) (l .loop .inv) _ (c .malformed-at4 .ensures) (digits-over s (l .loop .i) d h (w .widened .ensures) (c .before .before .before .before .before .before .if1 .left) (c .before .before .before .before .before .if2 .left) (omega arith) (omega arith) (l .loop .n) (c .before .before .if5 .left) (omega arith))
+returns-6 c = byte-over (byte (c .before .before .before .before .before .before .before)) (omega arith) (omega arith) (omega arith) (omega arith) _ (c .malformed-at4 .ensures)
 
 mul-m : tie.Need-mul-m Inv-loop μ-loop
 mul-m c = omega arith
@@ -70,7 +72,7 @@ malformed-at-requires-5 : tie.Need-malformed-at-requires-5 Inv-loop μ-loop
 malformed-at-requires-5 c κs = search needs
 
 returns-7 : tie.Need-returns-7 Inv-loop μ-loop
-returns-7 c = let w = c .before .before .before .before .before .before .before .before in let l = w .before .before .before in let s = l .before .before .args .s .now in let d = w .widened .result in let h : l .loop .i < length s = omega arith in going-malformed s (l .before .before .args .at) (l .before .before .args .begun) (l .loop .i) (l .loop .n) (l .loop .inv) _ (c .malformed-at5 .ensures) (digits-over s (l .loop .i) d h (w .widened .ensures) (c .before .before .before .before .before .before .before .if1 .left) (c .before .before .before .before .before .before .if2 .left) (omega arith) (omega arith) (l .loop .n) (c .before .before .before .if5 .left) (omega arith))
+returns-7 c = byte-over (byte (c .before .before .before .before .before .before .before .before)) (omega arith) (omega arith) (omega arith) (omega arith) _ (c .malformed-at5 .ensures)
 
 add-n : tie.Need-add-n Inv-loop μ-loop
 add-n c = omega arith
@@ -82,13 +84,13 @@ loop-less : tie.Need-loop-less Inv-loop μ-loop
 loop-less c = omega arith
 
 loop-again : tie.Need-loop-again Inv-loop μ-loop
-loop-again c = let w = c .before .before .before .before .before .before .before in let l = w .before .before .before in let s = l .before .before .args .s .now in let d = w .widened .result in let h : l .loop .i < length s = omega arith in going-on s (l .before .before .args .at) (l .before .before .args .begun) (l .loop .i) (l .loop .n) (l .loop .inv) _ (span-next s (l .loop .i) d h (w .widened .ensures) (c .before .before .before .before .before .before .if1 .left) (c .before .before .before .before .before .if2 .left)) (digits-next s (l .loop .i) d h (w .widened .ensures) (c .before .before .before .before .before .before .if1 .left) (c .before .before .before .before .before .if2 .left) (omega arith) (omega arith) (l .loop .n) (c .before .before .if5 .left) (omega arith))
+loop-again c = byte-digit (byte (c .before .before .before .before .before .before .before)) (omega arith) (omega arith) (omega arith) (omega arith) _ (omega arith)
 
 number-to-requires-3 : tie.Need-number-to-requires-3 Inv-loop μ-loop
 number-to-requires-3 c κs = search needs
 
 returns-8 : tie.Need-returns-8 Inv-loop μ-loop
-returns-8 c = let l = c .before .before in let s = l .before .before .args .s .now in c .number-to3 .ensures ∙ going-done s (l .before .before .args .at) (l .before .before .args .begun) (l .loop .i) (l .loop .n) (l .loop .inv) (span-end s (l .loop .i) (c .before .loop-test .left)) (digits-end (l .loop .n) s (l .loop .i) (c .before .loop-test .left))
+returns-8 c = going-end (c .before .before .loop .inv) (omega arith) _ (c .number-to3 .ensures)
 
 pub more-digits-spec : {M : Type 1} → statement M
 more-digits-spec =

@@ -1,3 +1,5 @@
+-- `line_at` meets its contract: each way out is a case of the line at the place.
+-- Assumes nothing.
 use native.Mathlib.Omega.{arith}
 use Rattle.text.proofs.LineCases.{at-end, empty-line, other, cut, bare, no-comma, unended, whole}
 use borrow.Author.Needs.{needs}
@@ -5,25 +7,25 @@ use Rattle.text.proofs.line.line_at.Statement.{statement}
 use Rattle.text.proofs.line.line_at.Tie as tie
 
 returns : tie.Need-returns
-returns c = at-end (c .before .before .args .letter) (c .before .before .args .s .now) (c .before .before .args .at) (c .before .before .args .out .now) (c .if1 .taken)
+returns c = let a = c .before .before .args in at-end (a .letter) (a .s .now) (a .at) (a .out .now) (omega arith)
 
 shared-slice-read-if2 : tie.Need-shared-slice-read-if2
 shared-slice-read-if2 c = search needs
 
 returns-2 : tie.Need-returns-2
-returns-2 c = empty-line (c .before .before .before .before .args .letter) (c .before .before .before .before .args .s .now) (c .before .before .before .before .args .at) (c .before .before .before .before .args .out .now) (omega arith) (c .if2 .taken)
+returns-2 c = let a = c .before .before .before .before .args in empty-line (a .letter) (a .s .now) (a .at) (a .out .now) (omega arith) (omega arith)
 
 shared-slice-read-if3 : tie.Need-shared-slice-read-if3
 shared-slice-read-if3 c = search needs
 
 returns-3 : tie.Need-returns-3
-returns-3 c = other (c .before .before .before .before .before .before .args .letter) (c .before .before .before .before .before .before .args .s .now) (c .before .before .before .before .before .before .args .at) (c .before .before .before .before .before .before .args .out .now) (omega arith) (c .before .before .if2 .left) (c .if3 .taken)
+returns-3 c = let a = c .before .before .before .before .before .before .args in other (a .letter) (a .s .now) (a .at) (a .out .now) (omega arith) (λ e. omega arith) (λ e. omega arith)
 
 add-p : tie.Need-add-p
 add-p c = search needs
 
 returns-4 : tie.Need-returns-4
-returns-4 c = cut (c .before .before .before .before .before .before .before .args .letter) (c .before .before .before .before .before .before .before .args .s .now) (c .before .before .before .before .before .before .before .args .at) (c .before .before .before .before .before .before .before .args .out .now) (omega arith) (c .before .before .before .if2 .left) (c .before .if3 .left) (c .if4 .taken)
+returns-4 c = let a = c .before .before .before .before .before .before .before .args in cut (a .letter) (a .s .now) (a .at) (a .out .now) (omega arith) (λ e. omega arith) (omega arith) (omega arith)
 
 shared-slice-read-if5 : tie.Need-shared-slice-read-if5
 shared-slice-read-if5 c = search needs
@@ -32,13 +34,13 @@ add-t13 : tie.Need-add-t13
 add-t13 c = search needs
 
 returns-5 : tie.Need-returns-5
-returns-5 c = bare (c .before .before .before .before .before .before .before .before .before .args .letter) (c .before .before .before .before .before .before .before .before .before .args .s .now) (c .before .before .before .before .before .before .before .before .before .args .at) (c .before .before .before .before .before .before .before .before .before .args .out .now) (omega arith) (c .before .before .before .before .before .if2 .left) (c .before .before .before .if3 .left) (omega arith) (c .if5 .taken)
+returns-5 c = let a = c .before .before .before .before .before .before .before .before .before .args in bare (a .letter) (a .s .now) (a .at) (a .out .now) (omega arith) (λ e. omega arith) (omega arith) (omega arith) (omega arith)
 
 shared-slice-read-if6 : tie.Need-shared-slice-read-if6
 shared-slice-read-if6 c = search needs
 
 returns-6 : tie.Need-returns-6
-returns-6 c = no-comma (c .before .before .before .before .before .before .before .before .before .before .before .args .letter) (c .before .before .before .before .before .before .before .before .before .before .before .args .s .now) (c .before .before .before .before .before .before .before .before .before .before .before .args .at) (c .before .before .before .before .before .before .before .before .before .before .before .args .out .now) (omega arith) (c .before .before .before .before .before .before .before .if2 .left) (c .before .before .before .before .before .if3 .left) (omega arith) (c .before .before .if5 .left) (c .if6 .taken)
+returns-6 c = let a = c .before .before .before .before .before .before .before .before .before .before .before .args in no-comma (a .letter) (a .s .now) (a .at) (a .out .now) (omega arith) (λ e. omega arith) (omega arith) (omega arith) (λ e. omega arith) (λ e. omega arith)
 
 add-fields-at : tie.Need-add-fields-at
 add-fields-at c = search needs
@@ -50,7 +52,7 @@ same-length : tie.Need-same-length
 same-length c = search needs
 
 returns-7 : tie.Need-returns-7
-returns-7 c = unended (c .before .before .before .before .before .before .before .before .before .before .before .before .before .before .before .before .args .letter) (c .before .before .before .before .before .before .before .before .before .before .before .before .before .before .before .before .args .s .now) (c .before .before .before .before .before .before .before .before .before .before .before .before .before .before .before .before .args .at) (c .before .before .before .before .before .before .before .before .before .before .before .before .before .before .before .before .args .out .now) (omega arith) (c .before .before .before .before .before .before .before .before .before .before .before .before .if2 .left) (c .before .before .before .before .before .before .before .before .before .before .if3 .left) (omega arith) (c .before .before .before .before .before .before .before .if5 .left) (c .before .before .before .before .before .if6 .left) _ (c .before .before .before .fields-at .ensures .0) _ (c .before .before .before .fields-at .ensures .1) (c .if7 .taken)
+returns-7 c = let a = c .before .before .before .before .before .before .before .before .before .before .before .before .before .before .before .before .args in unended (a .letter) (a .s .now) (a .at) (a .out .now) (omega arith) (λ e. omega arith) (omega arith) (omega arith) (λ e. omega arith) (omega arith) _ (c .before .before .before .fields-at .ensures .0) _ (c .before .before .before .fields-at .ensures .1) (omega arith)
 
 add-t7 : tie.Need-add-t7
 add-t7 c = search needs
@@ -59,7 +61,7 @@ same-length-2 : tie.Need-same-length-2
 same-length-2 c = search needs
 
 returns-8 : tie.Need-returns-8
-returns-8 c = whole (c .before .before .before .before .before .before .before .before .before .before .before .before .before .before .before .before .before .args .letter) (c .before .before .before .before .before .before .before .before .before .before .before .before .before .before .before .before .before .args .s .now) (c .before .before .before .before .before .before .before .before .before .before .before .before .before .before .before .before .before .args .at) (c .before .before .before .before .before .before .before .before .before .before .before .before .before .before .before .before .before .args .out .now) (omega arith) (c .before .before .before .before .before .before .before .before .before .before .before .before .before .if2 .left) (c .before .before .before .before .before .before .before .before .before .before .before .if3 .left) (omega arith) (c .before .before .before .before .before .before .before .before .if5 .left) (c .before .before .before .before .before .before .if6 .left) _ (c .before .before .before .before .fields-at .ensures .0) _ (c .before .before .before .before .fields-at .ensures .1) (c .before .if7 .left)
+returns-8 c = let a = c .before .before .before .before .before .before .before .before .before .before .before .before .before .before .before .before .before .args in whole (a .letter) (a .s .now) (a .at) (a .out .now) (omega arith) (λ e. omega arith) (omega arith) (omega arith) (λ e. omega arith) (omega arith) _ (c .before .before .before .before .fields-at .ensures .0) _ (c .before .before .before .before .fields-at .ensures .1) (omega arith)
 
 pub line-at-spec : {M : Type 1} → statement M
 line-at-spec =

@@ -1,3 +1,5 @@
+-- `store_row` meets its contract: past the end, to store changes nothing.
+-- Assumes nothing.
 use mathlib.Core.Path.{sym}
 use lib.Seq.{set-out}
 use borrow.Author.Needs.{needs}

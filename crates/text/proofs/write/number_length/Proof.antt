@@ -16,7 +16,7 @@ abbrev μ-loop : tie.MeasureT-loop
 μ-loop n tenth power₀ k₀ power k = tenth + 1 - power
 
 loop-holds : tie.Need-loop-holds Inv-loop μ-loop
-loop-holds c = counting-first _
+loop-holds c = counting-first _ _ _ (omega arith) (omega arith)
 
 mul-power : tie.Need-mul-power Inv-loop μ-loop
 mul-power c = omega arith
