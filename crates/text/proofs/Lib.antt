@@ -8,6 +8,7 @@ pub mod Digits
 pub mod FieldsTurn
 pub mod LineCases
 pub mod Limits
+pub mod Answers
 pub mod Judging
 pub mod Rows
 pub mod Lengths

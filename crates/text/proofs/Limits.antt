@@ -4,7 +4,7 @@ use mathlib.Core.Path.{_≡_, refl, sym, ap, _∙_}
 use mathlib.Core.List.{List, [], _∷_, map}
 use mathlib.Core.Bool.{Bool, true, false, cond, _&&_, and-false, and-true, and-assoc, and-comm}
 use mathlib.Core.Option.{Option, none, some}
-use Prim.Native.Nat.{ℕ, suc, _+_, _≤_, _<_, max}
+use Prim.Native.Nat.{ℕ, zero, suc, _+_, _≤_, _<_, max}
 use native.Mathlib.Numerals.{add-one}
 use native.Mathlib.Omega.{arith}
 use lib.Dec.{leb, eqb}
@@ -148,3 +148,26 @@ unfolding lineFields fields allowsAll wellFormed
 read-widest letter [] fs e = let z : _≡_ {A = ℕ} 0 1 = cc in absurd (omega arith)
 read-widest letter (x ∷ []) fs e = some·at (eqb x letter) [] fs e refl
 read-widest letter (x ∷ c ∷ cs) fs e = some·at (eqb x letter && eqb c 44) (map (field most) (parts 44 cs)) fs e (parts-widest (parts 44 cs))
+
+-- ---- field by field
+
+pub fits-length : (bs : List Bound) (fs : List Field) → fits bs fs ≡ true → length fs ≡ length bs
+unfolding fits
+fits-length [] [] e = refl
+fits-length [] (f ∷ fs) e = let z : _≡_ {A = ℕ} 0 1 = cc in absurd (omega arith)
+fits-length (b ∷ bs) [] e = let z : _≡_ {A = ℕ} 0 1 = cc in absurd (omega arith)
+fits-length (b ∷ bs) (f ∷ fs) e = ap suc (fits-length bs fs (both (allows b f) (fits bs fs) e .1))
+
+pub fits-at : (bs : List Bound) (fs : List Field) → fits bs fs ≡ true → (i : ℕ) → i < length fs → allows (getD bs i widest) (getD fs i empty) ≡ true
+unfolding fits
+fits-at [] [] e i h = absurd (omega arith)
+fits-at [] (f ∷ fs) e i h = let z : _≡_ {A = ℕ} 0 1 = cc in absurd (omega arith)
+fits-at (b ∷ bs) [] e i h = absurd (omega arith)
+fits-at (b ∷ bs) (f ∷ fs) e zero h = both (allows b f) (fits bs fs) e .0
+fits-at (b ∷ bs) (f ∷ fs) e (suc i) h = fits-at bs fs (both (allows b f) (fits bs fs) e .1) i (omega arith)
+
+pub all-at : (b : Bound) (fs : List Field) → allowsAll b fs ≡ true → (i : ℕ) → i < length fs → allows b (getD fs i empty) ≡ true
+unfolding allowsAll
+all-at b [] e i h = absurd (omega arith)
+all-at b (f ∷ fs) e zero h = both (allows b f) (allowsAll b fs) e .0
+all-at b (f ∷ fs) e (suc i) h = all-at b fs (both (allows b f) (allowsAll b fs) e .1) i (omega arith)

@@ -75,6 +75,15 @@ pub ended : (letter : ℕ) (s : List ℕ) (at : ℕ) (fs : List Field) → lineA
 unfolding lineAt
 ended letter s at fs e = ltb-true (until 10 (drop at s)) (length (drop at s)) (ended·at (ltb (until 10 (drop at s)) (length (drop at s))) (lineFields letter (line (drop at s))) fs e)
 
+fields·at : (t : Bool) (x : Option (List Field)) (fs : List Field) → cond t x none ≡ some fs → x ≡ some fs
+fields·at true x fs e = e
+fields·at false x fs e = let z : _≡_ {A = ℕ} 0 1 = cc in absurd (omega arith)
+
+-- its fields are those of its bytes
+pub read-fields : (letter : ℕ) (s : List ℕ) (at : ℕ) (fs : List Field) → lineAt letter s at ≡ some fs → lineFields letter (line (drop at s)) ≡ some fs
+unfolding lineAt
+read-fields letter s at fs e = fields·at (ltb (until 10 (drop at s)) (length (drop at s))) _ fs e
+
 -- the place after a line that was read, and the lines from there on
 pub after-within : (letter : ℕ) (s : List ℕ) (at : ℕ) (fs : List Field) → lineAt letter s at ≡ some fs → (at < after s at) × (after s at ≤ length s)
 unfolding after

@@ -15,8 +15,7 @@ use Rattle.text.specs.Lines.{firstOf}
 use Rattle.text.specs.Bounds.{wellFormed}
 use Rattle.text.specs.Write.{fieldText, fieldsText, lineText}
 use Rattle.text.proofs.Exact.{both, number-exact, empty-exact}
-use Rattle.text.proofs.Places.{ended, after-within}
-use Rattle.text.proofs.Judging.{shut}
+use Rattle.text.proofs.Places.{ended, read-fields, after-within}
 
 -- ---- a field
 
@@ -102,7 +101,7 @@ module _ (letter : ℕ) (s : List ℕ) (at : ℕ) (fs : List Field) (read : line
       let r : List ℕ = drop at s in
       let u : ℕ = until 10 (drop at s) in
       let e : at + u + 1 ≡ at + suc u = omega arith in
-      let l : letter ∷ fieldsText fs ≡ take u r = line-fields-again letter (line r) fs (shut letter s at fs read) well in
+      let l : letter ∷ fieldsText fs ≡ take u r = line-fields-again letter (line r) fs (read-fields letter s at fs read) well in
       sym (take-append-drop u r)
       ∙ ap₂ (λ (x y : List ℕ). x ++ y) (sym l) (drop-until 10 r (ended letter s at fs read))
       ∙ sym (append-assoc (letter ∷ fieldsText fs) (10 ∷ []) (drop (suc u) r))
