@@ -4,14 +4,13 @@ use mathlib.Core.Path.{_≡_, sym, ap, _∙_}
 use mathlib.Core.List.{List}
 use mathlib.Core.Option.{Option}
 use Prim.Native.Nat.{ℕ, _+_, _≤_, _<_}
-use native.Mathlib.Omega.{arith}
 use lib.ListN.{length}
 use borrow.Author.Tests.{le-leb, lt-leb}
 use Rattle.text.specs.Text.{Field}
 use Rattle.text.specs.Read.{lineRead}
 use Rattle.text.specs.Write.{Wrote}
 use Rattle.text.specs.declared.line.Line.the-variants.{Fields, Wrong}
-use Rattle.text.proofs.Answers.{Opened, opened, wrong-none}
+use Rattle.text.proofs.Answers.{opened, wrong-none}
 use Rattle.bench.specs.Answers.{found, placeAfter, storedFrom}
 
 pub none-found : (next : ℕ) (x : Option (List Field)) → Wrong ≡ lineRead next x → record { next = 0; count = 0; worst = 0; largest = 0 } ≡ found next x

@@ -1,13 +1,13 @@
 -- What the answer of a reading function says of the line, and of the rows that it left in the room lent: laws for those who call it.
 -- Assumes nothing.
 use mathlib.Core.Path.{_≡_, refl, sym, ap, _∙_}
-use mathlib.Core.List.{List, [], _∷_, map}
+use mathlib.Core.List.{List, map}
 use mathlib.Core.Option.{Option, none, some}
 use mathlib.Core.Bool.{Bool, true, false, cond}
 use Prim.Native.Nat.{ℕ, _≤_, _<_}
 use native.Mathlib.Omega.{arith}
 use lib.ListN.{length, take, drop, getD, length-map, List·getD-map}
-use lib.Seq.{sets, sets-eq, take-at, getD-take}
+use lib.Seq.{sets-eq, take-at, getD-take}
 use Rattle.text.specs.Text.{Field, empty, stateOf, valueOf, row, greatest, line, lineFields, lineAt}
 use Rattle.text.specs.Read.{lineRead, storedIn}
 use Rattle.text.specs.Bounds.{fitsRows, judged}

@@ -2,10 +2,10 @@
 -- Assumes no-bytes.
 use mathlib.Core.Path.{_≡_, refl, sym, ap, _∙_}
 use mathlib.Core.List.{List}
-use Prim.Native.Nat.{ℕ, suc, _+_, _-_, _*_, _≤_, _<_}
+use Prim.Native.Nat.{ℕ, _+_, _-_, _*_, _≤_, _<_}
 use native.Mathlib.Omega.{arith}
 use lib.ListN.{length, drop, getD}
-use Rattle.text.specs.Text.{Field, number, empty, malformed, most}
+use Rattle.text.specs.Text.{number, empty, malformed, most}
 use Rattle.text.specs.Scan.{span, moreDigits, first}
 use Rattle.text.specs.Read.{fieldTo}
 use Rattle.text.specs.declared.field.Scanned.{Scanned}

@@ -3,11 +3,11 @@
 use mathlib.Core.Path.{_≡_, refl, sym, ap, _∙_}
 use mathlib.Core.List.{List, [], _∷_, _++_, append-nil, append-assoc}
 use mathlib.Core.Bool.{Bool, true, false, cond, _&&_}
-use Prim.Native.Nat.{ℕ, zero, suc, _+_, _-_, _*_, _/_, _%_, _≤_, _<_, max}
+use Prim.Native.Nat.{ℕ, _+_, _-_, _*_, _/_, _%_, _≤_, _<_, max}
 use native.Mathlib.Omega.{arith}
 use lib.Dec.{ltb, leb, eqb}
-use lib.ListN.{length, getD, length-append, List·getD-append}
-use borrow.Author.Tests.{le-leb, lt-leb, leb-true, leb-false, ne-eqb, eqb-false, ltb-true, ltb-false}
+use lib.ListN.{length, getD, List·getD-append}
+use borrow.Author.Tests.{le-leb, leb-true, ne-eqb, eqb-false, ltb-true, ltb-false}
 use Rattle.text.specs.Text.{Field, number, empty, malformed, run, field, isDigit}
 use Rattle.text.specs.Write.{decimal}
 use Rattle.text.specs.Bounds.{Bound, allows}

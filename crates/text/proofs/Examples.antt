@@ -1,13 +1,13 @@
 -- Fields and lines, quoted, with what they are read as and written as: theorems by computation, each table one of them.
 -- Assumes nothing.
 use mathlib.Core.Path.{_≡_, refl}
-use mathlib.Core.List.{List, [], _∷_, _++_, map}
+use mathlib.Core.List.{List, [], _∷_, map}
 use mathlib.Core.Option.{Option, none, some}
-use mathlib.Core.Bool.{Bool, true, false}
+use mathlib.Core.Bool.{true, false}
 use Prim.Native.Nat.{ℕ}
 use Prim.Native.String.{String}
 use Prim.Native.Char.{code}
-use Rattle.text.specs.Text.{Field, number, empty, malformed, most, until, onto, parts, run, field, fields, line, lineFields, lineAt, after}
+use Rattle.text.specs.Text.{Field, number, empty, malformed, most, until, onto, parts, run, field, fields, line, lineFields, lineAt}
 use Rattle.text.specs.Lines.{firstOf}
 use Rattle.text.specs.Bounds.{Bound, fits}
 use Rattle.text.specs.Write.{digits, decimal, fieldText, fieldsText, lineText}

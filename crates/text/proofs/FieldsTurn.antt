@@ -3,7 +3,7 @@
 use mathlib.Core.Path.{_≡_, refl, sym, ap, _∙_}
 use mathlib.Core.List.{List, [], _∷_, map}
 use mathlib.Core.Bool.{true, false}
-use Prim.Native.Nat.{ℕ, suc, _+_, _-_, _≤_, _<_, max}
+use Prim.Native.Nat.{ℕ, _+_, _-_, _≤_, _<_, max}
 use native.Mathlib.Numerals.{add-one}
 use native.Mathlib.Omega.{arith}
 use lib.ListN.{length, drop, getD, set, length-set, length-drop}
@@ -13,7 +13,6 @@ use Rattle.text.specs.Scan.{span, first, endsLine, DigitAndComma}
 use Rattle.text.proofs.Scanning.{span-next, span-comma, first-more, digits-comma, ends-cases, goes-on}
 use Rattle.text.specs.Read.{fieldTo, tallied}
 use Rattle.text.specs.declared.field.Scanned.{Scanned}
-use Rattle.text.specs.declared.line.Tally.{Tally}
 use Rattle.text.proofs.Fields.{span-le, out-until, out-fields, lf-until, lf-fields, comma-until, comma-fields}
 
 -- the fields of the line from a place on

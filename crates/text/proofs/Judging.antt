@@ -1,10 +1,10 @@
 -- What a line of judged fields answers, by the tests that its reader makes.
 -- Assumes nothing.
-use mathlib.Core.Path.{_≡_, refl, sym, ap, _∙_}
-use mathlib.Core.List.{List, [], _∷_, map}
+use mathlib.Core.Path.{_≡_, refl}
+use mathlib.Core.List.{List, map}
 use mathlib.Core.Option.{Option, none, some}
 use mathlib.Core.Bool.{Bool, true, false, cond}
-use Prim.Native.Nat.{ℕ, suc, _+_, _-_, _≤_, _<_}
+use Prim.Native.Nat.{ℕ, _-_, _≤_}
 use native.Mathlib.Omega.{arith}
 use lib.ListN.{length, take, drop, length-map}
 use Rattle.text.specs.Text.{Field, row, line, lineFields, lineAt, after}
@@ -12,7 +12,6 @@ use Rattle.text.specs.Read.{lineRead, storedIn}
 use Rattle.text.specs.Bounds.{fitsRows, judged}
 use Rattle.text.specs.declared.line.Line.{Line}
 use Rattle.text.specs.declared.line.Line.the-variants.{Fields, Wrong}
-use Rattle.text.specs.declared.bounds.Judged.{Judged}
 use Rattle.text.specs.declared.bounds.Judged.the-variants as J
 use Rattle.text.proofs.Answers.{Opened, opened, rows-held}
 use Rattle.text.proofs.Limits.{uneven}

@@ -1,20 +1,19 @@
 -- A line at a place of a text, by the tests that its reader makes.
 -- Assumes nothing.
-use mathlib.Core.Path.{_≡_, refl, sym, ap, _∙_}
+use mathlib.Core.Path.{_≡_, refl, ap, _∙_}
 use mathlib.Core.List.{List, [], _∷_, map}
 use mathlib.Core.Option.{Option, none, some}
-use mathlib.Core.Bool.{Bool, true, false, cond, _&&_, and-false}
+use mathlib.Core.Bool.{Bool, true, false, cond, and-false}
 use Prim.Native.Nat.{ℕ, suc, _+_, _-_, _≤_, _<_}
 use native.Mathlib.Numerals.{add-one}
 use native.Mathlib.Omega.{arith}
-use lib.Dec.{eqb, ltb}
-use lib.ListN.{length, take, drop, getD, length-drop, drop-of-length-le}
+use lib.Dec.{ltb}
+use lib.ListN.{length, drop, getD, length-drop, drop-of-length-le}
 use lib.Seq.{drop-cons, sets}
 use borrow.Author.Tests.{eq-eqb, ne-eqb, lt-ltb, le-ltb}
-use Rattle.text.specs.Text.{Field, until, line, fields, lineFields, lineAt, after, row, greatest, stateOf, valueOf}
+use Rattle.text.specs.Text.{Field, until, line, fields, lineFields, lineAt, after, row, greatest}
 use Rattle.text.specs.Read.{tallied, lineRead, storedIn}
 use Rattle.text.specs.declared.line.Tally.{Tally}
-use Rattle.text.specs.declared.line.Line.{Line}
 use Rattle.text.specs.declared.line.Line.the-variants.{Fields, Wrong}
 
 -- the line from a place on

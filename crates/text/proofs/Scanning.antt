@@ -1,16 +1,16 @@
 -- How the single pass goes on from a position: each law speaks of `drop i s`.
 -- Assumes nothing.
-use mathlib.Core.Path.{_≡_, refl, sym, ap, _∙_}
-use mathlib.Core.List.{List, [], _∷_}
-use mathlib.Core.Bool.{Bool, true, false, cond}
+use mathlib.Core.Path.{_≡_, refl, sym, _∙_}
+use mathlib.Core.List.{List}
+use mathlib.Core.Bool.{Bool, true, false}
 use Prim.Native.Nat.{ℕ, suc, _+_, _-_, _*_, _≤_, _<_}
 use native.Mathlib.Numerals.{add-one}
 use native.Mathlib.Omega.{arith}
-use lib.Dec.{eqb, leb, ltb}
+use lib.Dec.{eqb, ltb}
 use lib.ListN.{length, drop, getD, drop-of-length-le}
 use lib.Seq.{drop-cons}
 use borrow.Author.Tests.{eq-eqb, ne-eqb, le-leb, lt-leb, eqb-true, eqb-false, ltb-true, ltb-false}
-use Rattle.text.specs.Text.{Field, number, empty, malformed, most}
+use Rattle.text.specs.Text.{number, empty, malformed, most}
 use Rattle.text.specs.Scan.{span, moreDigits, first, endsLine}
 
 pub span-end : (s : List ℕ) (i : ℕ) → length s ≤ i → span (drop i s) ≡ 0

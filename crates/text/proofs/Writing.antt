@@ -2,12 +2,10 @@
 -- Assumes nothing.
 use mathlib.Core.Path.{_≡_, refl, sym, ap, _∙_}
 use mathlib.Core.List.{List, [], _∷_, _++_, map, append-assoc}
-use Prim.Native.Nat.{ℕ, zero, suc, _+_, _-_, _*_, _/_, _%_, _≤_, _<_}
-use native.Mathlib.Numerals.{add-one}
+use Prim.Native.Nat.{ℕ, _+_, _-_, _/_, _%_, _≤_, _<_}
 use native.Mathlib.Omega.{arith}
 use lib.ListN.{length, drop, getD, set, length-append, length-set, drop-of-length-le}
-use lib.Seq.{sets, drop-cons}
-use Rattle.text.specs.Text.{Field}
+use lib.Seq.{sets}
 use Rattle.text.specs.Write.{decimal, fieldText, fieldsText, lineText, rowField, Wrote}
 use Rattle.text.proofs.Decimal.{decimal-one, decimal-more, decimal-some, length-one, length-more}
 use Rattle.text.proofs.Rows.{rows-text}

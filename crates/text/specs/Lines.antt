@@ -2,7 +2,7 @@
 -- Document 01, the paragraph that begins "A sheet is ASCII lines ended by LF".
 use Prim.Native.Nat.{ℕ, suc, _+_}
 use mathlib.Core.List.{List, [], _∷_}
-use mathlib.Core.Option.{Option, none, some}
+use mathlib.Core.Option.{Option, none}
 use lib.ListN.{length}
 use Rattle.text.specs.Text.{Field, lineFields}
 

@@ -1,7 +1,7 @@
 -- Cited only by the contracts of private functions: a field as a single pass over the bytes sees it.
 -- That it is the field of `Text` is proved in proofs/Fields.antt.
 use mathlib.Core.Path.{_≡_}
-use Prim.Native.Nat.{ℕ, zero, suc, _+_, _-_, _*_, _≤_, _<_}
+use Prim.Native.Nat.{ℕ, suc, _+_, _-_, _*_, _≤_, _<_}
 use lib.ListN.{length, getD}
 use mathlib.Core.List.{List, [], _∷_}
 use mathlib.Core.Bool.{Bool, true, cond}

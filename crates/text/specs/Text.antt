@@ -1,8 +1,8 @@
 -- Text as lists of bytes: fields parted by commas, decimal numbers with no leading zero, a line with its letter.
 -- Document 01, the paragraph that begins "A sheet is ASCII lines ended by LF".
-use Prim.Native.Nat.{ℕ, zero, suc, _+_, _-_, _*_, max}
+use Prim.Native.Nat.{ℕ, suc, _+_, _-_, _*_, max}
 use mathlib.Core.List.{List, [], _∷_, map}
-use mathlib.Core.Bool.{Bool, true, false, cond, _&&_}
+use mathlib.Core.Bool.{Bool, cond, _&&_}
 use mathlib.Core.Option.{Option, none, some}
 use lib.Dec.{ltb, leb, eqb}
 use lib.ListN.{length, take, drop}

@@ -2,8 +2,8 @@
 -- Document 01, the paragraph that begins "A sheet is ASCII lines ended by LF": answers are lines of the same form.
 use Prim.Native.Nat.{ℕ, zero, suc, _+_, _/_, _%_}
 use mathlib.Core.Path.{_≡_}
-use mathlib.Core.List.{List, [], _∷_, _++_, map}
-use mathlib.Core.Bool.{Bool, cond}
+use mathlib.Core.List.{List, [], _∷_, _++_}
+use mathlib.Core.Bool.{cond}
 use lib.Dec.{ltb, eqb}
 use lib.ListN.{length, getD}
 use lib.Seq.{sets}

@@ -1,10 +1,10 @@
 // Writes numbers, fields and lines where there is room for them, and gives their exact length beforehand.
 ghost use mathlib.Core.Path.{_≡_};
-ghost use mathlib.Core.List.{[], _∷_, map, _++_};
+ghost use mathlib.Core.List.{[], _∷_, map};
 ghost use Prim.Native.Nat.{ℕ, _+_, _-_, _≤_, _<_};
 ghost use lib.ListN.{length};
 ghost use lib.Seq.{sets};
-ghost use Rattle.text.specs.Write.{decimal, fieldOf, rowField, fieldText, fieldsText, lineText, Wrote};
+ghost use Rattle.text.specs.Write.{decimal, fieldOf, rowField, fieldText, lineText, Wrote};
 
 // How many decimal digits a number has.
 pub fn number_length(n: u64) -> usize

@@ -2,7 +2,6 @@
 -- Assumes nothing.
 use mathlib.Core.List.{map}
 use native.Mathlib.Omega.{arith}
-use lib.ListN.{length}
 use Rattle.text.specs.Write.{rowField, lineText}
 use Rattle.bench.proofs.Answering.{no-room, room}
 use Rattle.text.proofs.Lengths.{line-length}

@@ -1,7 +1,7 @@
 -- `field_end` meets its contract: the place of the first comma or LF from `i` on is that from `at` on.
 -- Assumes nothing.
-use Prim.Native.Nat.{_+_, _-_, _≤_, max}
-use mathlib.Core.Path.{_≡_, refl, sym, _∙_}
+use Prim.Native.Nat.{_+_, _-_}
+use mathlib.Core.Path.{_≡_, refl}
 use native.Mathlib.Omega.{arith}
 use lib.ListN.{length, drop}
 use Rattle.text.specs.Scan.{span}

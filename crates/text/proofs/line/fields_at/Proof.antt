@@ -1,6 +1,6 @@
 -- `fields_at` meets its contract: what the fields from `i` on give, after those stored and counted, is what all of them give.
 -- Assumes nothing.
-use Prim.Native.Nat.{_-_, _<_}
+use Prim.Native.Nat.{_-_}
 use mathlib.Core.Path.{sym, _∙_}
 use native.Mathlib.Omega.{arith}
 use lib.ListN.{length}
