@@ -14,7 +14,7 @@ pub record Bound : Type 0 where
   pub optional : Bool
   pub largest : ℕ
 
--- every field that is not malformed
+-- every field that is empty or a number of 64 bits
 abbrev pub widest : Bound
 widest = record { optional = true; largest = most }
 

@@ -1,4 +1,5 @@
 -- What the reading functions answer, and what they leave in the room lent.
+-- Numbers 1 and 2 of document 01's table are given by the crates above, from these answers.
 use Prim.Native.Nat.{ℕ}
 use mathlib.Core.List.{List, map}
 use mathlib.Core.Option.{Option, none, some}
@@ -10,7 +11,7 @@ use Rattle.text.specs.declared.line.Tally.{Tally}
 use Rattle.text.specs.declared.line.Line.{Line}
 use Rattle.text.specs.declared.line.Line.the-variants.{Fields, Wrong}
 
--- a field, and the place of the byte that ends it
+-- a field, and the place of the byte that ends it: for private functions
 abbrev pub fieldTo : ℕ → Field → Scanned
 fieldTo end f = record { end = end; state = stateOf f; value = valueOf f }
 
