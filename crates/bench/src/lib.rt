@@ -1,11 +1,17 @@
-// The line reader and the line writer, as the benchmark in Rust calls them.
+// The line reader, the line writer and `try_reorder`, as the benchmark in Rust calls them.
 ghost use mathlib.Core.Path.{_≡_};
 ghost use mathlib.Core.List.{map};
-ghost use lib.ListN.{length, drop};
+ghost use lib.ListN.{length, drop, set};
 ghost use Rattle.text.specs.Text.{line, lineFields, lineAt, after};
 ghost use Rattle.text.specs.Read.{storedIn};
 ghost use Rattle.text.specs.Write.{rowField, lineText};
 ghost use Rattle.bench.specs.Answers.{found, placeAfter, storedFrom};
+ghost use lib.Seq.{sets};
+ghost use Rattle.keys.specs.Values.{packedKeys, Whole};
+ghost use Rattle.bench.specs.Orders.{reportFor, leftFor, rightFor};
+use keys::list::KeyList;
+use keys::reorder::Reordered;
+use keys::reorder::try_reorder;
 use text::line::Line;
 use text::line::line_at;
 use text::write::line_length;
@@ -66,4 +72,62 @@ pub extern "C" fn bench_put_line(out: &mut [u8], at: usize, letter: u8, rows: &[
         return 0;
     }
     widened(put_line(out, at, letter, rows))
+}
+
+fn store(out: &mut [u64], i: usize, value: u64)
+    ensures { λ _. ⌜ now (out .exit) ≡ set (now (out .entry)) i value ⌝ }
+{
+    if i < out.len() {
+        out[i] = value;
+    }
+}
+
+// Stores the keys where there is room.
+fn store_keys(k: KeyList, out: &mut [u64])
+    requires { ⌜ Whole k ⌝ }
+    ensures { λ _. ⌜ now (out .exit) ≡ sets (now (out .entry)) 0 (packedKeys k) ⌝ }
+{
+    let n = k.count;
+    let mut i: usize = 0;
+    while i < n {
+        let e = k.items[i];
+        store(out, i, e.number);
+        i += 1;
+    }
+}
+
+// The report, and the moved keys in the room lent; 0 where a list has over 32 keys, or the two sides differ in length.
+#[no_mangle]
+pub extern "C" fn bench_try_reorder(
+    w: &[[u64; 2]],
+    r: &[u64],
+    l: &[u64],
+    g: &[u64],
+    left: &mut [u64],
+    right: &mut [u64],
+) -> u64
+    ensures answer { λ x. ⌜ x ≡ reportFor (now (w .entry)) (now (r .entry)) (now (l .entry)) (now (g .entry)) ⌝ }
+    ensures left { λ x. ⌜ now (left .exit) ≡ leftFor (now (w .entry)) (now (r .entry)) (now (l .entry)) (now (g .entry)) (now (left .entry)) ⌝ }
+    ensures right { λ x. ⌜ now (right .exit) ≡ rightFor (now (w .entry)) (now (r .entry)) (now (l .entry)) (now (g .entry)) (now (right .entry)) ⌝ }
+{
+    if r.len() > 32 {
+        return 0;
+    }
+    if l.len() > 32 {
+        return 0;
+    }
+    if g.len() != l.len() {
+        return 0;
+    }
+    let t = try_reorder(w, r, l, g);
+    let o = t.outcome;
+    match o {
+        Reordered::Met => 1,
+        Reordered::Impossible => 3,
+        Reordered::Moved => {
+            store_keys(t.left, left);
+            store_keys(t.right, right);
+            2
+        }
+    }
 }

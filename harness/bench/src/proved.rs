@@ -51,3 +51,48 @@ pub fn put_line(out: &mut [u8], at: usize, letter: u8, rows: &[[u64; 2]]) -> u64
         )
     }
 }
+
+extern "C" {
+    fn bench_try_reorder(
+        w: *const [u64; 2],
+        w_len: usize,
+        r: *const u64,
+        r_len: usize,
+        l: *const u64,
+        l_len: usize,
+        g: *const u64,
+        g_len: usize,
+        left: *mut u64,
+        left_len: usize,
+        right: *mut u64,
+        right_len: usize,
+    ) -> u64;
+}
+
+/// The report (1 met, 2 moved, 3 impossible), and the moved keys in the room lent where it is 2.
+pub fn try_reorder(
+    w: &[[u64; 2]],
+    r: &[u64],
+    l: &[u64],
+    g: &[u64],
+    left: &mut [u64; 32],
+    right: &mut [u64; 32],
+) -> u64 {
+    // Sound for any slices: the contract has no `requires`.
+    unsafe {
+        bench_try_reorder(
+            w.as_ptr(),
+            w.len(),
+            r.as_ptr(),
+            r.len(),
+            l.as_ptr(),
+            l.len(),
+            g.as_ptr(),
+            g.len(),
+            left.as_mut_ptr(),
+            32,
+            right.as_mut_ptr(),
+            32,
+        )
+    }
+}
