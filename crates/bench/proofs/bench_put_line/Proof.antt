@@ -31,7 +31,7 @@ same-length : tie.Need-same-length
 same-length c = search needs
 
 returns-3 : tie.Need-returns-3
-returns-3 c = room _ _ (lineText (c .before .before .before .before .before .before .before .before .before .args .letter) (map rowField (c .before .before .before .before .before .before .before .before .before .args .rows .now))) (omega (arith, c .before .before .before .before .before .before .line-length .ensures (c .before .before .before .before .before .before .before .before .before .args .letter))) _ _ _ (c .before .before .before .put-line .ensures) (c .widened .ensures)
+returns-3 c = room _ (c .before .before .before .before .before .before .before .before .before .args .at) (lineText (c .before .before .before .before .before .before .before .before .before .args .letter) (map rowField (c .before .before .before .before .before .before .before .before .before .args .rows .now))) (omega (arith, c .before .before .before .before .before .before .line-length .ensures (c .before .before .before .before .before .before .before .before .before .args .letter))) _ _ _ (c .before .before .before .put-line .ensures) (c .widened .ensures)
 
 pub bench-put-line-spec : {M : Type 1} → statement M
 bench-put-line-spec =
