@@ -1,5 +1,6 @@
 // Join keys and what is decided about them: a port of the key side of enforce_distribution.rs.
 pub mod adjust;
 pub mod expr;
+pub mod inputs;
 pub mod list;
 pub mod reorder;
