@@ -20,3 +20,4 @@ pub mod InputGuarantee
 pub mod Marked
 pub mod Needed
 pub mod Packed
+pub mod InputTurns

@@ -7,8 +7,9 @@ use mathlib.Core.List.{List, [], _∷_}
 use lib.Dec.{eqb}
 use lib.ListN.{length, take, drop}
 use denote.Ref.{RefT}
+use Rattle.keys.specs.Lists.{permute}
 use Rattle.keys.specs.Reorder.{Tried}
-use Rattle.keys.specs.Expressions.{Expression, expressions, rules}
+use Rattle.keys.specs.Expressions.{Expression, expressions, goneNumber, rules}
 use Rattle.keys.specs.Inputs.{JoinSheet, JoinAnswer, asStood, following, followedKeys}
 use Rattle.keys.specs.Arrange.{Below}
 use Rattle.keys.specs.Values.{keys, numbers, Whole, WholeNumbers, reportOf}
@@ -129,3 +130,11 @@ pub record InputsOrdered (s : JoinSheet) (a : JoinAnswer) (l : List ℕ) (report
   pub positions : take (positionCount report l) at ≡ a .positions
   pub below : Below (length l) (a .positions)
   pub handed : expressions ks ≡ followedKeys s (a .followed)
+
+-- the lists of an answer, packed: where the pairs are moved, what stands at the positions, and else what stood
+pub record InputLists (l g s : List ℕ) (a : JoinAnswer) : Type 0 where
+  pub left : a .report ≡ 2 → a .left ≡ expressions (permute goneNumber l (a .positions))
+  pub right : a .report ≡ 2 → a .right ≡ expressions (permute goneNumber g (a .positions))
+  pub directed : a .report ≡ 2 → length s ≡ length l → a .directions ≡ permute 0 s (a .positions)
+  pub undirected : s ≡ [] → a .directions ≡ []
+  pub stood : (a .report ≡ 2 → ⊥) → (a .left ≡ expressions l) × (a .right ≡ expressions g) × (a .directions ≡ s)

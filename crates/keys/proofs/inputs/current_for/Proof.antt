@@ -1,3 +1,8 @@
+-- `keys::inputs::current_for` meets its contract: the tests on op and mode choose between `order-tried` and `order-untried`.
+use mathlib.Core.Path.{sym, _∙_}
+use borrow.Author.Tests.{not-true, not-false}
+use Rattle.keys.specs.InputValues.{joinSheet}
+use Rattle.keys.proofs.InputTurns.{order-tried, order-untried}
 use borrow.Author.Needs.{needs}
 use Rattle.keys.proofs.inputs.current_for.Statement.{statement}
 use Rattle.keys.proofs.inputs.current_for.Tie as tie
@@ -7,25 +12,31 @@ use Rattle.keys.proofs.inputs.order_tried.Reads as order-tried-reads
 use Rattle.keys.proofs.inputs.reorder_current_join_keys.Reads as reorder-current-join-keys-reads
 use Rattle.keys.proofs.inputs.stood.Reads as stood-reads
 
--- src/inputs.rt:146:9
 order-tried-requires : tie.Need-order-tried-requires
 order-tried-requires c κs = search needs
 
--- src/inputs.rt:147:9
 stood-requires : tie.Need-stood-requires
 stood-requires c κs = search needs
 
--- src/inputs.rt:147:9
 returns : tie.Need-returns
-returns c = ?
+returns c =
+    let a = c .before .before .before .before .before .before .before .args in (
+      c .stood .ensures .0,
+      λ s. order-untried (joinSheet (a .op) (a .mode) (a .l .now) (a .g .now) s (a .h .now) (a .n .now) (a .w .now) (a .v .now)) (c .stood .result)
+          (sym (c .before .before .order-tried .ensures) ∙ not-true _ (c .before .if1 .taken)) (c .stood .ensures .1),
+    )
 
--- src/inputs.rt:149:5
 reorder-current-join-keys-requires : tie.Need-reorder-current-join-keys-requires
 reorder-current-join-keys-requires c κs = search needs
 
--- src/inputs.rt:142:1
 returns-2 : tie.Need-returns-2
-returns-2 c = ?
+returns-2 c =
+    let a = c .before .before .before .before .before .before .before .args in
+    let r = c .reorder-current-join-keys in (
+      r .ensures .0,
+      λ s. order-tried (joinSheet (a .op) (a .mode) (a .l .now) (a .g .now) s (a .h .now) (a .n .now) (a .w .now) (a .v .now)) _
+          (sym (c .before .before .order-tried .ensures) ∙ not-false _ (c .before .if1 .left)) (r .ensures .1 (a .op) (a .mode) s),
+    )
 
 pub current-for-spec : {M : Type 1} → statement M
 current-for-spec =

@@ -1,20 +1,19 @@
+-- `keys::inputs::hash_partitioned` meets its contract: `mark-read` turns the test of the first entry into the specification's.
+use Rattle.keys.proofs.InputTurns.{no-mark, mark-read}
 use borrow.Author.Needs.{needs}
 use Rattle.keys.proofs.inputs.hash_partitioned.Statement.{statement}
 use Rattle.keys.proofs.inputs.hash_partitioned.Tie as tie
 use Rattle.keys.proofs.inputs.hash_partitioned.Reads as reads
 use Rattle.keys.proofs.inputs.hash_partitioned.Lts as lts
 
--- src/inputs.rt:40:9
 returns : tie.Need-returns
-returns c = ?
+returns c = no-mark (c .before .args .input .now) (c .if1 .taken)
 
--- src/inputs.rt:42:5
 shared-slice-read-result : tie.Need-shared-slice-read-result
 shared-slice-read-result c = search needs
 
--- src/inputs.rt:36:1
 returns-2 : tie.Need-returns-2
-returns-2 c = ?
+returns-2 c = mark-read (c .before .before .args .input .now) (c .before .if1 .left)
 
 pub hash-partitioned-spec : {M : Type 1} → statement M
 hash-partitioned-spec = tie.close (tie.spec returns shared-slice-read-result returns-2)

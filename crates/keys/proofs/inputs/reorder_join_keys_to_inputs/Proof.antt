@@ -1,3 +1,5 @@
+-- `keys::inputs::reorder_join_keys_to_inputs` meets its contract: `inputs-ordered` reads the answer off the lent places and the part handed back.
+use Rattle.keys.proofs.InputTurns.{inputs-ordered}
 use borrow.Author.Needs.{needs}
 use Rattle.keys.proofs.inputs.reorder_join_keys_to_inputs.Statement.{statement}
 use Rattle.keys.proofs.inputs.reorder_join_keys_to_inputs.Tie as tie
@@ -9,29 +11,34 @@ use Rattle.keys.proofs.inputs.report_number.Reads as report-number-read
 use Rattle.keys.proofs.inputs.side_followed.Reads as side-followed-reads
 use Rattle.keys.proofs.inputs.side_number.Reads as side-number-reads
 
--- src/inputs.rt:191:9
 current-for-requires : tie.Need-current-for-requires
 current-for-requires c κs = search needs
 
--- src/inputs.rt:193:9
 side-followed-requires : tie.Need-side-followed-requires
 side-followed-requires c κs = search needs
 
--- src/inputs.rt:194:15
 report-number-requires : tie.Need-report-number-requires
 report-number-requires c κs = search needs
 
--- src/inputs.rt:195:17
 side-number-requires : tie.Need-side-number-requires
 side-number-requires c κs = search needs
 
--- src/inputs.rt:199:5
 followed-keys-requires : tie.Need-followed-keys-requires
 followed-keys-requires c κs = search needs
 
--- src/inputs.rt:187:1
 returns : tie.Need-returns
-returns c = ?
+returns c =
+    let s = c .before .before .before .before .before .before .before .before .before .before .before in
+    let a = s .args in
+    let d = c .before .before .before .before .before .before .current-for in
+    let side = c .before .before .before .before .before .side-followed in
+    let report = c .before .before .before .before .report-number in
+    let number = c .before .before .before .side-number in
+    let k = c .followed-keys in (
+      rw (number .ensures) (k .ensures),
+      λ t. inputs-ordered (a .op) (a .mode) (a .l .now) (a .g .now) t (a .h) (a .n) (a .w .now) (a .v .now) (s .pre .1) (d .result) (d .ensures .0) (d .ensures .1 t)
+          (report .result) (number .result) (side .result) (k .result) (report .ensures) (number .ensures) (side .ensures) (k .ensures),
+    )
 
 pub reorder-join-keys-to-inputs-spec : {M : Type 1} → statement M
 reorder-join-keys-to-inputs-spec =
