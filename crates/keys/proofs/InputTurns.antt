@@ -1,7 +1,8 @@
 -- What the code of `inputs` goes by: the part after a mark, one side's try, left before right, and the lists of an answer.
 --     inputs-counted    how many positions are reported, and that they are below the pairs' number
 --     inputs-lists      the answer's keys and directions are those at the positions, or as they stood
---     followed-part     the keys followed are what stands after the mark of the side followed
+--     left-keys, left-marked, right-keys, right-marked    the keys followed are what stands after the mark, at 1, of the side followed
+--     inputs-ordered    the lent places and the part handed back, where the code's answer is the sheet's
 -- Assumes nothing.
 use Prim.Native.Nat.{ℕ, suc, _≤_, _+_, _*_, _-_}
 use mathlib.Core.Path.{_≡_, refl, ap, sym, _∙_, subst}
@@ -64,6 +65,10 @@ marked-keys (m ∷ ks) r e = go (eqb m 1) e
     go : (b : Bool) → cond b (some (expressions ks)) none ≡ some r → r ≡ expressions ks
     go true e = cc
     go false e = none-some refl e
+
+pub mark-one : (h : List ℕ) (r : List Expression) → inputOf h ≡ some r → markLength h ≡ 1
+mark-one [] r e = none-some refl e
+mark-one (m ∷ ks) r e = refl
 
 pub hashed-keys : (h : List ℕ) → hashed (inputOf h) ≡ true → inputOf h ≡ some (expressions (drop 1 h))
 hashed-keys h e = go (inputOf h) refl e
@@ -276,10 +281,10 @@ pub record Counted (l : List ℕ) (a : JoinAnswer) : Type 0 where
   pub below : Below (length l) (a .positions)
 
 module _ (op mode : ℕ) (l g s h n : List ℕ) (w v : List (List ℕ)) where
-  abbrev sheet : JoinSheet
+  abbrev pub sheet : JoinSheet
   sheet = joinSheet op mode l g s h n w v
 
-  abbrev answered : JoinAnswer
+  abbrev pub answered : JoinAnswer
   answered = reorderJoinKeysToInputs sheet sameExpr
 
   -- one try
@@ -337,23 +342,29 @@ module _ (op mode : ℕ) (l g s h n : List ℕ) (w v : List (List ℕ)) where
         go a (allImpossible x f) = stood-lists 3 (λ e. omega arith)
         go a (followed x side r e k) = try-lists (askedUnder sheet side) r even side _ (try-way (askedUnder sheet side) r even)
 
-    -- the side followed is a list with mark 1
-    module _ (a : JoinAnswer) (way : InputWay sameExpr sheet a) where
-      left-keys : a .followed ≡ 1 → followedKeys sheet (a .followed) ≡ expressions (drop 1 h)
-      left-keys e = rw e (go a way e)
-        where
-          go : (a : JoinAnswer) → InputWay sameExpr sheet a → a .followed ≡ 1 → inputKeys (inputOf h) ≡ expressions (drop 1 h)
-          go a (unasked x) e = absurd (omega arith)
-          go a (allImpossible x f) e = absurd (omega arith)
-          go a (followed x side r k f) e = let i : inputOf h ≡ some r = rw e at k in rw i (marked-keys h r i)
+  -- the side followed is a list with mark 1
+  left-input : (a : JoinAnswer) → InputWay sameExpr sheet a → a .followed ≡ 1 → inputOf h ≡ some (expressions (drop 1 h))
+  left-input a (unasked x) e = absurd (omega arith)
+  left-input a (allImpossible x f) e = absurd (omega arith)
+  left-input a (followed x side r k f) e = let i : inputOf h ≡ some r = rw e at k in i ∙ ap {B = Option (List Expression)} some (marked-keys h r i)
 
-      right-keys : a .followed ≡ 2 → followedKeys sheet (a .followed) ≡ expressions (drop 1 n)
-      right-keys e = rw e (go a way e)
-        where
-          go : (a : JoinAnswer) → InputWay sameExpr sheet a → a .followed ≡ 2 → inputKeys (inputOf n) ≡ expressions (drop 1 n)
-          go a (unasked x) e = absurd (omega arith)
-          go a (allImpossible x f) e = absurd (omega arith)
-          go a (followed x side r k f) e = let i : inputOf n ≡ some r = rw e at k in rw i (marked-keys n r i)
+  right-input : (a : JoinAnswer) → InputWay sameExpr sheet a → a .followed ≡ 2 → inputOf n ≡ some (expressions (drop 1 n))
+  right-input a (unasked x) e = absurd (omega arith)
+  right-input a (allImpossible x f) e = absurd (omega arith)
+  right-input a (followed x side r k f) e = let i : inputOf n ≡ some r = rw e at k in i ∙ ap {B = Option (List Expression)} some (marked-keys n r i)
+
+  -- so the part handed back starts at 1
+  pub left-marked : answered .followed ≡ 1 → markLength h ≡ 1
+  left-marked e = mark-one h (expressions (drop 1 h)) (left-input answered (input-way sameExpr sheet) e)
+
+  pub right-marked : answered .followed ≡ 2 → markLength n ≡ 1
+  right-marked e = mark-one n (expressions (drop 1 n)) (right-input answered (input-way sameExpr sheet) e)
+
+  pub left-keys : answered .followed ≡ 1 → followedKeys sheet (answered .followed) ≡ expressions (drop 1 h)
+  left-keys e = rw (e, left-input answered (input-way sameExpr sheet) e)
+
+  pub right-keys : answered .followed ≡ 2 → followedKeys sheet (answered .followed) ≡ expressions (drop 1 n)
+  right-keys e = rw (e, right-input answered (input-way sameExpr sheet) e)
 
 -- what the lent places and the part handed back say, where c is the answer
 module _ (op mode : ℕ) (l g s : List ℕ) (h n : RefT (List ℕ)) (w v : List (List ℕ)) (even : length g ≡ length l) (c : Current) (whole : WholeCurrent c) where
@@ -394,8 +405,8 @@ module _ (op mode : ℕ) (l g s : List ℕ) (h n : RefT (List ℕ)) (w v : List 
 
     keys-are : (side : Side) (r : RefT (List ℕ)) → sideNumber side ≡ theAnswer .followed → HandedBack (sideNumber side) h n r → expressions (r .now) ≡ followedKeys theSheet (theAnswer .followed)
     keys-are Neither r z b = rw (← z, b .neither refl .contents)
-    keys-are Left r z b = rw (part-keys h r (b .left refl)) (sym (left-keys op mode l g s (h .now) (n .now) w v even theAnswer (input-way sameExpr theSheet) (sym z)))
-    keys-are Right r z b = rw (part-keys n r (b .right refl)) (sym (right-keys op mode l g s (h .now) (n .now) w v even theAnswer (input-way sameExpr theSheet) (sym z)))
+    keys-are Left r z b = rw (part-keys h r (b .left refl)) (sym (left-keys op mode l g s (h .now) (n .now) w v (sym z)))
+    keys-are Right r z b = rw (part-keys n r (b .right refl)) (sym (right-keys op mode l g s (h .now) (n .now) w v (sym z)))
 
     pub inputs-ordered :
         (report number : ℕ) (side : Side) (r : RefT (List ℕ)) → report ≡ reportBy (c .outcome) → number ≡ sideNumber side → side ≡ sideBy (c .outcome) →

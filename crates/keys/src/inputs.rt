@@ -94,7 +94,7 @@ fn follow(side: Side, tried: Reorder) -> Current
 // One side under its own rewriting.
 fn try_side(side: Side, l: &[u64], g: &[u64], input: &[u64], rewriting: &[[u64; 2]]) -> Current
     requires { ⌜ (length (now l) ≤ 32) × (length (now g) ≡ length (now l)) × (length (now input) ≤ 33) ⌝ }
-    ensures { λ r. ⌜ WholeCurrent r × ((s : JoinSheet) (impossible untried : JoinAnswer) → answerBy (withPairs (now (l .entry)) (now (g .entry)) s) r impossible untried (r .outcome) ≡ trySide (withPairs (now (l .entry)) (now (g .entry)) s) sameExpr (sideNumber side) (rules (now (rewriting .entry))) impossible untried (inputOf (now (input .entry)))) ⌝ }
+    ensures { λ r. ⌜ WholeCurrent r × ((s : JoinSheet) (impossible untried : JoinAnswer) → let t = withPairs (now (l .entry)) (now (g .entry)) s in answerBy t r impossible untried (r .outcome) ≡ trySide t sameExpr (sideNumber side) (rules (now (rewriting .entry))) impossible untried (inputOf (now (input .entry)))) ⌝ }
 {
     if !hash_partitioned(input) {
         return stood(Attempt::Untried);
@@ -109,9 +109,16 @@ fn try_side(side: Side, l: &[u64], g: &[u64], input: &[u64], rewriting: &[[u64; 
 }
 
 // Left first, right if left is impossible or not hash partitioned.
-pub fn reorder_current_join_keys(l: &[u64], g: &[u64], h: &[u64], n: &[u64], w: &[[u64; 2]], v: &[[u64; 2]]) -> Current
+pub fn reorder_current_join_keys(
+    l: &[u64],
+    g: &[u64],
+    h: &[u64],
+    n: &[u64],
+    w: &[[u64; 2]],
+    v: &[[u64; 2]],
+) -> Current
     requires { ⌜ (length (now l) ≤ 32) × (length (now g) ≡ length (now l)) × (length (now h) ≤ 33) × (length (now n) ≤ 33) ⌝ }
-    ensures { λ r. ⌜ WholeCurrent r × ((op mode : ℕ) (s : List ℕ) → currentOf (joinSheet op mode (now (l .entry)) (now (g .entry)) s (now (h .entry)) (now (n .entry)) (now (w .entry)) (now (v .entry))) r ≡ reorderCurrentJoinKeys (joinSheet op mode (now (l .entry)) (now (g .entry)) s (now (h .entry)) (now (n .entry)) (now (w .entry)) (now (v .entry))) sameExpr) ⌝ }
+    ensures { λ r. ⌜ WholeCurrent r × ((op mode : ℕ) (s : List ℕ) → let t = joinSheet op mode (now (l .entry)) (now (g .entry)) s (now (h .entry)) (now (n .entry)) (now (w .entry)) (now (v .entry)) in currentOf t r ≡ reorderCurrentJoinKeys t sameExpr) ⌝ }
 {
     let left = try_side(Side::Left, l, g, h, w);
     let o = left.outcome;
@@ -139,9 +146,19 @@ fn order_tried(op: u64, mode: u64) -> bool
     mode == 0
 }
 
-pub fn current_for(op: u64, mode: u64, l: &[u64], g: &[u64], h: &[u64], n: &[u64], w: &[[u64; 2]], v: &[[u64; 2]]) -> Current
+// Every list of the answer, by value; `followed_keys` of its side hands back the keys.
+pub fn join_keys_to_inputs(
+    op: u64,
+    mode: u64,
+    l: &[u64],
+    g: &[u64],
+    h: &[u64],
+    n: &[u64],
+    w: &[[u64; 2]],
+    v: &[[u64; 2]],
+) -> Current
     requires { ⌜ (length (now l) ≤ 32) × (length (now g) ≡ length (now l)) × (length (now h) ≤ 33) × (length (now n) ≤ 33) ⌝ }
-    ensures { λ r. ⌜ WholeCurrent r × ((s : List ℕ) → currentOf (joinSheet op mode (now (l .entry)) (now (g .entry)) s (now (h .entry)) (now (n .entry)) (now (w .entry)) (now (v .entry))) r ≡ reorderJoinKeysToInputs (joinSheet op mode (now (l .entry)) (now (g .entry)) s (now (h .entry)) (now (n .entry)) (now (w .entry)) (now (v .entry))) sameExpr) ⌝ }
+    ensures { λ r. ⌜ WholeCurrent r × ((s : List ℕ) → let t = joinSheet op mode (now (l .entry)) (now (g .entry)) s (now (h .entry)) (now (n .entry)) (now (w .entry)) (now (v .entry)) in currentOf t r ≡ reorderJoinKeysToInputs t sameExpr) ⌝ }
 {
     if !order_tried(op, mode) {
         return stood(Attempt::Untried);
@@ -184,11 +201,23 @@ pub fn side_number(side: Side) -> u64
 }
 
 // The keys that were followed, and in the lent places the report, the side and the positions.
-pub fn reorder_join_keys_to_inputs<'a>(op: u64, mode: u64, l: &[u64], g: &[u64], h: &'a [u64], n: &'a [u64], w: &[[u64; 2]], v: &[[u64; 2]], report: &mut u64, followed: &mut u64, at: &mut [u64; 32]) -> &'a [u64]
+pub fn reorder_join_keys_to_inputs<'a>(
+    op: u64,
+    mode: u64,
+    l: &[u64],
+    g: &[u64],
+    h: &'a [u64],
+    n: &'a [u64],
+    w: &[[u64; 2]],
+    v: &[[u64; 2]],
+    report: &mut u64,
+    followed: &mut u64,
+    at: &mut [u64; 32],
+) -> &'a [u64]
     requires { ⌜ (length (now l) ≤ 32) × (length (now g) ≡ length (now l)) × (length (now h) ≤ 33) × (length (now n) ≤ 33) ⌝ }
-    ensures { λ r. ⌜ HandedBack (now (followed .exit)) (h .entry) (n .entry) r × ((s : List ℕ) → InputsOrdered (joinSheet op mode (now (l .entry)) (now (g .entry)) s (now (h .entry)) (now (n .entry)) (now (w .entry)) (now (v .entry))) (reorderJoinKeysToInputs (joinSheet op mode (now (l .entry)) (now (g .entry)) s (now (h .entry)) (now (n .entry)) (now (w .entry)) (now (v .entry))) sameExpr) (now (l .entry)) (now (report .exit)) (now (followed .exit)) (now (at .exit)) (now r)) ⌝ }
+    ensures { λ r. ⌜ HandedBack (now (followed .exit)) (h .entry) (n .entry) r × ((s : List ℕ) → let t = joinSheet op mode (now (l .entry)) (now (g .entry)) s (now (h .entry)) (now (n .entry)) (now (w .entry)) (now (v .entry)) in InputsOrdered t (reorderJoinKeysToInputs t sameExpr) (now (l .entry)) (now (report .exit)) (now (followed .exit)) (now (at .exit)) (now r)) ⌝ }
 {
-    let current = current_for(op, mode, l, g, h, n, w, v);
+    let current = join_keys_to_inputs(op, mode, l, g, h, n, w, v);
     let o = current.outcome;
     let side = side_followed(o);
     *report = report_number(o);

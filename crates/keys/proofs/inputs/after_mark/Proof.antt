@@ -4,8 +4,6 @@ use Rattle.keys.proofs.InputTurns.{whole-part, later-part}
 use borrow.Author.Needs.{needs}
 use Rattle.keys.proofs.inputs.after_mark.Statement.{statement}
 use Rattle.keys.proofs.inputs.after_mark.Tie as tie
-use Rattle.keys.proofs.inputs.after_mark.Reads as reads
-use Rattle.keys.proofs.inputs.after_mark.Lts as lts
 
 returns : tie.Need-returns
 returns c = whole-part (c .before .args .input) (c .if1 .taken)

@@ -4,9 +4,6 @@ use Rattle.keys.proofs.InputTurns.{handed-nothing, handed-left, handed-
 use borrow.Author.Needs.{needs}
 use Rattle.keys.proofs.inputs.followed_keys.Statement.{statement}
 use Rattle.keys.proofs.inputs.followed_keys.Tie as tie
-use Rattle.keys.proofs.inputs.followed_keys.Reads as reads
-use Rattle.keys.proofs.inputs.followed_keys.Lts as lts
-use Rattle.keys.proofs.inputs.after_mark.Reads as after-mark-reads
 
 enum-told : tie.Need-enum-told
 enum-told c = search needs

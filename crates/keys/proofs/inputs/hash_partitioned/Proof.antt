@@ -3,8 +3,6 @@ use Rattle.keys.proofs.InputTurns.{no-mark, mark-read}
 use borrow.Author.Needs.{needs}
 use Rattle.keys.proofs.inputs.hash_partitioned.Statement.{statement}
 use Rattle.keys.proofs.inputs.hash_partitioned.Tie as tie
-use Rattle.keys.proofs.inputs.hash_partitioned.Reads as reads
-use Rattle.keys.proofs.inputs.hash_partitioned.Lts as lts
 
 returns : tie.Need-returns
 returns c = no-mark (c .before .args .input .now) (c .if1 .taken)

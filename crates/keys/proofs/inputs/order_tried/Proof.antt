@@ -2,8 +2,6 @@
 use borrow.Author.Tests.{eq-eqb, ne-eqb}
 use Rattle.keys.proofs.inputs.order_tried.Statement.{statement}
 use Rattle.keys.proofs.inputs.order_tried.Tie as tie
-use Rattle.keys.proofs.inputs.order_tried.Reads as reads
-use Rattle.keys.proofs.inputs.order_tried.Lts as lts
 
 returns : tie.Need-returns
 returns c = rw (eq-eqb _ _ (c .if1 .taken))

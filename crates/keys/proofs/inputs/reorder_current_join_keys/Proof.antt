@@ -16,9 +16,6 @@ use Rattle.keys.proofs.InputTurns.{Unfollowed, Asked, left-followed, ri
 use borrow.Author.Needs.{needs}
 use Rattle.keys.proofs.inputs.reorder_current_join_keys.Statement.{statement}
 use Rattle.keys.proofs.inputs.reorder_current_join_keys.Tie as tie
-use Rattle.keys.proofs.inputs.reorder_current_join_keys.Reads as reads
-use Rattle.keys.proofs.inputs.reorder_current_join_keys.Lts as lts
-use Rattle.keys.proofs.inputs.try_side.Reads as try-side-reads
 
 unfollowed : (a : Attempt) → OneOf (0 ∷ 2 ∷ []) (tagOf the-type a) → Unfollowed a
 unfollowed Untried h = tt

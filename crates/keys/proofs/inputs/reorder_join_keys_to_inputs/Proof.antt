@@ -3,16 +3,9 @@ use Rattle.keys.proofs.InputTurns.{inputs-ordered}
 use borrow.Author.Needs.{needs}
 use Rattle.keys.proofs.inputs.reorder_join_keys_to_inputs.Statement.{statement}
 use Rattle.keys.proofs.inputs.reorder_join_keys_to_inputs.Tie as tie
-use Rattle.keys.proofs.inputs.reorder_join_keys_to_inputs.Reads as reads
-use Rattle.keys.proofs.inputs.reorder_join_keys_to_inputs.Lts as lts
-use Rattle.keys.proofs.inputs.current_for.Reads as current-for-reads
-use Rattle.keys.proofs.inputs.followed_keys.Reads as followed-keys-reads
-use Rattle.keys.proofs.inputs.report_number.Reads as report-number-reads
-use Rattle.keys.proofs.inputs.side_followed.Reads as side-followed-reads
-use Rattle.keys.proofs.inputs.side_number.Reads as side-number-reads
 
-current-for-requires : tie.Need-current-for-requires
-current-for-requires c κs = search needs
+join-keys-to-inputs-requires : tie.Need-join-keys-to-inputs-requires
+join-keys-to-inputs-requires c κs = search needs
 
 side-followed-requires : tie.Need-side-followed-requires
 side-followed-requires c κs = search needs
@@ -30,7 +23,7 @@ returns : tie.Need-returns
 returns c =
     let s = c .before .before .before .before .before .before .before .before .before .before .before in
     let a = s .args in
-    let d = c .before .before .before .before .before .before .current-for in
+    let d = c .before .before .before .before .before .before .join-keys-to-inputs in
     let side = c .before .before .before .before .before .side-followed in
     let report = c .before .before .before .before .report-number in
     let number = c .before .before .before .side-number in
@@ -44,7 +37,7 @@ pub reorder-join-keys-to-inputs-spec : {M : Type 1} → statement M
 reorder-join-keys-to-inputs-spec =
     tie.close
     (tie.spec
-    current-for-requires
+    join-keys-to-inputs-requires
     side-followed-requires
     report-number-requires
     side-number-requires

@@ -19,13 +19,6 @@ use Rattle.keys.proofs.InputTurns.{part-few, part-input, side-untried, 
 use borrow.Author.Needs.{needs}
 use Rattle.keys.proofs.inputs.try_side.Statement.{statement}
 use Rattle.keys.proofs.inputs.try_side.Tie as tie
-use Rattle.keys.proofs.inputs.try_side.Reads as reads
-use Rattle.keys.proofs.inputs.try_side.Lts as lts
-use Rattle.keys.proofs.inputs.after_mark.Reads as after-mark-reads
-use Rattle.keys.proofs.inputs.follow.Reads as follow-reads
-use Rattle.keys.proofs.inputs.hash_partitioned.Reads as hash-partitioned-reads
-use Rattle.keys.proofs.inputs.stood.Reads as stood-reads
-use Rattle.keys.proofs.reorder.try_reorder.Reads as try-reorder-reads
 
 -- what is tried is the list after the mark
 keys-tried : (d : tie.After-try-reorder) → inputOf (d .before .before .before .before .before .before .before .args .input .now) ≡ some (expressions (d .before .after-mark .result .now))

@@ -1,16 +1,11 @@
--- `keys::inputs::current_for` meets its contract: the tests on op and mode choose between `order-tried` and `order-untried`.
+-- `keys::inputs::join_keys_to_inputs` meets its contract: the tests on op and mode choose between `order-tried` and `order-untried`.
 use mathlib.Core.Path.{sym, _∙_}
 use borrow.Author.Tests.{not-true, not-false}
 use Rattle.keys.specs.InputValues.{joinSheet}
 use Rattle.keys.proofs.InputTurns.{order-tried, order-untried}
 use borrow.Author.Needs.{needs}
-use Rattle.keys.proofs.inputs.current_for.Statement.{statement}
-use Rattle.keys.proofs.inputs.current_for.Tie as tie
-use Rattle.keys.proofs.inputs.current_for.Reads as reads
-use Rattle.keys.proofs.inputs.current_for.Lts as lts
-use Rattle.keys.proofs.inputs.order_tried.Reads as order-tried-reads
-use Rattle.keys.proofs.inputs.reorder_current_join_keys.Reads as reorder-current-join-keys-reads
-use Rattle.keys.proofs.inputs.stood.Reads as stood-reads
+use Rattle.keys.proofs.inputs.join_keys_to_inputs.Statement.{statement}
+use Rattle.keys.proofs.inputs.join_keys_to_inputs.Tie as tie
 
 order-tried-requires : tie.Need-order-tried-requires
 order-tried-requires c κs = search needs
@@ -38,8 +33,8 @@ returns-2 c =
           (sym (c .before .before .order-tried .ensures) ∙ not-false _ (c .before .if1 .left)) (r .ensures .1 (a .op) (a .mode) s),
     )
 
-pub current-for-spec : {M : Type 1} → statement M
-current-for-spec =
+pub join-keys-to-inputs-spec : {M : Type 1} → statement M
+join-keys-to-inputs-spec =
     tie.close
     (tie.spec
     order-tried-requires
