@@ -8,9 +8,8 @@ use Prim.Native.Nat.{ℕ, suc, _≤_, _+_, _*_, _-_}
 use mathlib.Core.Path.{_≡_, refl, ap, sym, _∙_, subst}
 use mathlib.Core.Bool.{Bool, true, false, cond}
 use mathlib.Core.Option.{Option, none, some}
-use mathlib.Core.List.{List, [], _∷_, map}
+use mathlib.Core.List.{List, [], _∷_}
 use native.Mathlib.Omega.{arith}
-use borrow.Author.Tests.{eq-eqb, ne-eqb}
 use lib.Dec.{eqb}
 use lib.ListN.{length, take, drop, getD, set, length-map, length-drop}
 use denote.Ref.{RefT}
@@ -18,10 +17,9 @@ use lib.Seq.{take-all, length-take-le}
 use Rattle.keys.specs.Lists.{also, andThen, orElse, takePlaces, placeOf, expectedExprPositions, permute}
 use Rattle.keys.specs.Reorder.{Rule, Tried, rewrite, eitherSide, tryReorder}
 use Rattle.keys.specs.Expressions.{Expression, sameExpr, placeholder, goneNumber, expression, expressions, rules}
-use Rattle.keys.specs.Arrange.{Below, AllBelow}
-use Rattle.keys.specs.Adjust.{movedDirections}
-use Rattle.keys.specs.Inputs.{JoinSheet, JoinAnswer, asStood, following, trySide, tryRight, reorderCurrentJoinKeys, reorderJoinKeysToInputs, inputKeys, followedKeys}
-use Rattle.keys.specs.Kept.{hashed, asked, askedUnder, orderTried}
+use Rattle.keys.specs.Arrange.{Below}
+use Rattle.keys.specs.Inputs.{JoinSheet, JoinAnswer, asStood, following, trySide, tryRight, reorderCurrentJoinKeys, reorderJoinKeysToInputs, followedKeys}
+use Rattle.keys.specs.Kept.{hashed, askedUnder, orderTried}
 use Rattle.keys.specs.Values.{numbers, numberRules, reportOf, resulting, triedOf}
 use Rattle.keys.specs.InputValues.{inputOf, joinSheet, withPairs, sideNumber, markLength, PartOf, HandedBack, movedTo, currentTry, answerBy, currentOf, WholeCurrent, reportBy, sideBy, positionCount, InputsOrdered, InputLists}
 use Rattle.keys.specs.declared.list.KeyList.{KeyList}
