@@ -1,8 +1,8 @@
 -- What the code of `inputs` goes by: the part after a mark, one side's try, left before right, and the lists of an answer.
---     inputs-counted    how many positions are reported, and that they are below the pairs' number
---     inputs-lists      the answer's keys and directions are those at the positions, or as they stood
---     left-keys, left-marked, right-keys, right-marked    the keys followed are what stands after the mark, at 1, of the side followed
---     inputs-ordered    the lent places and the part handed back, where the code's answer is the sheet's
+--     inputs-counted                   how many positions are reported, and that they are below the pairs' number
+--     inputs-lists                     the answer's keys and directions are those at the positions, or as they stood
+--     left-marked, right-marked        the list followed has a mark, so the part handed back starts at 1
+--     moved-below, moved-left, ..      for a caller of `reorder_join_keys_to_inputs`: the answer's lists, by what stands in the lent places
 -- Assumes nothing.
 use Prim.Native.Nat.{ℕ, suc, _≤_, _+_, _*_, _-_}
 use mathlib.Core.Path.{_≡_, refl, ap, sym, _∙_, subst}
@@ -420,3 +420,42 @@ module _ (op mode : ℕ) (l g s : List ℕ) (h n : RefT (List ℕ)) (w v : List 
           below = m .below;
           handed = keys-are side r y b;
         }
+
+-- for a caller: the lists of the answer, by what stands in the lent places
+module _
+    (op mode : ℕ) (l g s h n : List ℕ) (w v : List (List ℕ)) (even : length g ≡ length l) {report number : ℕ} {at ks : List ℕ}
+    (o : InputsOrdered (sheet op mode l g s h n w v) (answered op mode l g s h n w v) l report number at ks) where
+  abbrev lists : InputLists l g s (answered op mode l g s h n w v)
+  lists = inputs-lists op mode l g s h n w v even
+
+  module _ (e : report ≡ 2) where
+    moved : answered op mode l g s h n w v .report ≡ 2
+    moved = sym (o .reported) ∙ e
+
+    pub moved-positions : take (length l) at ≡ answered op mode l g s h n w v .positions
+    moved-positions = rw e at (o .positions)
+
+    pub moved-below : Below (length l) (take (length l) at)
+    moved-below = rw moved-positions (o .below)
+
+    pub moved-left : expressions (permute goneNumber l (take (length l) at)) ≡ answered op mode l g s h n w v .left
+    moved-left = rw moved-positions (sym (lists .left moved))
+
+    pub moved-right : expressions (permute goneNumber g (take (length l) at)) ≡ answered op mode l g s h n w v .right
+    moved-right = rw moved-positions (sym (lists .right moved))
+
+    pub moved-directions : length s ≡ length l → permute 0 s (take (length l) at) ≡ answered op mode l g s h n w v .directions
+    moved-directions d = rw moved-positions (sym (lists .directed moved d))
+
+  module _ (e : report ≡ 2 → ⊥) where
+    unmoved : answered op mode l g s h n w v .report ≡ 2 → ⊥
+    unmoved k = e (o .reported ∙ k)
+
+    pub stood-left : expressions l ≡ answered op mode l g s h n w v .left
+    stood-left = sym (lists .stood unmoved .0)
+
+    pub stood-right : expressions g ≡ answered op mode l g s h n w v .right
+    stood-right = sym (lists .stood unmoved .1)
+
+    pub stood-directions : s ≡ answered op mode l g s h n w v .directions
+    stood-directions = sym (lists .stood unmoved .2)

@@ -215,7 +215,7 @@ pub fn reorder_join_keys_to_inputs<'a>(
     at: &mut [u64; 32],
 ) -> &'a [u64]
     requires { ⌜ (length (now l) ≤ 32) × (length (now g) ≡ length (now l)) × (length (now h) ≤ 33) × (length (now n) ≤ 33) ⌝ }
-    ensures { λ r. ⌜ HandedBack (now (followed .exit)) (h .entry) (n .entry) r × ((s : List ℕ) → let t = joinSheet op mode (now (l .entry)) (now (g .entry)) s (now (h .entry)) (now (n .entry)) (now (w .entry)) (now (v .entry)) in InputsOrdered t (reorderJoinKeysToInputs t sameExpr) (now (l .entry)) (now (report .exit)) (now (followed .exit)) (now (at .exit)) (now r)) ⌝ }
+    ensures { λ r. ⌜ HandedBack (now (followed .exit)) (h .entry) (n .entry) r × (length (now (at .exit)) ≡ 32) × ((s : List ℕ) → let t = joinSheet op mode (now (l .entry)) (now (g .entry)) s (now (h .entry)) (now (n .entry)) (now (w .entry)) (now (v .entry)) in InputsOrdered t (reorderJoinKeysToInputs t sameExpr) (now (l .entry)) (now (report .exit)) (now (followed .exit)) (now (at .exit)) (now r)) ⌝ }
 {
     let current = join_keys_to_inputs(op, mode, l, g, h, n, w, v);
     let o = current.outcome;

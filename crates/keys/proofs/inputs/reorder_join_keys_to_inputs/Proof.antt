@@ -29,6 +29,7 @@ returns c =
     let number = c .before .before .before .side-number in
     let k = c .followed-keys in (
       rw (number .ensures) (k .ensures),
+      d .ensures .0 .at .full,
       λ t. inputs-ordered (a .op) (a .mode) (a .l .now) (a .g .now) t (a .h) (a .n) (a .w .now) (a .v .now) (s .pre .1) (d .result) (d .ensures .0) (d .ensures .1 t)
           (report .result) (number .result) (side .result) (k .result) (report .ensures) (number .ensures) (side .ensures) (k .ensures),
     )
