@@ -1,0 +1,102 @@
+-- `keys_cases::key_case::answer` is safe and ends: where `fits` says so, `keys` has what it asks.
+use borrow.Author.Needs.{needs}
+use Rattle.keys_cases.proofs.key_case.answer.Statement.{statement}
+use Rattle.keys_cases.proofs.key_case.answer.Tie as tie
+use Rattle.keys_cases.proofs.key_case.answer.Reads as reads
+use Rattle.keys_cases.proofs.key_case.answer.Lts as lts
+use Rattle.keys.proofs.adjust.adjust_input_keys_ordering.Reads as adjust-input-keys-ordering-reads
+use Rattle.keys_cases.proofs.key_case.first_rules.Reads as first-rules-reads
+use Rattle.keys_cases.proofs.key_case.fits.Reads as fits-reads
+use Rattle.keys_cases.proofs.key_case.operator.Reads as operator-reads
+use Rattle.keys_cases.proofs.key_case.pair_up.Reads as pair-up-reads
+use Rattle.keys_cases.proofs.key_case.put_answer.Reads as put-answer-reads
+use Rattle.keys_cases.proofs.sheet.list.Reads as list-reads
+
+list-requires : tie.Need-list-requires
+list-requires c κs = search needs
+
+list-requires-2 : tie.Need-list-requires-2
+list-requires-2 c κs = search needs
+
+list-requires-3 : tie.Need-list-requires-3
+list-requires-3 c κs = search needs
+
+list-requires-4 : tie.Need-list-requires-4
+list-requires-4 c κs = search needs
+
+list-requires-5 : tie.Need-list-requires-5
+list-requires-5 c κs = search needs
+
+list-requires-6 : tie.Need-list-requires-6
+list-requires-6 c κs = search needs
+
+list-requires-7 : tie.Need-list-requires-7
+list-requires-7 c κs = search needs
+
+list-requires-8 : tie.Need-list-requires-8
+list-requires-8 c κs = search needs
+
+returns : tie.Need-returns
+returns c = search needs
+
+list-requires-9 : tie.Need-list-requires-9
+list-requires-9 c κs = search needs
+
+operator-requires : tie.Need-operator-requires
+operator-requires c κs = search needs
+
+pair-up-requires : tie.Need-pair-up-requires
+pair-up-requires c κs = search needs
+
+first-rules-requires : tie.Need-first-rules-requires
+first-rules-requires c κs = search needs
+
+fits-requires : tie.Need-fits-requires
+fits-requires c κs = search needs
+
+adjust-input-keys-ordering-requires : tie.Need-adjust-input-keys-ordering-requires
+adjust-input-keys-ordering-requires c κs = c .before .fits2 .ensures (c .if2 .taken)
+
+put-answer-requires : tie.Need-put-answer-requires
+put-answer-requires c κs = search needs
+
+same-length : tie.Need-same-length
+same-length c = search needs
+
+same-length-2 : tie.Need-same-length-2
+same-length-2 c = search needs
+
+returns-2 : tie.Need-returns-2
+returns-2 c = search needs
+
+same-length-3 : tie.Need-same-length-3
+same-length-3 c = search needs
+
+returns-3 : tie.Need-returns-3
+returns-3 c = search needs
+
+pub answer-spec : {M : Type 1} → statement M
+answer-spec =
+    tie.close
+    (tie.spec
+    list-requires
+    list-requires-2
+    list-requires-3
+    list-requires-4
+    list-requires-5
+    list-requires-6
+    list-requires-7
+    list-requires-8
+    returns
+    list-requires-9
+    operator-requires
+    pair-up-requires
+    first-rules-requires
+    fits-requires
+    adjust-input-keys-ordering-requires
+    put-answer-requires
+    same-length
+    same-length-2
+    returns-2
+    same-length-3
+    returns-3)

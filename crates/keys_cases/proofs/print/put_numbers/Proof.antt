@@ -1,0 +1,68 @@
+-- `keys_cases::print::put_numbers` is safe and ends.
+use lib.ListN.{length}
+use Prim.Native.Nat.{_≤_, _-_}
+use mathlib.Core.Path.{_≡_}
+use borrow.Author.Needs.{needs}
+use Rattle.keys_cases.proofs.print.put_numbers.Statement.{statement}
+use Rattle.keys_cases.proofs.print.put_numbers.Tie as tie
+use Rattle.keys_cases.proofs.print.put_numbers.Reads as reads
+use Rattle.keys_cases.proofs.print.put_numbers.Lts as lts
+use Rattle.keys_cases.proofs.print.put.Reads as put-reads
+use Rattle.keys_cases.proofs.print.put_field.Reads as put-field-reads
+
+abbrev Inv-loop : tie.InvT-loop
+Inv-loop out₀ at letter numbers p₀ i₀ out p i = (i ≤ length numbers) × (length out ≡ length out₀)
+
+abbrev μ-loop : tie.MeasureT-loop
+μ-loop out₀ at letter numbers p₀ i₀ out p i = length numbers - i
+
+put-requires : tie.Need-put-requires Inv-loop μ-loop
+put-requires c κs = search needs
+
+loop-holds : tie.Need-loop-holds Inv-loop μ-loop
+loop-holds c = search needs
+
+mul-put-field : tie.Need-mul-put-field Inv-loop μ-loop
+mul-put-field c = search needs
+
+shared-slice-read-put-field : tie.Need-shared-slice-read-put-field Inv-loop μ-loop
+shared-slice-read-put-field c = search needs
+
+put-field-requires : tie.Need-put-field-requires Inv-loop μ-loop
+put-field-requires c κs = search needs
+
+add-i : tie.Need-add-i Inv-loop μ-loop
+add-i c = search needs
+
+loop-less : tie.Need-loop-less Inv-loop μ-loop
+loop-less c = search needs
+
+loop-again : tie.Need-loop-again Inv-loop μ-loop
+loop-again c = search needs
+
+put-requires-2 : tie.Need-put-requires-2 Inv-loop μ-loop
+put-requires-2 c κs = search needs
+
+same-length : tie.Need-same-length Inv-loop μ-loop
+same-length c = search needs
+
+returns : tie.Need-returns Inv-loop μ-loop
+returns c = search needs
+
+pub put-numbers-spec : {M : Type 1} → statement M
+put-numbers-spec =
+    tie.close
+    (tie.spec
+    Inv-loop
+    μ-loop
+    put-requires
+    loop-holds
+    mul-put-field
+    shared-slice-read-put-field
+    put-field-requires
+    add-i
+    loop-less
+    loop-again
+    put-requires-2
+    same-length
+    returns)
