@@ -30,14 +30,14 @@ inputs-lack-placeholder same s h k l side r e =
 
 module _ (same : Expression → Expression → Bool) (s : JoinSheet) where
   -- the list r of a side, tried
-  abbrev tried : ℕ → List Expression → Tried Expression
+  abbrev pub tried : ℕ → List Expression → Tried Expression
   tried side r = tryReorder same placeholder (askedUnder s side) r (s .left) (s .right)
 
   -- a side whose list, if it has one, is impossible
-  abbrev Impossible : ℕ → Type 0
+  abbrev pub Impossible : ℕ → Type 0
   Impossible side = (r : List Expression) → asked s side ≡ some r → tried side r .report ≡ 3
 
-  data InputWay : JoinAnswer → Type 0 where
+  pub data InputWay : JoinAnswer → Type 0 where
     unasked : inputTried s ≡ false → InputWay (asStood s 0)
     allImpossible : inputTried s ≡ true → ((side : ℕ) → Impossible side) → InputWay (asStood s 3)
     followed :
@@ -97,7 +97,7 @@ module _ (same : Expression → Expression → Bool) (s : JoinSheet) where
             (λ t. right-way 3 (one-list 1 r e t) (λ k. allImpossible (rw (o, e)) (only-two (one-list 1 r e t) (λ q j. none-some k j))))
             (λ t. followed (rw (o, e)) 1 r e (eqb-false _ 3 t))
 
-  input-way : InputWay (reorderJoinKeysToInputs s same)
+  pub input-way : InputWay (reorderJoinKeysToInputs s same)
   unfolding reorderJoinKeysToInputs
   input-way = by-test InputWay (orderTried (s .op) (s .mode)) left-way (λ o. unasked (rw o))
 

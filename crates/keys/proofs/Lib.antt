@@ -24,3 +24,4 @@ pub mod Names
 pub mod Rules
 pub mod Placement
 pub mod Joins
+pub mod InputTurns

@@ -8,3 +8,4 @@ pub mod Arrange
 pub mod Searched
 pub mod Answers
 pub mod Kept
+pub mod InputValues

@@ -3,5 +3,6 @@ pub mod adjust;
 pub mod aggregate;
 pub mod answer;
 pub mod expr;
+pub mod inputs;
 pub mod list;
 pub mod reorder;
