@@ -22,7 +22,7 @@ use keys::answer::Outcome;
 use keys::list::KeyList;
 use keys::reorder::Reordered;
 
-fn place(n: u64) -> usize {
+pub fn place(n: u64) -> usize {
     n as usize
 }
 
@@ -322,13 +322,17 @@ pub fn answer(
     let g = list(all, ends, 3);
     let s = list(all, ends, 4);
     let flat = list(all, ends, 5);
+    let line = list(all, ends, 0);
     let o = list(all, ends, 6);
     let a = list(all, ends, 7);
     let m = list(all, ends, 8);
+    if line.len() != 7 {
+        return Place::Wrong;
+    }
     if flat.len() % 2 != 0 {
         return Place::Wrong;
     }
-    let k = operator(list(all, ends, 0));
+    let k = operator(line);
     let n = pair_up(flat, rules);
     let w = first_rules(rules, n);
     if fits(r, l, g, s, o, a) {

@@ -1,8 +1,10 @@
 // Runs the crate `keys` on the sheets of document 01 that stand in standard input. A line that begins with `#` is echoed: it says what
 // fixes the answer of the sheet after it. A sheet that can't be read ends the run with `?`.
+mod input_case;
 mod key_case;
 mod print;
 mod sheet;
+
 use crate::sheet::Place;
 
 // The place after the line's LF, or the text's length.
@@ -33,6 +35,45 @@ enum Step {
     Wrong,
 }
 
+fn key_sheet(
+    s: &[u8],
+    at: usize,
+    rows: &mut [[u64; 2]],
+    rules: &mut [[u64; 2]],
+    all: &mut [u64],
+    ends: &mut [usize],
+    out: &mut [u8],
+    end: usize,
+) -> Step {
+    let Place::At(next) = crate::key_case::read(s, at, rows, all, ends) else {
+        return Step::Wrong;
+    };
+    let Place::At(e) = crate::key_case::answer(all, ends, rules, out, end) else {
+        return Step::Wrong;
+    };
+    Step::To { next, end: e }
+}
+
+// Once the lines are read their rows serve for the second rewriting list.
+fn input_sheet(
+    s: &[u8],
+    at: usize,
+    rows: &mut [[u64; 2]],
+    rules: &mut [[u64; 2]],
+    all: &mut [u64],
+    ends: &mut [usize],
+    out: &mut [u8],
+    end: usize,
+) -> Step {
+    let Place::At(next) = crate::input_case::read(s, at, rows, all, ends) else {
+        return Step::Wrong;
+    };
+    let Place::At(e) = crate::input_case::answer(all, ends, rules, rows, out, end) else {
+        return Step::Wrong;
+    };
+    Step::To { next, end: e }
+}
+
 fn advance(
     s: &[u8],
     at: usize,
@@ -46,20 +87,17 @@ fn advance(
     if s.len() <= at {
         return Step::Wrong;
     }
-    if s[at] == 35 {
+    if s[at] == b'#' {
         let next = line_end(s, at);
         return Step::To {
             next,
             end: echo(s, at, next, out, end),
         };
     }
-    let Place::At(next) = crate::key_case::read(s, at, rows, all, ends) else {
-        return Step::Wrong;
-    };
-    let Place::At(e) = crate::key_case::answer(all, ends, rules, out, end) else {
-        return Step::Wrong;
-    };
-    Step::To { next, end: e }
+    if s[at] == b'I' {
+        return input_sheet(s, at, rows, rules, all, ends, out, end);
+    }
+    key_sheet(s, at, rows, rules, all, ends, out, end)
 }
 
 // How much was written.
@@ -94,7 +132,14 @@ fn main() {
     let mut all = [0u64; 1024];
     let mut ends = [0usize; 32];
     let n = io::read_full(0, &mut input);
-    let end = run(&input[..n], &mut rows, &mut rules, &mut all, &mut ends, &mut output);
+    let end = run(
+        &input[..n],
+        &mut rows,
+        &mut rules,
+        &mut all,
+        &mut ends,
+        &mut output,
+    );
     finish(&output, end);
 }
 

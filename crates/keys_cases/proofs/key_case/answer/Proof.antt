@@ -36,11 +36,14 @@ list-requires-7 c κs = search needs
 list-requires-8 : tie.Need-list-requires-8
 list-requires-8 c κs = search needs
 
+list-requires-9 : tie.Need-list-requires-9
+list-requires-9 c κs = search needs
+
 returns : tie.Need-returns
 returns c = search needs
 
-list-requires-9 : tie.Need-list-requires-9
-list-requires-9 c κs = search needs
+returns-2 : tie.Need-returns-2
+returns-2 c = search needs
 
 operator-requires : tie.Need-operator-requires
 operator-requires c κs = search needs
@@ -55,7 +58,7 @@ fits-requires : tie.Need-fits-requires
 fits-requires c κs = search needs
 
 adjust-input-keys-ordering-requires : tie.Need-adjust-input-keys-ordering-requires
-adjust-input-keys-ordering-requires c κs = c .before .fits2 .ensures (c .if2 .taken)
+adjust-input-keys-ordering-requires c κs = c .before .fits2 .ensures (c .if3 .taken)
 
 put-answer-requires : tie.Need-put-answer-requires
 put-answer-requires c κs = search needs
@@ -66,14 +69,14 @@ same-length c = search needs
 same-length-2 : tie.Need-same-length-2
 same-length-2 c = search needs
 
-returns-2 : tie.Need-returns-2
-returns-2 c = search needs
+returns-3 : tie.Need-returns-3
+returns-3 c = search needs
 
 same-length-3 : tie.Need-same-length-3
 same-length-3 c = search needs
 
-returns-3 : tie.Need-returns-3
-returns-3 c = search needs
+returns-4 : tie.Need-returns-4
+returns-4 c = search needs
 
 pub answer-spec : {M : Type 1} → statement M
 answer-spec =
@@ -87,8 +90,9 @@ answer-spec =
     list-requires-6
     list-requires-7
     list-requires-8
-    returns
     list-requires-9
+    returns
+    returns-2
     operator-requires
     pair-up-requires
     first-rules-requires
@@ -97,6 +101,6 @@ answer-spec =
     put-answer-requires
     same-length
     same-length-2
-    returns-2
+    returns-3
     same-length-3
-    returns-3)
+    returns-4)

@@ -1,8 +1,5 @@
 -- `keys_cases::key_case::fits` meets its contract: what each test that was passed says.
-use Prim.Native.Nat.{ℕ}
-use mathlib.Core.Path.{_≡_}
-use mathlib.Core.Bool.{true, false}
-use native.Mathlib.Omega.{arith}
+use Rattle.keys_cases.proofs.Never.{never}
 use borrow.Author.Needs.{needs}
 use Rattle.keys_cases.proofs.key_case.fits.Statement.{statement}
 use Rattle.keys_cases.proofs.key_case.fits.Tie as tie
@@ -10,9 +7,6 @@ use Rattle.keys_cases.proofs.key_case.fits.Reads as reads
 use Rattle.keys_cases.proofs.key_case.fits.Lts as lts
 use Rattle.keys_cases.proofs.key_case.directed.Reads as directed-reads
 use Rattle.keys_cases.proofs.key_case.names_fit.Reads as names-fit-reads
-
-never : {A : Type 0} → false ≡ true → A
-never h = let z : _≡_ {A = ℕ} 0 1 = cc in absurd (omega arith)
 
 returns : tie.Need-returns
 returns c = λ h. never h

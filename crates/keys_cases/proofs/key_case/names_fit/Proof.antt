@@ -1,11 +1,11 @@
 -- `keys_cases::key_case::names_fit` meets its contract: every name that was passed is below 65536.
 use Prim.Native.Nat.{ℕ, suc, _≤_, _<_, _-_}
-use mathlib.Core.Path.{_≡_}
 use mathlib.Core.List.{List, [], _∷_}
 use native.Mathlib.Omega.{arith}
 use lib.ListN.{length, getD}
 use Rattle.keys.specs.Arrange.{Below}
 use borrow.Author.Count.{below-more}
+use Rattle.keys_cases.proofs.Never.{never}
 use borrow.Author.Needs.{needs}
 use Rattle.keys_cases.proofs.key_case.names_fit.Statement.{statement}
 use Rattle.keys_cases.proofs.key_case.names_fit.Tie as tie
@@ -32,7 +32,7 @@ shared-slice-read-if1 : tie.Need-shared-slice-read-if1 Inv-loop μ-loop
 shared-slice-read-if1 c = search needs
 
 returns : tie.Need-returns Inv-loop μ-loop
-returns c = λ h. let z : _≡_ {A = ℕ} 0 1 = cc in absurd (omega arith)
+returns c = λ h. never h
 
 add-i : tie.Need-add-i Inv-loop μ-loop
 add-i c = search needs

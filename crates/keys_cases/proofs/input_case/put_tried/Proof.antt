@@ -1,0 +1,77 @@
+-- `keys_cases::input_case::put_tried` is safe and ends: where `fits` says so, `keys` has what it asks.
+use borrow.Author.Needs.{needs}
+use Rattle.keys_cases.proofs.input_case.put_tried.Statement.{statement}
+use Rattle.keys_cases.proofs.input_case.put_tried.Tie as tie
+use Rattle.keys_cases.proofs.input_case.put_tried.Reads as reads
+use Rattle.keys_cases.proofs.input_case.put_tried.Lts as lts
+use Rattle.keys.proofs.inputs.reorder_join_keys_to_inputs.Reads as reorder-join-keys-to-inputs-reads
+use Rattle.keys_cases.proofs.input_case.first_places.Reads as first-places-reads
+use Rattle.keys_cases.proofs.input_case.fits.Reads as fits-reads
+use Rattle.keys_cases.proofs.input_case.number_at.Reads as number-at-reads
+use Rattle.keys_cases.proofs.input_case.put_answer.Reads as put-answer-reads
+use Rattle.keys_cases.proofs.sheet.list.Reads as list-reads
+
+list-requires : tie.Need-list-requires
+list-requires c κs = search needs
+
+list-requires-2 : tie.Need-list-requires-2
+list-requires-2 c κs = search needs
+
+list-requires-3 : tie.Need-list-requires-3
+list-requires-3 c κs = search needs
+
+list-requires-4 : tie.Need-list-requires-4
+list-requires-4 c κs = search needs
+
+list-requires-5 : tie.Need-list-requires-5
+list-requires-5 c κs = search needs
+
+number-at-requires : tie.Need-number-at-requires
+number-at-requires c κs = search needs
+
+number-at-requires-2 : tie.Need-number-at-requires-2
+number-at-requires-2 c κs = search needs
+
+fits-requires : tie.Need-fits-requires
+fits-requires c κs = search needs
+
+reorder-join-keys-to-inputs-requires : tie.Need-reorder-join-keys-to-inputs-requires
+reorder-join-keys-to-inputs-requires c κs = c .before .before .before .before .fits2 .ensures (c .before .before .before .if1 .taken)
+
+slice-aggregate-first-places : tie.Need-slice-aggregate-first-places
+slice-aggregate-first-places c = search needs
+
+first-places-requires : tie.Need-first-places-requires
+first-places-requires c κs = search needs
+
+put-answer-requires : tie.Need-put-answer-requires
+put-answer-requires c κs = search needs
+
+same-length : tie.Need-same-length
+same-length c = search needs
+
+returns : tie.Need-returns
+returns c = search needs
+
+returns-2 : tie.Need-returns-2
+returns-2 c = search needs
+
+pub put-tried-spec : {M : Type 1} → statement M
+put-tried-spec =
+    tie.close
+    (tie.spec
+    list-requires
+    list-requires-2
+    list-requires-3
+    list-requires-4
+    list-requires-5
+    number-at-requires
+    number-at-requires-2
+    fits-requires
+    reorder-join-keys-to-inputs-requires
+    slice-aggregate-first-places
+    first-places-requires
+    put-answer-requires
+    same-length
+    returns
+    returns-2)
