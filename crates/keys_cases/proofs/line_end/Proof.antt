@@ -4,8 +4,6 @@ use Prim.Native.Nat.{_-_}
 use borrow.Author.Needs.{needs}
 use Rattle.keys_cases.proofs.line_end.Statement.{statement}
 use Rattle.keys_cases.proofs.line_end.Tie as tie
-use Rattle.keys_cases.proofs.line_end.Reads as reads
-use Rattle.keys_cases.proofs.line_end.Lts as lts
 
 abbrev Inv-loop : tie.InvT-loop
 Inv-loop s at i₀ i = Unit {0}

@@ -5,10 +5,6 @@ use Prim.Native.Nat.{_-_}
 use borrow.Author.Needs.{needs}
 use Rattle.keys_cases.proofs.run.Statement.{statement}
 use Rattle.keys_cases.proofs.run.Tie as tie
-use Rattle.keys_cases.proofs.run.Reads as reads
-use Rattle.keys_cases.proofs.run.Lts as lts
-use Rattle.keys_cases.proofs.advance.Reads as advance-reads
-use Rattle.keys_cases.proofs.print.put_bytes.Reads as put-bytes-reads
 
 abbrev Inv-loop : tie.InvT-loop
 Inv-loop s rows₀ rules₀ all₀ ends₀ out₀ at₀ end₀ t11 rows rules all ends out at end = (length rows ≡ length rows₀) × (length rules ≡ length rules₀) × (length all ≡ length all₀) × (length ends ≡ length ends₀) × (length out ≡ length out₀)

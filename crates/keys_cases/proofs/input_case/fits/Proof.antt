@@ -3,8 +3,6 @@ use Rattle.keys_cases.proofs.Never.{never}
 use borrow.Author.Needs.{needs}
 use Rattle.keys_cases.proofs.input_case.fits.Statement.{statement}
 use Rattle.keys_cases.proofs.input_case.fits.Tie as tie
-use Rattle.keys_cases.proofs.input_case.fits.Reads as reads
-use Rattle.keys_cases.proofs.input_case.fits.Lts as lts
 
 returns : tie.Need-returns
 returns c = λ h. never h

@@ -5,11 +5,6 @@ use Prim.Native.Nat.{_≤_, _-_}
 use borrow.Author.Needs.{needs}
 use Rattle.keys_cases.proofs.input_case.put_moved_directions.Statement.{statement}
 use Rattle.keys_cases.proofs.input_case.put_moved_directions.Tie as tie
-use Rattle.keys_cases.proofs.input_case.put_moved_directions.Reads as reads
-use Rattle.keys_cases.proofs.input_case.put_moved_directions.Lts as lts
-use Rattle.keys_cases.proofs.key_case.place.Reads as place-reads
-use Rattle.keys_cases.proofs.print.put.Reads as put-reads
-use Rattle.keys_cases.proofs.print.put_field.Reads as put-field-reads
 
 abbrev Inv-loop : tie.InvT-loop
 Inv-loop out₀ at s places p₀ i₀ out p i = (i ≤ length places) × (length out ≡ length out₀)

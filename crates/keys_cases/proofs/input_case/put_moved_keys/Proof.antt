@@ -5,11 +5,6 @@ use Prim.Native.Nat.{_≤_, _-_}
 use borrow.Author.Needs.{needs}
 use Rattle.keys_cases.proofs.input_case.put_moved_keys.Statement.{statement}
 use Rattle.keys_cases.proofs.input_case.put_moved_keys.Tie as tie
-use Rattle.keys_cases.proofs.input_case.put_moved_keys.Reads as reads
-use Rattle.keys_cases.proofs.input_case.put_moved_keys.Lts as lts
-use Rattle.keys_cases.proofs.key_case.place.Reads as place-reads
-use Rattle.keys_cases.proofs.print.put.Reads as put-reads
-use Rattle.keys_cases.proofs.print.put_key.Reads as put-key-reads
 
 abbrev Inv-loop : tie.InvT-loop
 Inv-loop out₀ at letter keys places p₀ i₀ out p i = (i ≤ length places) × (length out ≡ length out₀)

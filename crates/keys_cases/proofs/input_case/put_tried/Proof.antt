@@ -2,14 +2,6 @@
 use borrow.Author.Needs.{needs}
 use Rattle.keys_cases.proofs.input_case.put_tried.Statement.{statement}
 use Rattle.keys_cases.proofs.input_case.put_tried.Tie as tie
-use Rattle.keys_cases.proofs.input_case.put_tried.Reads as reads
-use Rattle.keys_cases.proofs.input_case.put_tried.Lts as lts
-use Rattle.keys.proofs.inputs.reorder_join_keys_to_inputs.Reads as reorder-join-keys-to-inputs-reads
-use Rattle.keys_cases.proofs.input_case.first_places.Reads as first-places-reads
-use Rattle.keys_cases.proofs.input_case.fits.Reads as fits-reads
-use Rattle.keys_cases.proofs.input_case.number_at.Reads as number-at-reads
-use Rattle.keys_cases.proofs.input_case.put_answer.Reads as put-answer-reads
-use Rattle.keys_cases.proofs.sheet.list.Reads as list-reads
 
 list-requires : tie.Need-list-requires
 list-requires c κs = search needs

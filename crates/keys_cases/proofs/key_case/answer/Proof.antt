@@ -2,15 +2,6 @@
 use borrow.Author.Needs.{needs}
 use Rattle.keys_cases.proofs.key_case.answer.Statement.{statement}
 use Rattle.keys_cases.proofs.key_case.answer.Tie as tie
-use Rattle.keys_cases.proofs.key_case.answer.Reads as reads
-use Rattle.keys_cases.proofs.key_case.answer.Lts as lts
-use Rattle.keys.proofs.adjust.adjust_input_keys_ordering.Reads as adjust-input-keys-ordering-reads
-use Rattle.keys_cases.proofs.key_case.first_rules.Reads as first-rules-reads
-use Rattle.keys_cases.proofs.key_case.fits.Reads as fits-reads
-use Rattle.keys_cases.proofs.key_case.operator.Reads as operator-reads
-use Rattle.keys_cases.proofs.key_case.pair_up.Reads as pair-up-reads
-use Rattle.keys_cases.proofs.key_case.put_answer.Reads as put-answer-reads
-use Rattle.keys_cases.proofs.sheet.list.Reads as list-reads
 
 list-requires : tie.Need-list-requires
 list-requires c κs = search needs

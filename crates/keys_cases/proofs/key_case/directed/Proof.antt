@@ -4,8 +4,6 @@ use borrow.Author.Tests.{eqb-true}
 use borrow.Author.Needs.{needs}
 use Rattle.keys_cases.proofs.key_case.directed.Statement.{statement}
 use Rattle.keys_cases.proofs.key_case.directed.Tie as tie
-use Rattle.keys_cases.proofs.key_case.directed.Reads as reads
-use Rattle.keys_cases.proofs.key_case.directed.Lts as lts
 
 returns : tie.Need-returns
 returns c = λ h. inr (search needs)

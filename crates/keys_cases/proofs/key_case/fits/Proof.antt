@@ -3,10 +3,6 @@ use Rattle.keys_cases.proofs.Never.{never}
 use borrow.Author.Needs.{needs}
 use Rattle.keys_cases.proofs.key_case.fits.Statement.{statement}
 use Rattle.keys_cases.proofs.key_case.fits.Tie as tie
-use Rattle.keys_cases.proofs.key_case.fits.Reads as reads
-use Rattle.keys_cases.proofs.key_case.fits.Lts as lts
-use Rattle.keys_cases.proofs.key_case.directed.Reads as directed-reads
-use Rattle.keys_cases.proofs.key_case.names_fit.Reads as names-fit-reads
 
 returns : tie.Need-returns
 returns c = λ h. never h

@@ -9,8 +9,6 @@ use Rattle.keys_cases.proofs.Never.{never}
 use borrow.Author.Needs.{needs}
 use Rattle.keys_cases.proofs.key_case.names_fit.Statement.{statement}
 use Rattle.keys_cases.proofs.key_case.names_fit.Tie as tie
-use Rattle.keys_cases.proofs.key_case.names_fit.Reads as reads
-use Rattle.keys_cases.proofs.key_case.names_fit.Lts as lts
 
 below-all : (n : ℕ) (xs : List ℕ) → ((k : ℕ) → k < length xs → getD xs k 0 < n) → Below n xs
 below-all n [] h = tt

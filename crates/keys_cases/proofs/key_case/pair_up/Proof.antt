@@ -5,9 +5,6 @@ use Prim.Native.Nat.{_≤_, _-_}
 use borrow.Author.Needs.{needs}
 use Rattle.keys_cases.proofs.key_case.pair_up.Statement.{statement}
 use Rattle.keys_cases.proofs.key_case.pair_up.Tie as tie
-use Rattle.keys_cases.proofs.key_case.pair_up.Reads as reads
-use Rattle.keys_cases.proofs.key_case.pair_up.Lts as lts
-use Rattle.keys_cases.proofs.key_case.store_pair.Reads as store-pair-reads
 
 abbrev Inv-loop : tie.InvT-loop
 Inv-loop flat rules₀ i₀ n₀ rules i n = (i ≤ length flat) × (n ≤ i) × (length rules ≡ length rules₀)

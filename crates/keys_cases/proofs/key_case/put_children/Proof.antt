@@ -5,10 +5,6 @@ use Prim.Native.Nat.{_-_}
 use borrow.Author.Needs.{needs}
 use Rattle.keys_cases.proofs.key_case.put_children.Statement.{statement}
 use Rattle.keys_cases.proofs.key_case.put_children.Tie as tie
-use Rattle.keys_cases.proofs.key_case.put_children.Reads as reads
-use Rattle.keys_cases.proofs.key_case.put_children.Lts as lts
-use Rattle.keys_cases.proofs.key_case.children.Reads as children-reads
-use Rattle.keys_cases.proofs.key_case.put_child.Reads as put-child-reads
 
 abbrev Inv-loop : tie.InvT-loop
 Inv-loop all ends out₀ at n others right p₀ i₀ out p i = (length out ≡ length out₀)

@@ -5,10 +5,6 @@ use mathlib.Core.Path.{_≡_}
 use borrow.Author.Needs.{needs}
 use Rattle.keys_cases.proofs.key_case.put_names.Statement.{statement}
 use Rattle.keys_cases.proofs.key_case.put_names.Tie as tie
-use Rattle.keys_cases.proofs.key_case.put_names.Reads as reads
-use Rattle.keys_cases.proofs.key_case.put_names.Lts as lts
-use Rattle.keys.proofs.list.wide.Reads as wide-reads
-use Rattle.keys_cases.proofs.print.put_field.Reads as put-field-reads
 
 abbrev Inv-loop : tie.InvT-loop
 Inv-loop out₀ at names first p₀ i₀ place₀ out p i place = (i ≤ length names) × (length out ≡ length out₀)

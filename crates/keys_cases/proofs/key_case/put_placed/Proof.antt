@@ -5,9 +5,6 @@ use mathlib.Core.Path.{_≡_}
 use borrow.Author.Needs.{needs}
 use Rattle.keys_cases.proofs.key_case.put_placed.Statement.{statement}
 use Rattle.keys_cases.proofs.key_case.put_placed.Tie as tie
-use Rattle.keys_cases.proofs.key_case.put_placed.Reads as reads
-use Rattle.keys_cases.proofs.key_case.put_placed.Lts as lts
-use Rattle.keys_cases.proofs.print.put_field.Reads as put-field-reads
 
 abbrev Inv-loop : tie.InvT-loop
 Inv-loop out₀ at names places p₀ i₀ out p i = (i ≤ length names) × (length out ≡ length out₀)

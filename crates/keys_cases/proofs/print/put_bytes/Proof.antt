@@ -5,9 +5,6 @@ use mathlib.Core.Path.{_≡_}
 use borrow.Author.Needs.{needs}
 use Rattle.keys_cases.proofs.print.put_bytes.Statement.{statement}
 use Rattle.keys_cases.proofs.print.put_bytes.Tie as tie
-use Rattle.keys_cases.proofs.print.put_bytes.Reads as reads
-use Rattle.keys_cases.proofs.print.put_bytes.Lts as lts
-use Rattle.keys_cases.proofs.print.put.Reads as put-reads
 
 abbrev Inv-loop : tie.InvT-loop
 Inv-loop out₀ at bytes p₀ i₀ out p i = (i ≤ length bytes) × (length out ≡ length out₀)

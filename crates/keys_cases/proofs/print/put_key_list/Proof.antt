@@ -5,10 +5,6 @@ use mathlib.Core.Path.{_≡_}
 use borrow.Author.Needs.{needs}
 use Rattle.keys_cases.proofs.print.put_key_list.Statement.{statement}
 use Rattle.keys_cases.proofs.print.put_key_list.Tie as tie
-use Rattle.keys_cases.proofs.print.put_key_list.Reads as reads
-use Rattle.keys_cases.proofs.print.put_key_list.Lts as lts
-use Rattle.keys_cases.proofs.print.put.Reads as put-reads
-use Rattle.keys_cases.proofs.print.put_key.Reads as put-key-reads
 
 abbrev Inv-loop : tie.InvT-loop
 Inv-loop out₀ at letter keys p₀ i₀ out p i = (i ≤ keys .count) × (length out ≡ length out₀)

@@ -5,10 +5,6 @@ use mathlib.Core.Path.{_≡_}
 use borrow.Author.Needs.{needs}
 use Rattle.keys_cases.proofs.print.put_keys.Statement.{statement}
 use Rattle.keys_cases.proofs.print.put_keys.Tie as tie
-use Rattle.keys_cases.proofs.print.put_keys.Reads as reads
-use Rattle.keys_cases.proofs.print.put_keys.Lts as lts
-use Rattle.keys_cases.proofs.print.put.Reads as put-reads
-use Rattle.keys_cases.proofs.print.put_key.Reads as put-key-reads
 
 abbrev Inv-loop : tie.InvT-loop
 Inv-loop out₀ at letter keys p₀ i₀ out p i = (i ≤ length keys) × (length out ≡ length out₀)

@@ -5,10 +5,6 @@ use mathlib.Core.Path.{_≡_}
 use borrow.Author.Needs.{needs}
 use Rattle.keys_cases.proofs.print.put_numbers.Statement.{statement}
 use Rattle.keys_cases.proofs.print.put_numbers.Tie as tie
-use Rattle.keys_cases.proofs.print.put_numbers.Reads as reads
-use Rattle.keys_cases.proofs.print.put_numbers.Lts as lts
-use Rattle.keys_cases.proofs.print.put.Reads as put-reads
-use Rattle.keys_cases.proofs.print.put_field.Reads as put-field-reads
 
 abbrev Inv-loop : tie.InvT-loop
 Inv-loop out₀ at letter numbers p₀ i₀ out p i = (i ≤ length numbers) × (length out ≡ length out₀)

@@ -5,11 +5,6 @@ use Prim.Native.Nat.{_≤_, _-_}
 use borrow.Author.Needs.{needs}
 use Rattle.keys_cases.proofs.sheet.pack_entries.Statement.{statement}
 use Rattle.keys_cases.proofs.sheet.pack_entries.Tie as tie
-use Rattle.keys_cases.proofs.sheet.pack_entries.Reads as reads
-use Rattle.keys_cases.proofs.sheet.pack_entries.Lts as lts
-use Rattle.keys_cases.proofs.sheet.entry_at.Reads as entry-at-reads
-use Rattle.keys_cases.proofs.sheet.store.Reads as store-reads
-use Rattle.keys_cases.proofs.sheet.width_at.Reads as width-at-reads
 
 abbrev Inv-loop : tie.InvT-loop
 Inv-loop rows count plain all₀ from i₀ at₀ all i at = (i ≤ count) × (length all ≡ length all₀)

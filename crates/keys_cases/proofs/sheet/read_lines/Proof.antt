@@ -5,9 +5,6 @@ use Prim.Native.Nat.{_≤_, _-_}
 use borrow.Author.Needs.{needs}
 use Rattle.keys_cases.proofs.sheet.read_lines.Statement.{statement}
 use Rattle.keys_cases.proofs.sheet.read_lines.Tie as tie
-use Rattle.keys_cases.proofs.sheet.read_lines.Reads as reads
-use Rattle.keys_cases.proofs.sheet.read_lines.Lts as lts
-use Rattle.keys_cases.proofs.sheet.read_line.Reads as read-line-reads
 
 abbrev Inv-loop : tie.InvT-loop
 Inv-loop s at letters rows₀ all₀ ends₀ first next₀ i₀ list₀ rows all ends next i list = (i ≤ length letters) × (length rows ≡ length rows₀) × (length all ≡ length all₀) × (length ends ≡ length ends₀)
