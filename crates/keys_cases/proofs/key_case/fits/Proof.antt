@@ -20,10 +20,10 @@ returns-5 : tie.Need-returns-5
 returns-5 c = λ h. never h
 
 directed-requires : tie.Need-directed-requires
-directed-requires c κs = search needs
+directed-requires c κs = tt
 
 names-fit-requires : tie.Need-names-fit-requires
-names-fit-requires c κs = search needs
+names-fit-requires c κs = tt
 
 returns-6 : tie.Need-returns-6
 returns-6 c = λ h. (search needs, search needs, search needs, c .before .before .directed .ensures (c .before .if6 .taken), search needs, search needs, c .names-fit .ensures h)

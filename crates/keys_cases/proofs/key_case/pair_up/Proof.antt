@@ -22,7 +22,7 @@ same-length : tie.Need-same-length Inv-loop μ-loop
 same-length c = search needs
 
 returns : tie.Need-returns Inv-loop μ-loop
-returns c = search needs
+returns c = tt
 
 mul-store-pair : tie.Need-mul-store-pair Inv-loop μ-loop
 mul-store-pair c = search needs
@@ -40,7 +40,7 @@ shared-slice-read-store-pair-2 : tie.Need-shared-slice-read-store-pair-2 Inv-loo
 shared-slice-read-store-pair-2 c = search needs
 
 store-pair-requires : tie.Need-store-pair-requires Inv-loop μ-loop
-store-pair-requires c κs = search needs
+store-pair-requires c κs = tt
 
 add-i : tie.Need-add-i Inv-loop μ-loop
 add-i c = search needs
@@ -58,7 +58,7 @@ same-length-2 : tie.Need-same-length-2 Inv-loop μ-loop
 same-length-2 c = search needs
 
 returns-2 : tie.Need-returns-2 Inv-loop μ-loop
-returns-2 c = search needs
+returns-2 c = tt
 
 pub pair-up-spec : {M : Type 1} → statement M
 pair-up-spec =

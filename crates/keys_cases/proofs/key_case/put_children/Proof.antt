@@ -13,10 +13,10 @@ abbrev μ-loop : tie.MeasureT-loop
 μ-loop all ends out₀ at n others right p₀ i₀ out p i = n - i
 
 children-requires : tie.Need-children-requires Inv-loop μ-loop
-children-requires c κs = search needs
+children-requires c κs = tt
 
 returns : tie.Need-returns Inv-loop μ-loop
-returns c = search needs
+returns c = tt
 
 put-child-requires : tie.Need-put-child-requires Inv-loop μ-loop
 put-child-requires c κs = search needs
@@ -28,7 +28,7 @@ same-length : tie.Need-same-length Inv-loop μ-loop
 same-length c = search needs
 
 returns-2 : tie.Need-returns-2 Inv-loop μ-loop
-returns-2 c = search needs
+returns-2 c = tt
 
 add-put-child : tie.Need-add-put-child Inv-loop μ-loop
 add-put-child c = search needs
@@ -49,7 +49,7 @@ same-length-2 : tie.Need-same-length-2 Inv-loop μ-loop
 same-length-2 c = search needs
 
 returns-3 : tie.Need-returns-3 Inv-loop μ-loop
-returns-3 c = search needs
+returns-3 c = tt
 
 pub put-children-spec : {M : Type 1} → statement M
 put-children-spec =

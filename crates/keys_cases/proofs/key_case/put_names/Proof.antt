@@ -13,7 +13,7 @@ abbrev μ-loop : tie.MeasureT-loop
 μ-loop out₀ at names first p₀ i₀ place₀ out p i place = length names - i
 
 wide-requires : tie.Need-wide-requires Inv-loop μ-loop
-wide-requires c κs = search needs
+wide-requires c κs = tt
 
 loop-holds : tie.Need-loop-holds Inv-loop μ-loop
 loop-holds c = search needs
@@ -25,16 +25,16 @@ shared-slice-read-put-field : tie.Need-shared-slice-read-put-field Inv-loop μ-l
 shared-slice-read-put-field c = search needs
 
 put-field-requires : tie.Need-put-field-requires Inv-loop μ-loop
-put-field-requires c κs = search needs
+put-field-requires c κs = tt
 
 put-field-requires-2 : tie.Need-put-field-requires-2 Inv-loop μ-loop
-put-field-requires-2 c κs = search needs
+put-field-requires-2 c κs = tt
 
 same-length : tie.Need-same-length Inv-loop μ-loop
 same-length c = search needs
 
 returns : tie.Need-returns Inv-loop μ-loop
-returns c = search needs
+returns c = tt
 
 add-i : tie.Need-add-i Inv-loop μ-loop
 add-i c = search needs
@@ -52,7 +52,7 @@ same-length-2 : tie.Need-same-length-2 Inv-loop μ-loop
 same-length-2 c = search needs
 
 returns-2 : tie.Need-returns-2 Inv-loop μ-loop
-returns-2 c = search needs
+returns-2 c = tt
 
 pub put-names-spec : {M : Type 1} → statement M
 put-names-spec =

@@ -19,7 +19,7 @@ same-length : tie.Need-same-length Inv-loop μ-loop
 same-length c = search needs
 
 returns : tie.Need-returns Inv-loop μ-loop
-returns c = search needs
+returns c = tt
 
 mul-put-field : tie.Need-mul-put-field Inv-loop μ-loop
 mul-put-field c = search needs
@@ -28,7 +28,7 @@ shared-slice-read-put-field : tie.Need-shared-slice-read-put-field Inv-loop μ-l
 shared-slice-read-put-field c = search needs
 
 put-field-requires : tie.Need-put-field-requires Inv-loop μ-loop
-put-field-requires c κs = search needs
+put-field-requires c κs = tt
 
 mul-put-field-2 : tie.Need-mul-put-field-2 Inv-loop μ-loop
 mul-put-field-2 c = search needs
@@ -37,7 +37,7 @@ shared-slice-read-put-field-2 : tie.Need-shared-slice-read-put-field-2 Inv-loop 
 shared-slice-read-put-field-2 c = search needs
 
 put-field-requires-2 : tie.Need-put-field-requires-2 Inv-loop μ-loop
-put-field-requires-2 c κs = search needs
+put-field-requires-2 c κs = tt
 
 add-i : tie.Need-add-i Inv-loop μ-loop
 add-i c = search needs
@@ -52,7 +52,7 @@ same-length-2 : tie.Need-same-length-2 Inv-loop μ-loop
 same-length-2 c = search needs
 
 returns-2 : tie.Need-returns-2 Inv-loop μ-loop
-returns-2 c = search needs
+returns-2 c = tt
 
 pub put-placed-spec : {M : Type 1} → statement M
 put-placed-spec =

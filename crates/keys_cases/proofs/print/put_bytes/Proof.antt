@@ -19,7 +19,7 @@ shared-slice-read-put : tie.Need-shared-slice-read-put Inv-loop μ-loop
 shared-slice-read-put c = search needs
 
 put-requires : tie.Need-put-requires Inv-loop μ-loop
-put-requires c κs = search needs
+put-requires c κs = tt
 
 add-i : tie.Need-add-i Inv-loop μ-loop
 add-i c = search needs
@@ -34,7 +34,7 @@ same-length : tie.Need-same-length Inv-loop μ-loop
 same-length c = search needs
 
 returns : tie.Need-returns Inv-loop μ-loop
-returns c = search needs
+returns c = tt
 
 pub put-bytes-spec : {M : Type 1} → statement M
 put-bytes-spec =

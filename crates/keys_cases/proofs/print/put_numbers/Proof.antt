@@ -13,7 +13,7 @@ abbrev μ-loop : tie.MeasureT-loop
 μ-loop out₀ at letter numbers p₀ i₀ out p i = length numbers - i
 
 put-requires : tie.Need-put-requires Inv-loop μ-loop
-put-requires c κs = search needs
+put-requires c κs = tt
 
 loop-holds : tie.Need-loop-holds Inv-loop μ-loop
 loop-holds c = search needs
@@ -25,7 +25,7 @@ shared-slice-read-put-field : tie.Need-shared-slice-read-put-field Inv-loop μ-l
 shared-slice-read-put-field c = search needs
 
 put-field-requires : tie.Need-put-field-requires Inv-loop μ-loop
-put-field-requires c κs = search needs
+put-field-requires c κs = tt
 
 add-i : tie.Need-add-i Inv-loop μ-loop
 add-i c = search needs
@@ -37,13 +37,13 @@ loop-again : tie.Need-loop-again Inv-loop μ-loop
 loop-again c = search needs
 
 put-requires-2 : tie.Need-put-requires-2 Inv-loop μ-loop
-put-requires-2 c κs = search needs
+put-requires-2 c κs = tt
 
 same-length : tie.Need-same-length Inv-loop μ-loop
 same-length c = search needs
 
 returns : tie.Need-returns Inv-loop μ-loop
-returns c = search needs
+returns c = tt
 
 pub put-numbers-spec : {M : Type 1} → statement M
 put-numbers-spec =
