@@ -9,8 +9,7 @@ use crate::key_case::pair_up;
 use crate::key_case::place;
 use crate::print::put;
 use crate::print::put_bytes;
-use crate::print::put_field;
-use crate::print::put_key;
+use crate::print::put_entry;
 use crate::print::put_keys;
 use crate::print::put_numbers;
 use crate::sheet::Place;
@@ -74,31 +73,23 @@ fn first_places<'a>(places: &'a [u64], n: usize) -> &'a [u64] {
     &places[0..n]
 }
 
-// The keys at the places.
-fn put_moved_keys(out: &mut [u8], at: usize, letter: u8, keys: &[u64], places: &[u64]) -> usize {
+// The entries at the places; none where there are no entries.
+fn put_entries_at(
+    out: &mut [u8],
+    at: usize,
+    letter: u8,
+    packed: bool,
+    entries: &[u64],
+    places: &[u64],
+) -> usize {
     let mut p = put(out, at, letter);
     let mut i: usize = 0;
     while i < places.len() {
         let k = place(places[i]);
-        if keys.len() <= k {
+        if entries.len() <= k {
             return put(out, p, 10);
         }
-        p = put_key(out, p, keys[k]);
-        i += 1;
-    }
-    put(out, p, 10)
-}
-
-// The directions at the places; none where there are none.
-fn put_moved_directions(out: &mut [u8], at: usize, s: &[u64], places: &[u64]) -> usize {
-    let mut p = put(out, at, b'S');
-    let mut i: usize = 0;
-    while i < places.len() {
-        let k = place(places[i]);
-        if s.len() <= k {
-            return put(out, p, 10);
-        }
-        p = put_field(out, p, s[k]);
+        p = put_entry(out, p, packed, entries[k]);
         i += 1;
     }
     put(out, p, 10)
@@ -106,9 +97,9 @@ fn put_moved_directions(out: &mut [u8], at: usize, s: &[u64], places: &[u64]) ->
 
 fn put_moved(places: &[u64], all: &[u64], ends: &[usize], out: &mut [u8], at: usize) -> usize {
     let a = put_numbers(out, at, b'P', places);
-    let b = put_moved_keys(out, a, b'L', list(all, ends, 1), places);
-    let c = put_moved_keys(out, b, b'G', list(all, ends, 2), places);
-    put_moved_directions(out, c, list(all, ends, 3), places)
+    let b = put_entries_at(out, a, b'L', true, list(all, ends, 1), places);
+    let c = put_entries_at(out, b, b'G', true, list(all, ends, 2), places);
+    put_entries_at(out, c, b'S', false, list(all, ends, 3), places)
 }
 
 fn put_stood(all: &[u64], ends: &[usize], out: &mut [u8], at: usize) -> usize {

@@ -35,20 +35,36 @@ pub fn put_field(out: &mut [u8], at: usize, n: u64) -> usize {
     put_number(out, p, n)
 }
 
-pub fn put_key(out: &mut [u8], at: usize, e: u64) -> usize {
+fn put_key(out: &mut [u8], at: usize, e: u64) -> usize {
     let p = put_field(out, at, keys::expr::kind_of(e));
     let q = put_field(out, p, keys::expr::name_of(e));
     put_field(out, q, keys::expr::index_of(e))
 }
 
-pub fn put_numbers(out: &mut [u8], at: usize, letter: u8, numbers: &[u64]) -> usize {
+// A packed expression's three fields, or a number's one.
+pub fn put_entry(out: &mut [u8], at: usize, packed: bool, e: u64) -> usize {
+    if packed {
+        return put_key(out, at, e);
+    }
+    put_field(out, at, e)
+}
+
+fn put_list(out: &mut [u8], at: usize, letter: u8, packed: bool, entries: &[u64]) -> usize {
     let mut p = put(out, at, letter);
     let mut i: usize = 0;
-    while i < numbers.len() {
-        p = put_field(out, p, numbers[i]);
+    while i < entries.len() {
+        p = put_entry(out, p, packed, entries[i]);
         i += 1;
     }
     put(out, p, 10)
+}
+
+pub fn put_numbers(out: &mut [u8], at: usize, letter: u8, numbers: &[u64]) -> usize {
+    put_list(out, at, letter, false, numbers)
+}
+
+pub fn put_keys(out: &mut [u8], at: usize, letter: u8, keys: &[u64]) -> usize {
+    put_list(out, at, letter, true, keys)
 }
 
 pub fn put_number_list(out: &mut [u8], at: usize, letter: u8, numbers: NumberList) -> usize
@@ -57,16 +73,6 @@ pub fn put_number_list(out: &mut [u8], at: usize, letter: u8, numbers: NumberLis
     let n = numbers.count;
     let items = numbers.items;
     put_numbers(out, at, letter, &items[0..n])
-}
-
-pub fn put_keys(out: &mut [u8], at: usize, letter: u8, keys: &[u64]) -> usize {
-    let mut p = put(out, at, letter);
-    let mut i: usize = 0;
-    while i < keys.len() {
-        p = put_key(out, p, keys[i]);
-        i += 1;
-    }
-    put(out, p, 10)
 }
 
 pub fn put_key_list(out: &mut [u8], at: usize, letter: u8, keys: KeyList) -> usize

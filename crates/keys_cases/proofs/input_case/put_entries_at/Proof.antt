@@ -1,16 +1,16 @@
--- `keys_cases::input_case::put_moved_directions` is safe and ends.
+-- `keys_cases::input_case::put_entries_at` is safe and ends.
 use mathlib.Core.Path.{_≡_}
 use lib.ListN.{length}
 use Prim.Native.Nat.{_≤_, _-_}
 use borrow.Author.Needs.{needs}
-use Rattle.keys_cases.proofs.input_case.put_moved_directions.Statement.{statement}
-use Rattle.keys_cases.proofs.input_case.put_moved_directions.Tie as tie
+use Rattle.keys_cases.proofs.input_case.put_entries_at.Statement.{statement}
+use Rattle.keys_cases.proofs.input_case.put_entries_at.Tie as tie
 
 abbrev Inv-loop : tie.InvT-loop
-Inv-loop out₀ at s places p₀ i₀ out p i = (i ≤ length places) × (length out ≡ length out₀)
+Inv-loop out₀ at letter packed entries places p₀ i₀ out p i = (i ≤ length places) × (length out ≡ length out₀)
 
 abbrev μ-loop : tie.MeasureT-loop
-μ-loop out₀ at s places p₀ i₀ out p i = length places - i
+μ-loop out₀ at letter packed entries places p₀ i₀ out p i = length places - i
 
 put-requires : tie.Need-put-requires Inv-loop μ-loop
 put-requires c κs = tt
@@ -36,14 +36,14 @@ same-length c = search needs
 returns : tie.Need-returns Inv-loop μ-loop
 returns c = tt
 
-mul-put-field : tie.Need-mul-put-field Inv-loop μ-loop
-mul-put-field c = search needs
+mul-put-entry : tie.Need-mul-put-entry Inv-loop μ-loop
+mul-put-entry c = search needs
 
-shared-slice-read-put-field : tie.Need-shared-slice-read-put-field Inv-loop μ-loop
-shared-slice-read-put-field c = search needs
+shared-slice-read-put-entry : tie.Need-shared-slice-read-put-entry Inv-loop μ-loop
+shared-slice-read-put-entry c = search needs
 
-put-field-requires : tie.Need-put-field-requires Inv-loop μ-loop
-put-field-requires c κs = tt
+put-entry-requires : tie.Need-put-entry-requires Inv-loop μ-loop
+put-entry-requires c κs = tt
 
 add-i : tie.Need-add-i Inv-loop μ-loop
 add-i c = search needs
@@ -63,8 +63,8 @@ same-length-2 c = search needs
 returns-2 : tie.Need-returns-2 Inv-loop μ-loop
 returns-2 c = tt
 
-pub put-moved-directions-spec : {M : Type 1} → statement M
-put-moved-directions-spec =
+pub put-entries-at-spec : {M : Type 1} → statement M
+put-entries-at-spec =
     tie.close
     (tie.spec
     Inv-loop
@@ -77,9 +77,9 @@ put-moved-directions-spec =
     put-requires-2
     same-length
     returns
-    mul-put-field
-    shared-slice-read-put-field
-    put-field-requires
+    mul-put-entry
+    shared-slice-read-put-entry
+    put-entry-requires
     add-i
     loop-less
     loop-again
