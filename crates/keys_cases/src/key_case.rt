@@ -12,6 +12,7 @@ use crate::print::put_key_list;
 use crate::print::put_keys;
 use crate::print::put_number_list;
 use crate::print::put_numbers;
+use crate::sheet::NONE;
 use crate::sheet::Place;
 use crate::sheet::list;
 use crate::sheet::read_lines;
@@ -194,7 +195,7 @@ fn put_projection(x: Adjusted, all: &[u64], ends: &[usize], out: &mut [u8], at: 
     put_bytes(out, e, b"\n")
 }
 
-// Where the pairs moved their keys and directions, else those that stood.
+// L, G and S: moved where the pairs moved, else as they stood.
 fn put_pairs(x: Adjusted, all: &[u64], ends: &[usize], out: &mut [u8], at: usize) -> usize
     requires { ⌜ WholeAdjusted x ⌝ }
 {
@@ -260,7 +261,7 @@ fn put_children(x: Adjusted, all: &[u64], ends: &[usize], out: &mut [u8], at: us
     p
 }
 
-// L, G, S, J and the children's lists.
+// L, G, S, J and the lines C.
 fn put_lists(x: Adjusted, all: &[u64], ends: &[usize], out: &mut [u8], at: usize) -> usize
     requires { ⌜ WholeAdjusted x ⌝ }
 {
@@ -280,7 +281,7 @@ fn put_answer(x: Adjusted, all: &[u64], ends: &[usize], out: &mut [u8], at: usiz
     let a = put_numbers(out, at, b'k', &heading);
     let positions = x.at;
     let b = put_number_list(out, a, b'P', positions);
-    let r = if x.cleared { 99 } else { 1 };
+    let r = if x.cleared { NONE } else { 1 };
     let c = put_keys(out, b, b'R', list(all, ends, r));
     put_lists(x, all, ends, out, c)
 }
@@ -317,12 +318,12 @@ pub fn answer(
     out: &mut [u8],
     at: usize,
 ) -> Place {
+    let line = list(all, ends, 0);
     let r = list(all, ends, 1);
     let l = list(all, ends, 2);
     let g = list(all, ends, 3);
     let s = list(all, ends, 4);
     let flat = list(all, ends, 5);
-    let line = list(all, ends, 0);
     let o = list(all, ends, 6);
     let a = list(all, ends, 7);
     let m = list(all, ends, 8);

@@ -100,7 +100,7 @@ fn advance(
     key_sheet(s, at, rows, rules, all, ends, out, end)
 }
 
-// How much was written.
+// Every line and sheet of the text: how much was written.
 fn run(
     s: &[u8],
     rows: &mut [[u64; 2]],
@@ -124,6 +124,12 @@ fn run(
     end
 }
 
+fn finish(output: &[u8], end: usize) {
+    if end <= output.len() {
+        io::write_all(1, &output[0..end]);
+    }
+}
+
 fn main() {
     let mut input = io::large_buffer();
     let mut output = io::large_buffer();
@@ -141,10 +147,4 @@ fn main() {
         &mut output,
     );
     finish(&output, end);
-}
-
-fn finish(output: &[u8], end: usize) {
-    if end <= output.len() {
-        io::write_all(1, &output[0..end]);
-    }
 }

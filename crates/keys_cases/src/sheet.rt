@@ -9,6 +9,9 @@ pub enum Place {
     Wrong,
 }
 
+// The number of no list: every list has a smaller one, and this one is empty.
+pub const NONE: usize = 99;
+
 // How many fields of a line stand for themselves; each three after them are an expression.
 fn plain_fields(letter: u8) -> usize {
     match letter {
@@ -99,6 +102,23 @@ fn pack_entries(
     Place::At(at)
 }
 
+// Where list `i` begins.
+fn bound(ends: &[usize], i: usize) -> usize {
+    if ends.len() <= i {
+        return 0;
+    }
+    ends[i]
+}
+
+// The end of list `i`.
+fn set_bound(ends: &mut [usize], i: usize, end: usize) {
+    if i < ends.len() {
+        if ends.len() - i > 1 {
+            ends[i + 1] = end;
+        }
+    }
+}
+
 // The line of a letter becomes list `i`.
 fn read_line(
     s: &[u8],
@@ -138,22 +158,6 @@ fn read_line(
     Place::At(next)
 }
 
-fn bound(ends: &[usize], i: usize) -> usize {
-    if ends.len() <= i {
-        return 0;
-    }
-    ends[i]
-}
-
-// The end of list `i`.
-fn set_bound(ends: &mut [usize], i: usize, end: usize) {
-    if i < ends.len() {
-        if ends.len() - i > 1 {
-            ends[i + 1] = end;
-        }
-    }
-}
-
 // The lines of the letters become the lists from `first` on.
 pub fn read_lines(
     s: &[u8],
@@ -168,7 +172,7 @@ pub fn read_lines(
     let mut i: usize = 0;
     let mut list = first;
     while i < letters.len() {
-        if list > 99 {
+        if list >= NONE {
             return Place::Wrong;
         }
         let Place::At(p) = read_line(s, next, letters[i], rows, all, ends, list) else {
@@ -182,7 +186,7 @@ pub fn read_lines(
 }
 
 pub fn list<'a>(all: &'a [u64], ends: &[usize], i: usize) -> &'a [u64] {
-    if i > 99 {
+    if i >= NONE {
         return &all[0..0];
     }
     let from = bound(ends, i);
