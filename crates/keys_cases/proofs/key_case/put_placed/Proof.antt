@@ -1,0 +1,76 @@
+-- `keys_cases::key_case::put_placed` is safe and ends.
+use lib.ListN.{length}
+use Prim.Native.Nat.{_≤_, _-_}
+use mathlib.Core.Path.{_≡_}
+use borrow.Author.Needs.{needs}
+use Rattle.keys_cases.proofs.key_case.put_placed.Statement.{statement}
+use Rattle.keys_cases.proofs.key_case.put_placed.Tie as tie
+
+abbrev Inv-loop : tie.InvT-loop
+Inv-loop out₀ at names places p₀ i₀ out p i = (i ≤ length names) × (length out ≡ length out₀)
+
+abbrev μ-loop : tie.MeasureT-loop
+μ-loop out₀ at names places p₀ i₀ out p i = length names - i
+
+loop-holds : tie.Need-loop-holds Inv-loop μ-loop
+loop-holds c = search needs
+
+same-length : tie.Need-same-length Inv-loop μ-loop
+same-length c = search needs
+
+returns : tie.Need-returns Inv-loop μ-loop
+returns c = tt
+
+mul-put-field : tie.Need-mul-put-field Inv-loop μ-loop
+mul-put-field c = search needs
+
+shared-slice-read-put-field : tie.Need-shared-slice-read-put-field Inv-loop μ-loop
+shared-slice-read-put-field c = search needs
+
+put-field-requires : tie.Need-put-field-requires Inv-loop μ-loop
+put-field-requires c κs = tt
+
+mul-put-field-2 : tie.Need-mul-put-field-2 Inv-loop μ-loop
+mul-put-field-2 c = search needs
+
+shared-slice-read-put-field-2 : tie.Need-shared-slice-read-put-field-2 Inv-loop μ-loop
+shared-slice-read-put-field-2 c = search needs
+
+put-field-requires-2 : tie.Need-put-field-requires-2 Inv-loop μ-loop
+put-field-requires-2 c κs = tt
+
+add-i : tie.Need-add-i Inv-loop μ-loop
+add-i c = search needs
+
+loop-less : tie.Need-loop-less Inv-loop μ-loop
+loop-less c = search needs
+
+loop-again : tie.Need-loop-again Inv-loop μ-loop
+loop-again c = search needs
+
+same-length-2 : tie.Need-same-length-2 Inv-loop μ-loop
+same-length-2 c = search needs
+
+returns-2 : tie.Need-returns-2 Inv-loop μ-loop
+returns-2 c = tt
+
+pub put-placed-spec : {M : Type 1} → statement M
+put-placed-spec =
+    tie.close
+    (tie.spec
+    Inv-loop
+    μ-loop
+    loop-holds
+    same-length
+    returns
+    mul-put-field
+    shared-slice-read-put-field
+    put-field-requires
+    mul-put-field-2
+    shared-slice-read-put-field-2
+    put-field-requires-2
+    add-i
+    loop-less
+    loop-again
+    same-length-2
+    returns-2)
