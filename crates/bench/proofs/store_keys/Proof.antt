@@ -34,7 +34,7 @@ element-copy-out-e : tie.Need-element-copy-out-e Inv-loop μ-loop
 element-copy-out-e c = search needs
 
 store-requires : tie.Need-store-requires Inv-loop μ-loop
-store-requires c κs = search needs
+store-requires c κs = tt
 
 add-i : tie.Need-add-i Inv-loop μ-loop
 add-i c = search needs

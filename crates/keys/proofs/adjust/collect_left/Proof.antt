@@ -32,7 +32,7 @@ returns-2 c =
     (e .0, λ l g s w o a m cs. e .1 l g s w o a m cs ∙ collect-right sameExpr (keySheet (s₀ .args .k) (s₀ .args .r .now) l g s w o a m cs) (c .before .if2 .taken))
 
 passed-requires : tie.Need-passed-requires
-passed-requires c κs = search needs
+passed-requires c κs = tt
 
 returns-3 : tie.Need-returns-3
 returns-3 c =
@@ -45,7 +45,7 @@ returns-3 c =
     )
 
 passed-requires-2 : tie.Need-passed-requires-2
-passed-requires-2 c κs = search needs
+passed-requires-2 c κs = tt
 
 returns-4 : tie.Need-returns-4
 returns-4 c =
@@ -58,7 +58,7 @@ returns-4 c =
     )
 
 passed-requires-3 : tie.Need-passed-requires-3
-passed-requires-3 c κs = search needs
+passed-requires-3 c κs = tt
 
 returns-5 : tie.Need-returns-5
 returns-5 c =
@@ -71,7 +71,7 @@ returns-5 c =
     )
 
 passed-requires-4 : tie.Need-passed-requires-4
-passed-requires-4 c κs = search needs
+passed-requires-4 c κs = tt
 
 returns-6 : tie.Need-returns-6
 returns-6 c =

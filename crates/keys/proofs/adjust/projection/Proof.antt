@@ -15,7 +15,7 @@ use Rattle.keys.proofs.adjust.projection.Statement.{statement}
 use Rattle.keys.proofs.adjust.projection.Tie as tie
 
 passed-requires : tie.Need-passed-requires
-passed-requires c κs = search needs
+passed-requires c κs = tt
 
 returns : tie.Need-returns
 returns c =
@@ -28,7 +28,7 @@ returns c =
     )
 
 passed-requires-2 : tie.Need-passed-requires-2
-passed-requires-2 c κs = search needs
+passed-requires-2 c κs = tt
 
 returns-2 : tie.Need-returns-2
 returns-2 c =

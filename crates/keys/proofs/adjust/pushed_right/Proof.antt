@@ -11,16 +11,16 @@ use Rattle.keys.proofs.adjust.pushed_right.Statement.{statement}
 use Rattle.keys.proofs.adjust.pushed_right.Tie as tie
 
 no-numbers-requires : tie.Need-no-numbers-requires
-no-numbers-requires c κs = search needs
+no-numbers-requires c κs = tt
 
 no-keys-requires : tie.Need-no-keys-requires
-no-keys-requires c κs = search needs
+no-keys-requires c κs = tt
 
 no-numbers-requires-2 : tie.Need-no-numbers-requires-2
-no-numbers-requires-2 c κs = search needs
+no-numbers-requires-2 c κs = tt
 
 no-numbers-requires-3 : tie.Need-no-numbers-requires-3
-no-numbers-requires-3 c κs = search needs
+no-numbers-requires-3 c κs = tt
 
 returns : tie.Need-returns
 returns c = (

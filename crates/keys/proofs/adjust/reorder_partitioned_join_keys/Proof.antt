@@ -32,7 +32,7 @@ enum-told : tie.Need-enum-told
 enum-told c = search needs
 
 passed-requires : tie.Need-passed-requires
-passed-requires c κs = search needs
+passed-requires c κs = tt
 
 returns : tie.Need-returns
 returns c =
@@ -71,7 +71,7 @@ moved-numbers-requires c κs =
     )
 
 no-numbers-requires : tie.Need-no-numbers-requires
-no-numbers-requires c κs = search needs
+no-numbers-requires c κs = tt
 
 returns-2 : tie.Need-returns-2
 returns-2 c =

@@ -15,7 +15,7 @@ use Rattle.keys.proofs.aggregate.aggregate.Statement.{statement}
 use Rattle.keys.proofs.aggregate.aggregate.Tie as tie
 
 passed-requires : tie.Need-passed-requires
-passed-requires c κs = search needs
+passed-requires c κs = tt
 
 returns : tie.Need-returns
 returns c =
@@ -41,7 +41,7 @@ returns-2 c =
     )
 
 passed-requires-2 : tie.Need-passed-requires-2
-passed-requires-2 c κs = search needs
+passed-requires-2 c κs = tt
 
 returns-3 : tie.Need-returns-3
 returns-3 c =

@@ -17,7 +17,7 @@ second : (c : tie.After-p) → placeOf eqb (c .before .before .before .before .b
 second c = sym (c .before .before .find2 .ensures) ∙ ap found (c .p .given .1)
 
 find-requires : tie.Need-find-requires
-find-requires c κs = search needs
+find-requires c κs = tt
 
 enum-told : tie.Need-enum-told
 enum-told c = search needs
@@ -33,7 +33,7 @@ returns c =
     e ∙ place-first (s .args .name) (s .args .moved .now) (s .args .aggregates .now) (c .enum-told2 .given .0 .0) (sym (f .ensures) ∙ e)
 
 find-requires-2 : tie.Need-find-requires-2
-find-requires-2 c κs = search needs
+find-requires-2 c κs = tt
 
 enum-known-p : tie.Need-enum-known-p
 enum-known-p c = search needs

@@ -38,7 +38,7 @@ mul-out-2 : tie.Need-mul-out-2 Inv-loop μ-loop
 mul-out-2 c = omega (arith, small (c .before))
 
 wide-requires : tie.Need-wide-requires Inv-loop μ-loop
-wide-requires c κs = search needs
+wide-requires c κs = tt
 
 add-out : tie.Need-add-out Inv-loop μ-loop
 add-out c = omega (arith, small (c .before .before), c .wide .ensures, c .before .before .loop-test .taken, c .before .before .before .before .before .pre .0)

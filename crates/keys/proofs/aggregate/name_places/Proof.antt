@@ -22,7 +22,7 @@ abbrev μ-loop : tie.MeasureT-loop
 μ-loop moved aggregates names at₀ i₀ at i = length names - i
 
 no-numbers-requires : tie.Need-no-numbers-requires Inv-loop μ-loop
-no-numbers-requires c κs = search needs
+no-numbers-requires c κs = tt
 
 loop-holds : tie.Need-loop-holds Inv-loop μ-loop
 loop-holds c =
@@ -55,7 +55,7 @@ returns c =
     )
 
 wide-requires : tie.Need-wide-requires Inv-loop μ-loop
-wide-requires c κs = search needs
+wide-requires c κs = tt
 
 mul-at : tie.Need-mul-at Inv-loop μ-loop
 mul-at c = search needs

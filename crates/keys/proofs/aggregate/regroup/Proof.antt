@@ -65,7 +65,7 @@ enum-told-2 : tie.Need-enum-told-2
 enum-told-2 c = search needs
 
 passed-requires : tie.Need-passed-requires
-passed-requires c κs = search needs
+passed-requires c κs = tt
 
 returns : tie.Need-returns
 returns c =

@@ -44,7 +44,7 @@ enum-told-2 : tie.Need-enum-told-2
 enum-told-2 c = search needs
 
 passed-requires : tie.Need-passed-requires
-passed-requires c κs = search needs
+passed-requires c κs = tt
 
 returns : tie.Need-returns
 returns c =
@@ -81,7 +81,7 @@ returns-2 c =
     )
 
 passed-requires-2 : tie.Need-passed-requires-2
-passed-requires-2 c κs = search needs
+passed-requires-2 c κs = tt
 
 returns-3 : tie.Need-returns-3
 returns-3 c =

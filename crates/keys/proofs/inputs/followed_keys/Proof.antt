@@ -27,7 +27,7 @@ enum-told-2 : tie.Need-enum-told-2
 enum-told-2 c = search needs
 
 after-mark-requires : tie.Need-after-mark-requires
-after-mark-requires c κs = search needs
+after-mark-requires c κs = tt
 
 returns-2 : tie.Need-returns-2
 returns-2 c =
@@ -38,7 +38,7 @@ enum-told-3 : tie.Need-enum-told-3
 enum-told-3 c = search needs
 
 after-mark-requires-2 : tie.Need-after-mark-requires-2
-after-mark-requires-2 c κs = search needs
+after-mark-requires-2 c κs = tt
 
 returns-3 : tie.Need-returns-3
 returns-3 c =

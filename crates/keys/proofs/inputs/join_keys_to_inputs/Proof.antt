@@ -8,10 +8,10 @@ use Rattle.keys.proofs.inputs.join_keys_to_inputs.Statement.{statement}
 use Rattle.keys.proofs.inputs.join_keys_to_inputs.Tie as tie
 
 order-tried-requires : tie.Need-order-tried-requires
-order-tried-requires c κs = search needs
+order-tried-requires c κs = tt
 
 stood-requires : tie.Need-stood-requires
-stood-requires c κs = search needs
+stood-requires c κs = tt
 
 returns : tie.Need-returns
 returns c =

@@ -8,16 +8,16 @@ join-keys-to-inputs-requires : tie.Need-join-keys-to-inputs-requires
 join-keys-to-inputs-requires c κs = search needs
 
 side-followed-requires : tie.Need-side-followed-requires
-side-followed-requires c κs = search needs
+side-followed-requires c κs = tt
 
 report-number-requires : tie.Need-report-number-requires
-report-number-requires c κs = search needs
+report-number-requires c κs = tt
 
 side-number-requires : tie.Need-side-number-requires
-side-number-requires c κs = search needs
+side-number-requires c κs = tt
 
 followed-keys-requires : tie.Need-followed-keys-requires
-followed-keys-requires c κs = search needs
+followed-keys-requires c κs = tt
 
 returns : tie.Need-returns
 returns c =

@@ -18,7 +18,7 @@ abbrev μ-loop : tie.MeasureT-loop
 μ-loop keys out₀ i₀ out i = length keys - i
 
 no-keys-requires : tie.Need-no-keys-requires Inv-loop μ-loop
-no-keys-requires c κs = search needs
+no-keys-requires c κs = tt
 
 loop-holds : tie.Need-loop-holds Inv-loop μ-loop
 loop-holds c = search needs

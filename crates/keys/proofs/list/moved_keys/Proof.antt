@@ -21,7 +21,7 @@ abbrev μ-loop : tie.MeasureT-loop
 μ-loop keys at out₀ i₀ out i = length at - i
 
 no-keys-requires : tie.Need-no-keys-requires Inv-loop μ-loop
-no-keys-requires c κs = search needs
+no-keys-requires c κs = tt
 
 loop-holds : tie.Need-loop-holds Inv-loop μ-loop
 loop-holds c = search needs
@@ -33,7 +33,7 @@ shared-slice-read-place : tie.Need-shared-slice-read-place Inv-loop μ-loop
 shared-slice-read-place c = search needs
 
 place-requires : tie.Need-place-requires Inv-loop μ-loop
-place-requires c κs = search needs
+place-requires c κs = tt
 
 -- the position that was read is within the list
 place-fits : (c : tie.After-place Inv-loop μ-loop) → c .place .result < length (c .before .before .before .before .before .before .before .args .keys .now)

@@ -10,13 +10,13 @@ use Rattle.keys.proofs.reorder.expected_expr_positions.Statement.{state
 use Rattle.keys.proofs.reorder.expected_expr_positions.Tie as tie
 
 no-positions-requires : tie.Need-no-positions-requires
-no-positions-requires c κs = search needs
+no-positions-requires c κs = tt
 
 returns : tie.Need-returns
 returns c = let s = c .before .before .before .before in (search needs, c .no-positions .ensures .1 ∙ sym (positions-nothing eqb goneNumber (s .args .current .now) (s .args .expected .now) (c .before .if1 .taken)))
 
 no-positions-requires-2 : tie.Need-no-positions-requires-2
-no-positions-requires-2 c κs = search needs
+no-positions-requires-2 c κs = tt
 
 returns-2 : tie.Need-returns-2
 returns-2 c = let s = c .before .before .before .before .before in (search needs, c .no-positions2 .ensures .1 ∙ sym (positions-no-wish eqb goneNumber (s .args .current .now) (s .args .expected .now) (c .before .if2 .taken)))

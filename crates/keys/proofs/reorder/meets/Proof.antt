@@ -9,7 +9,7 @@ use Rattle.keys.proofs.reorder.meets.Statement.{statement}
 use Rattle.keys.proofs.reorder.meets.Tie as tie
 
 same-keys-requires : tie.Need-same-keys-requires
-same-keys-requires c κs = search needs
+same-keys-requires c κs = tt
 
 returns : tie.Need-returns
 returns c =
@@ -18,7 +18,7 @@ returns c =
     or-left (sameList eqb r (s .args .l .now)) (sameList eqb r (s .args .g .now)) (sym (c .before .same-keys .ensures) ∙ c .if1 .taken)
 
 same-keys-requires-2 : tie.Need-same-keys-requires-2
-same-keys-requires-2 c κs = search needs
+same-keys-requires-2 c κs = tt
 
 returns-2 : tie.Need-returns-2
 returns-2 c =

@@ -31,7 +31,7 @@ enum-told-2 : tie.Need-enum-told-2
 enum-told-2 c = search needs
 
 unmoved-requires : tie.Need-unmoved-requires
-unmoved-requires c κs = search needs
+unmoved-requires c κs = tt
 
 returns : tie.Need-returns
 returns c =

@@ -29,7 +29,7 @@ shared-slice-read-rewrite-one : tie.Need-shared-slice-read-rewrite-one Inv-loop 
 shared-slice-read-rewrite-one c = search needs
 
 rewrite-one-requires : tie.Need-rewrite-one-requires Inv-loop μ-loop
-rewrite-one-requires c κs = search needs
+rewrite-one-requires c κs = tt
 
 mul-out : tie.Need-mul-out Inv-loop μ-loop
 mul-out c = search needs

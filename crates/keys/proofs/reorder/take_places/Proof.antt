@@ -57,7 +57,7 @@ key-list-requires : tie.Need-key-list-requires Inv-loop μ-loop
 key-list-requires c κs = search needs
 
 no-numbers-requires : tie.Need-no-numbers-requires Inv-loop μ-loop
-no-numbers-requires c κs = search needs
+no-numbers-requires c κs = tt
 
 loop-holds : tie.Need-loop-holds Inv-loop μ-loop
 loop-holds c =
@@ -101,7 +101,7 @@ element-set-from-left : tie.Need-element-set-from-left Inv-loop μ-loop
 element-set-from-left c = search needs
 
 wide-requires : tie.Need-wide-requires Inv-loop μ-loop
-wide-requires c κs = search needs
+wide-requires c κs = tt
 
 mul-at : tie.Need-mul-at Inv-loop μ-loop
 mul-at c = search needs
