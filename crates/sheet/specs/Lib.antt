@@ -1,0 +1,5 @@
+pub mod Lines
+pub mod KeyLines
+pub mod KeySheets
+pub mod KeyAnswers
+pub mod KeyTexts
