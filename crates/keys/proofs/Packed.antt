@@ -1,7 +1,7 @@
 -- Keys of one type that stand for keys of another, with the same equality: what is decided about the ones is decided about the others.
 -- So packed numbers, compared as numbers, are as good as the expressions that they pack.
 -- Assumes nothing.
-use Prim.Native.Nat.{ℕ, _+_, _*_, _/_, _%_}
+use Prim.Native.Nat.{ℕ, _+_, _*_, _/_, _%_, _<_}
 use mathlib.Core.Path.{_≡_, refl, ap, sym, _∙_}
 use mathlib.Core.Bool.{Bool, true, false, cond, _&&_, _||_}
 use mathlib.Core.Option.{Option, none, some}
@@ -12,7 +12,7 @@ use lib.Dec.{eqb}
 use lib.ListN.{length, set, length-map, List·getD-map}
 use Rattle.keys.specs.Lists.{also, andThen, orElse, sameList, placeOf, takePlaces, expectedExprPositions, permute}
 use Rattle.keys.specs.Reorder.{Rule, Tried, met, movedBy, rewriteOne, rewrite, meets, eitherSide, tryReorder}
-use Rattle.keys.specs.Expressions.{Expression, sameExpr, placeholder, goneNumber, expression, expressions, rule, rules}
+use Rattle.keys.specs.Expressions.{Expression, sameExpr, placeholder, goneNumber, expression, expressions, packed, rule, rules}
 use Rattle.keys.specs.Values.{numberRules}
 use Rattle.keys.proofs.Turns.{map-set}
 
@@ -125,6 +125,14 @@ expressions-agree m n = go (eqb m n) refl
         let z : m ≡ n = eqb-true m n e in
         rw (z, eq-eqb (n / 4294967296) (n / 4294967296) refl, eq-eqb (n / 65536 % 65536) (n / 65536 % 65536) refl, eq-eqb (n % 65536) (n % 65536) refl)
     go false e = differ (eqb-false m n e) _ _ _ refl refl refl
+
+-- what was packed comes out again
+pub unpacked : (kind name index : ℕ) → name < 65536 → index < 65536 → expression (packed kind name index) ≡ record { kind = kind; name = name; index = index }
+unpacked k n i h g =
+    let e : packed k n i / 4294967296 ≡ k = omega arith in
+    let f : packed k n i / 65536 % 65536 ≡ n = omega arith in
+    let j : packed k n i % 65536 ≡ i = omega arith in
+    λ x. record { kind = e x; name = f x; index = j x }
 
 rules-map : (w : List (List ℕ)) → map (mapRule expression eqb sameExpr expressions-agree) (numberRules w) ≡ rules w
 rules-map [] = refl

@@ -1,7 +1,7 @@
 // Expressions: kind, name and index packed in one number, so that two are equal exactly where their numbers are.
 ghost use mathlib.Core.Path.{_≡_};
 ghost use Prim.Native.Nat.{_<_};
-ghost use Rattle.keys.specs.Expressions.{expression};
+ghost use Rattle.keys.specs.Expressions.{packed, expression};
 
 pub struct Expr {
     pub number: u64,
@@ -9,7 +9,7 @@ pub struct Expr {
 
 pub fn pack(kind: u64, name: u64, index: u64) -> u64
     requires { ⌜ (kind < 65536) × (name < 65536) × (index < 65536) ⌝ }
-    ensures { λ r. ⌜ expression r ≡ record { kind = kind; name = name; index = index } ⌝ }
+    ensures { λ r. ⌜ r ≡ packed kind name index ⌝ }
 {
     kind * 4294967296 + (name * 65536 + index)
 }
