@@ -73,7 +73,7 @@ module _ (m : ℕ) (xs : List ℕ) (i : ℕ) where
   over-end h = rw (drop-of-length-le xs h)
 
 -- three numbers, and what follows them
-three : (xs : List ℕ) (i : ℕ) → i + 3 ≤ length xs → drop i xs ≡ getD xs i 0 ∷ getD xs (i + 1) 0 ∷ getD xs (i + 2) 0 ∷ drop (i + 3) xs
+pub three : (xs : List ℕ) (i : ℕ) → i + 3 ≤ length xs → drop i xs ≡ getD xs i 0 ∷ getD xs (i + 1) 0 ∷ getD xs (i + 2) 0 ∷ drop (i + 3) xs
 three xs i h =
     let e : suc i ≡ i + 1 = omega arith in
     let f : suc (i + 1) ≡ i + 2 = omega arith in

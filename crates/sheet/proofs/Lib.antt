@@ -2,4 +2,5 @@ pub mod Defined
 pub mod Judges
 pub mod LineNumbers
 pub mod ReadLines
+pub mod Packing
 pub mod Examples

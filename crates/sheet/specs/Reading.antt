@@ -1,12 +1,13 @@
 -- What the reading functions answer, and the line kind that a code and a letter stand for.
-use Prim.Native.Nat.{ℕ, _≤_, _-_, _*_}
-use mathlib.Core.List.{List, [], map}
+use Prim.Native.Nat.{ℕ, _≤_, _<_, _-_, _*_}
+use mathlib.Core.List.{List, [], _∷_, _++_, map}
 use mathlib.Core.Path.{_≡_}
 use mathlib.Core.Bool.{Bool, false, cond, not, _&&_, _||_}
 use mathlib.Core.Option.{Option, none, some}
 use lib.Dec.{eqb, leb, ltb}
-use lib.ListN.{length, getD, drop}
+use lib.ListN.{length, getD, take, drop}
 use Rattle.text.specs.Text.{Field}
+use Rattle.keys.specs.Expressions.{packed}
 use Rattle.sheet.specs.Lines.{Kind, mostBytes, mostEntries, wholeEntries, lineNumber, fieldsOf}
 use Rattle.sheet.specs.KeyLines.{undefinedExprs, over, definedMode, definedJoin, fitChildren, keyLine, inputHead, exprLine, ruleLine, inputLine, directionLine, nameLine}
 use Rattle.sheet.specs.declared.kind.Codes.{Codes}
@@ -112,3 +113,25 @@ rowValues rs = map rowValue rs
 -- a line with the place after it, or the lowest number that turns it back
 abbrev pub readBy : ℕ → ℕ → Option (List Field) → Read
 readBy n next x = cond (eqb n 0) (Line (length (fieldsOf x)) next) (Refused n)
+
+-- every three numbers packed in one
+unfoldable pub packs : List ℕ → List ℕ
+packs [] = []
+packs (k ∷ []) = []
+packs (k ∷ n ∷ []) = []
+packs (k ∷ n ∷ i ∷ rest) = packed k n i ∷ packs rest
+
+-- a line's list as the decision takes it: expressions packed, a mark before them, or the numbers as they are
+abbrev pub packedBy : Codes → List ℕ → List ℕ
+packedBy Key ns = ns
+packedBy Join ns = ns
+packedBy Exprs ns = packs ns
+packedBy Rules ns = packs ns
+packedBy Input ns = take 1 ns ++ packs (drop 1 ns)
+packedBy Directions ns = ns
+packedBy Names ns = ns
+
+-- every number is a field's
+abbrev pub Small : List ℕ → Type 0
+Small [] = Unit {0}
+Small (n ∷ ns) = (n < 65536) × Small ns

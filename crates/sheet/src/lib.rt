@@ -1,3 +1,4 @@
 // K and I sheets: reading with refusals.
 pub mod kind;
 pub mod line;
+pub mod pack;
