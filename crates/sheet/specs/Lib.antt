@@ -3,3 +3,4 @@ pub mod KeyLines
 pub mod KeySheets
 pub mod KeyAnswers
 pub mod KeyTexts
+pub mod InTurn
