@@ -1,3 +1,5 @@
 pub mod Examples
 pub mod Chained
 pub mod RowsAgain
+pub mod Numbers
+pub mod KeyAgain
