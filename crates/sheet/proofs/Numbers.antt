@@ -57,10 +57,10 @@ numbers-append (f ∷ fs) gs e h =
     λ j. a j ∷ numbers-append fs gs b h j
 
 module _ (k : Kind) (fs : List Field) (fine : Fine k fs) where
-  abbrev heads : ℕ
+  abbrev pub heads : ℕ
   heads = length (k .heads)
 
-  fit-heads : fits (k .heads) (take heads fs) ≡ true
+  pub fit-heads : fits (k .heads) (take heads fs) ≡ true
   fit-heads = both (fits (k .heads) (take heads fs)) (allowsAll plain (drop heads fs) && wholeEntries (k .width) (length (drop heads fs))) (fine .fit) .0
 
   pub fit-list : (allowsAll plain (drop heads fs) ≡ true) × (wholeEntries (k .width) (length (drop heads fs)) ≡ true)
