@@ -3,3 +3,4 @@ pub mod Chained
 pub mod RowsAgain
 pub mod Numbers
 pub mod KeyAgain
+pub mod Accepted
