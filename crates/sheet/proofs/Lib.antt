@@ -2,5 +2,6 @@ pub mod Examples
 pub mod Chained
 pub mod RowsAgain
 pub mod Numbers
-pub mod KeyAgain
+pub mod KeyRows
 pub mod Accepted
+pub mod KeyAccepted

@@ -1,8 +1,8 @@
--- Writing what was read gives the bytes, for K and I sheets.
+-- The rows of a K or I sheet, made a sheet, are written as they stood.
 use mathlib.Core.Path.{_≡_, refl, sym, ap, _∙_}
 use Prim.Native.Nat.{ℕ, zero, suc, _+_, _*_, _%_, _≤_}
 use native.Mathlib.Omega.{arith}
-use mathlib.Core.List.{List, [], _∷_, _++_, map}
+use mathlib.Core.List.{List, [], _∷_, _++_, append-nil, map}
 use mathlib.Core.Bool.{Bool, true, false, cond, not, _&&_, _||_}
 use mathlib.Core.Option.{Option, none, some}
 use lib.Dec.{eqb, ltb, leb}
@@ -17,7 +17,7 @@ use Rattle.keys.specs.Expressions.{Expression}
 use Rattle.keys.specs.Adjust.{KeySheet}
 use Rattle.keys.specs.Inputs.{JoinSheet}
 use Rattle.sheet.specs.Lines.{Kind, plain, wholeEntries}
-use Rattle.sheet.specs.KeyLines.{at, values, listLine, exprLine, ruleLine, directionLine, nameLine, inputLine, keyLine, inputHead, keyStages, inputStages, definedMode, definedJoin}
+use Rattle.sheet.specs.KeyLines.{at, values, undefinedExprs, listLine, exprLine, ruleLine, directionLine, nameLine, inputLine, keyLine, inputHead, keyStages, inputStages, definedMode, definedJoin}
 use Rattle.sheet.specs.KeySheets.{exprs, rulesOf, mark, inputOf, unusedKeys, keySheetOf, joinSheetOf, row}
 use Rattle.sheet.specs.KeyAnswers.{numbersLine, exprNumbers, exprsLine, childLines}
 use Rattle.sheet.specs.KeyTexts.{markNumber, rulesLine, inputNumbers, keySheetText, joinSheetText}
@@ -53,14 +53,14 @@ children-count zero cs empty = refl
 children-count (suc n) (fs ∷ cs) (more f r) = ap suc (children-count n cs r)
 
 -- what the K line's code test says
-record KeyCodes (fs : List Field) : Type 0 where
-  op : at fs 0 ≤ 6
-  mode : definedMode (at fs 0) (at fs 1) ≡ true
-  join : definedJoin (at fs 0) (at fs 2) ≡ true
-  plain : at fs 4 ≤ 1
-  partial : at fs 5 ≤ 1
+pub record KeyCodes (fs : List Field) : Type 0 where
+  pub op : at fs 0 ≤ 6
+  pub mode : definedMode (at fs 0) (at fs 1) ≡ true
+  pub join : definedJoin (at fs 0) (at fs 2) ≡ true
+  pub plain : at fs 4 ≤ 1
+  pub partial : at fs 5 ≤ 1
 
-key-codes : (fs : List Field) → Fine keyLine fs → KeyCodes fs
+pub key-codes : (fs : List Field) → Fine keyLine fs → KeyCodes fs
 key-codes fs fine =
     let a = both (leb (at fs 0) 6) _ (not-false _ (fine .defined)) in
     let b = both (definedMode (at fs 0) (at fs 1)) _ (a .1) in
@@ -91,9 +91,33 @@ key-row : (fs : List Field) → Fine keyLine fs → numbersLine 75 (at fs 0 ∷ 
 unfolding filled
 key-row fs fine = let c = key-codes fs fine in rw (mark-again (at fs 4) (c .plain), mark-again (at fs 5) (c .partial)) (heads-row keyLine fs fine refl refl)
 
-key-text : (k : List Field) (rs : List (List Field)) → FineRows (keyLine ∷ kindsOf (keyStages (at k 6))) (k ∷ rs) → keySheetText (keySheetOf k rs) ≡ rowsText (keyLine ∷ kindsOf (keyStages (at k 6))) (k ∷ rs)
+pub key-text : (k : List Field) (rs : List (List Field)) → FineRows (keyLine ∷ kindsOf (keyStages (at k 6))) (k ∷ rs) → keySheetText (keySheetOf k rs) ≡ rowsText (keyLine ∷ kindsOf (keyStages (at k 6))) (k ∷ rs)
 unfolding keySheetText filled
 key-text k rs (more fk (more {fs = r} fr (more {fs = l} fl (more {fs = g} fg (more {fs = s} fs (more {fs = w} fw (more {fs = o} fo (more {fs = a} fa (more {fs = m} {rs = cs} fm fc))))))))) =
     let n : length (map (λ fs. exprs (values fs)) cs) ≡ at k 6 = length-map cs (λ fs. exprs (values fs)) ∙ children-count (at k 6) cs fc in
     rw n (λ j. key-row k fk j ++ (exprs-row 82 r fr j ++ (exprs-row 76 l fl j ++ (exprs-row 71 g fg j ++ (numbers-row 83 1 _ s fs j ++ (rules-row 87 w fw j
     ++ (numbers-row 79 1 _ o fo j ++ (numbers-row 65 1 _ a fa j ++ (exprs-row 77 m fm j ++ children-rows (at k 6) cs fc j)))))))))
+
+-- ---- an I sheet
+
+pub either-false : (a b : Bool) → (a || b) ≡ false → (a ≡ false) × (b ≡ false)
+either-false true b e = let z : _≡_ {A = ℕ} 0 1 = cc in absurd (omega arith)
+either-false false b e = (refl, e)
+
+input-row : (letter : ℕ) (fs : List Field) → Fine (inputLine letter) fs → unusedKeys (values fs) ≡ false → numbersLine letter (inputNumbers (inputOf (values fs))) ≡ lineText letter fs
+unfolding fits filled
+input-row letter [] fine u = let e = fit-heads (inputLine letter) [] fine in let z : _≡_ {A = ℕ} 0 1 = cc in absurd (omega arith)
+input-row letter (f ∷ gs) fine u =
+    let m : valueOf f ≤ 1 = ltb-false 1 (valueOf f) (either-false (ltb 1 (valueOf f)) (undefinedExprs (values gs)) (fine .defined) .0) in
+    let w : length gs % 3 ≡ 0 = eqb-true (length gs % 3) 0 (fit-list (inputLine letter) (f ∷ gs) fine .1) in
+    ap (numbersLine letter) (input-again (valueOf f) (values gs) m (rw (values-length gs) w) u)
+    ∙ ap (lineText letter) (row-numbers (inputLine letter) (f ∷ gs) fine refl)
+
+pub join-text :
+    (k : List Field) (rs : List (List Field)) → FineRows (inputHead ∷ kindsOf inputStages) (k ∷ rs) → unusedKeys (row rs 3) ≡ false → unusedKeys (row rs 4) ≡ false →
+    joinSheetText (joinSheetOf k rs) ≡ rowsText (inputHead ∷ kindsOf inputStages) (k ∷ rs)
+unfolding joinSheetText filled
+join-text k rs (more fk (more {fs = l} fl (more {fs = g} fg (more {fs = s} fs (more {fs = h} fh (more {fs = n} fn (more {fs = w} fw (more {fs = v} fv empty)))))))) uh un =
+    (λ j. heads-row inputHead k fk refl refl j ++ (exprs-row 76 l fl j ++ (exprs-row 71 g fg j ++ (numbers-row 83 1 _ s fs j ++ (input-row 72 h fh uh j
+    ++ (input-row 78 n fn un j ++ (rules-row 87 w fw j ++ rules-row 86 v fv j)))))))
+    ∙ rw (append-nil (lineText 86 v))
