@@ -5,3 +5,4 @@ pub mod Numbers
 pub mod KeyRows
 pub mod Accepted
 pub mod KeyAccepted
+pub mod LegalRows

@@ -4,3 +4,4 @@ pub mod KeySheets
 pub mod KeyAnswers
 pub mod KeyTexts
 pub mod InTurn
+pub mod LegalSheets

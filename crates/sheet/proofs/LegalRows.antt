@@ -1,0 +1,142 @@
+-- The rows of legal lists are fine, and fine rows are those of legal lists.
+use mathlib.Core.Path.{_≡_, refl, sym, ap, _∙_}
+use Prim.Native.Nat.{ℕ, zero, suc, _+_, _*_, _%_, _≤_}
+use native.Mathlib.Omega.{arith}
+use mathlib.Core.List.{List, [], _∷_, _++_, map}
+use mathlib.Core.Bool.{Bool, true, false, cond, not, _&&_, _||_}
+use mathlib.Core.Option.{Option, none, some}
+use lib.Dec.{eqb, ltb, leb}
+use lib.ListN.{length, take, drop, length-map}
+use borrow.Author.Tests.{eqb-true, eq-eqb, leb-true, le-leb, ltb-false, le-ltb, not-true, not-false}
+use Rattle.text.specs.Text.{Field, number, empty, malformed, valueOf}
+use Rattle.text.specs.Bounds.{allows, allowsAll, fits}
+use Rattle.text.proofs.Exact.{both}
+use Rattle.keys.specs.Reorder.{Rule}
+use Rattle.keys.specs.Expressions.{Expression}
+use Rattle.sheet.specs.Lines.{Kind, plain, wholeEntries, never, mostEntries}
+use Rattle.sheet.specs.KeyLines.{at, values, definedExpr, undefinedExprs, over, listLine, exprLine, ruleLine, directionLine, nameLine, inputLine}
+use Rattle.sheet.specs.KeySheets.{exprs, rulesOf, mark, inputOf, unusedKeys}
+use Rattle.sheet.specs.KeyAnswers.{exprNumbers}
+use Rattle.sheet.specs.KeyTexts.{markNumber, ruleExprs, inputNumbers}
+use Rattle.sheet.specs.InTurn.{Each, Fine}
+use Rattle.sheet.specs.LegalSheets.{Small, LegalExpr, LegalRule, Listed, LegalExprs, LegalInput}
+use Rattle.sheet.proofs.Numbers.{fit-list, fit-heads, exprs-length, exprs-even, rules-length}
+use Rattle.sheet.proofs.KeyRows.{either-false}
+
+-- ---- numbers
+
+abbrev pub numbers : List ℕ → List Field
+numbers ns = map number ns
+
+pub values-numbers : (ns : List ℕ) → values (numbers ns) ≡ ns
+values-numbers [] = refl
+values-numbers (n ∷ ns) = ap (λ (ms : List ℕ). n ∷ ms) (values-numbers ns)
+
+small-allowed : (ns : List ℕ) → Each Small ns → allowsAll plain (numbers ns) ≡ true
+unfolding allowsAll
+small-allowed [] h = refl
+small-allowed (n ∷ ns) h = rw (le-leb n 65535 (h .0)) (small-allowed ns (h .1))
+
+allowed·at : (f : Field) → allows plain f ≡ true → Small (valueOf f)
+allowed·at (number n) e = leb-true n 65535 e
+allowed·at empty e = omega arith
+allowed·at malformed e = omega arith
+
+allowed-small : (fs : List Field) → allowsAll plain fs ≡ true → Each Small (values fs)
+unfolding allowsAll
+allowed-small [] e = tt
+allowed-small (f ∷ fs) e = let p = both (allows plain f) (allowsAll plain fs) e in (allowed·at f (p .0), allowed-small fs (p .1))
+
+over-none : (m : ℕ) (ns : List ℕ) → Each (λ n. n ≤ m) ns → over m ns ≡ false
+unfolding over
+over-none m [] h = refl
+over-none m (n ∷ ns) h = rw (le-ltb m n (h .0)) (over-none m ns (h .1))
+
+none-over : (m : ℕ) (ns : List ℕ) → over m ns ≡ false → Each (λ n. n ≤ m) ns
+unfolding over
+none-over m [] e = tt
+none-over m (n ∷ ns) e = let p = either-false (ltb m n) (over m ns) e in (ltb-false m n (p .0), none-over m ns (p .1))
+
+pub each-weaker : {A : Type 0} (P Q : A → Type 0) → ((x : A) → P x → Q x) → (xs : List A) → Each P xs → Each Q xs
+each-weaker P Q f [] h = tt
+each-weaker P Q f (x ∷ xs) h = (f x (h .0), each-weaker P Q f xs (h .1))
+
+-- ---- expressions and rules as numbers
+
+pub exprs-back : (es : List Expression) → exprs (exprNumbers es) ≡ es
+unfolding exprs
+exprs-back [] = refl
+exprs-back (e ∷ es) = ap (λ (fs : List Expression). e ∷ fs) (exprs-back es)
+
+pub rules-back : (rs : List (Rule Expression)) → rulesOf (ruleExprs rs) ≡ rs
+unfolding rulesOf
+rules-back [] = refl
+rules-back (r ∷ rs) = ap (λ (qs : List (Rule Expression)). r ∷ qs) (rules-back rs)
+
+pub exprs-count : (es : List Expression) → length (exprNumbers es) ≡ length es * 3
+exprs-count [] = refl
+exprs-count (e ∷ es) = omega (arith, exprs-count es)
+
+pub rules-count : (rs : List (Rule Expression)) → length (ruleExprs rs) ≡ length rs * 2
+rules-count [] = refl
+rules-count (r ∷ rs) = omega (arith, rules-count rs)
+
+-- a defined kind is 0, 1 or 2
+kind·at : (a b c : Bool) (k n i : ℕ) → eqb k 0 ≡ a → eqb k 1 ≡ b → eqb k 2 ≡ c → (a || ((b && eqb i 0) || (c && (eqb n 0 && eqb i 0)))) ≡ true → k ≤ 2
+kind·at true b c k n i p q r e = omega (arith, eqb-true k 0 p)
+kind·at false true c k n i p q r e = omega (arith, eqb-true k 1 q)
+kind·at false false true k n i p q r e = omega (arith, eqb-true k 2 r)
+kind·at false false false k n i p q r e = let z : _≡_ {A = ℕ} 0 1 = cc in absurd (omega arith)
+
+pub kind-small : (e : Expression) → LegalExpr e → e .kind ≤ 2
+kind-small e l = kind·at (eqb (e .kind) 0) (eqb (e .kind) 1) (eqb (e .kind) 2) (e .kind) (e .name) (e .index) refl refl refl (l .defined)
+
+pub exprs-small : (es : List Expression) → Each LegalExpr es → Each Small (exprNumbers es)
+exprs-small [] h = tt
+exprs-small (e ∷ es) h = (omega (arith, kind-small e (h .0)), (h .0 .name, (h .0 .index, exprs-small es (h .1))))
+
+exprs-defined : (es : List Expression) → Each LegalExpr es → undefinedExprs (exprNumbers es) ≡ false
+unfolding undefinedExprs
+exprs-defined [] h = refl
+exprs-defined (e ∷ es) h = rw (h .0 .defined) (exprs-defined es (h .1))
+
+defined-exprs : (ns : List ℕ) → Each Small ns → undefinedExprs ns ≡ false → Each LegalExpr (exprs ns)
+unfolding exprs undefinedExprs
+defined-exprs [] h e = tt
+defined-exprs (k ∷ []) h e = tt
+defined-exprs (k ∷ n ∷ []) h e = tt
+defined-exprs (k ∷ n ∷ i ∷ ns) h e =
+    let p = either-false (not (definedExpr k n i)) (undefinedExprs ns) e in
+    (record { defined = not-false (definedExpr k n i) (p .0); name = h .1 .0; index = h .1 .1 .0 }, defined-exprs ns (h .1 .1 .1) (p .1))
+
+rules-exprs : (rs : List (Rule Expression)) → Each LegalRule rs → Each LegalExpr (ruleExprs rs)
+rules-exprs [] h = tt
+rules-exprs (r ∷ rs) h = (h .0 .from, (h .0 .to, rules-exprs rs (h .1)))
+
+exprs-rules : (es : List Expression) → Each LegalExpr es → Each LegalRule (rulesOf es)
+unfolding rulesOf
+exprs-rules [] h = tt
+exprs-rules (e ∷ []) h = tt
+exprs-rules (e ∷ f ∷ es) h = (record { from = h .0; to = h .1 .0 }, exprs-rules es (h .1 .1))
+
+-- ---- list lines
+
+list-fine :
+    (letter width : ℕ) (undefined : List Field → Bool) (ns : List ℕ) → Each Small ns → wholeEntries width (length ns) ≡ true → length ns ≤ mostEntries * width → undefined (numbers ns) ≡ false →
+    Fine (listLine letter width undefined) (numbers ns)
+unfolding fits
+list-fine letter width undefined ns h w l u =
+    let n : length (numbers ns) ≡ length ns = length-map ns number in
+    record {
+      fit = rw (small-allowed ns h, n, w);
+      formed = refl;
+      few = rw n (le-ltb (mostEntries * width) (length ns) l);
+      small = refl;
+      defined = u;
+      suited = refl;
+    }
+
+pub exprs-fine : (letter : ℕ) (es : List Expression) → LegalExprs es → Fine (exprLine letter) (numbers (exprNumbers es))
+exprs-fine letter es l =
+    let n = exprs-count es in
+    list-fine letter 3 _ (exprNumbers es) (exprs-small es (l .each)) (eq-eqb (length (exprNumbers es) % 3) 0 (omega arith)) (omega (arith, l .few)) (rw (values-numbers (exprNumbers es)) (exprs-defined es (l .each)))
