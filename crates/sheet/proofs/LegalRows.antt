@@ -140,3 +140,89 @@ pub exprs-fine : (letter : ℕ) (es : List Expression) → LegalExprs es → Fin
 exprs-fine letter es l =
     let n = exprs-count es in
     list-fine letter 3 _ (exprNumbers es) (exprs-small es (l .each)) (eq-eqb (length (exprNumbers es) % 3) 0 (omega arith)) (omega (arith, l .few)) (rw (values-numbers (exprNumbers es)) (exprs-defined es (l .each)))
+
+pub rules-fine : (letter : ℕ) (rs : List (Rule Expression)) → Listed LegalRule rs → Fine (ruleLine letter) (numbers (exprNumbers (ruleExprs rs)))
+rules-fine letter rs l =
+    let es : List Expression = ruleExprs rs in
+    let n = exprs-count es in
+    let m = rules-count rs in
+    let h = rules-exprs rs (l .each) in
+    list-fine letter 6 _ (exprNumbers es) (exprs-small es h) (eq-eqb (length (exprNumbers es) % 6) 0 (omega arith)) (omega (arith, l .few)) (rw (values-numbers (exprNumbers es)) (exprs-defined es h))
+
+one-wide : (n : ℕ) → wholeEntries 1 n ≡ true
+one-wide n = eq-eqb (n % 1) 0 (omega arith)
+
+pub directions-fine : (letter : ℕ) (ns : List ℕ) → Listed (λ d. d ≤ 3) ns → Fine (directionLine letter) (numbers ns)
+directions-fine letter ns l =
+    list-fine letter 1 _ ns (each-weaker (λ d. d ≤ 3) Small (λ d h. omega arith) ns (l .each)) (one-wide (length ns)) (omega (arith, l .few)) (rw (values-numbers ns) (over-none 3 ns (l .each)))
+
+pub names-fine : (letter : ℕ) (ns : List ℕ) → Listed Small ns → Fine (nameLine letter) (numbers ns)
+names-fine letter ns l = list-fine letter 1 never ns (l .each) (one-wide (length ns)) (omega (arith, l .few)) refl
+
+module _ (letter width : ℕ) (undefined : List Field → Bool) (fs : List Field) (fine : Fine (listLine letter width undefined) fs) where
+  list-small : Each Small (values fs)
+  list-small = allowed-small fs (fit-list (listLine letter width undefined) fs fine .0)
+
+  list-few : length (values fs) ≤ mostEntries * width
+  list-few = rw (length-map fs valueOf) (ltb-false (mostEntries * width) (length fs) (fine .few))
+
+  list-whole : wholeEntries width (length (values fs)) ≡ true
+  list-whole = rw (length-map fs valueOf) (fit-list (listLine letter width undefined) fs fine .1)
+
+pub fine-exprs : (letter : ℕ) (fs : List Field) → Fine (exprLine letter) fs → LegalExprs (exprs (values fs))
+fine-exprs letter fs fine =
+    let n = exprs-length (values fs) (eqb-true (length (values fs) % 3) 0 (list-whole letter 3 _ fs fine)) in
+    record { few = omega (arith, list-few letter 3 _ fs fine); each = defined-exprs (values fs) (list-small letter 3 _ fs fine) (fine .defined) }
+
+pub fine-rules : (letter : ℕ) (fs : List Field) → Fine (ruleLine letter) fs → Listed LegalRule (rulesOf (exprs (values fs)))
+fine-rules letter fs fine =
+    let w : length (values fs) % 6 ≡ 0 = eqb-true (length (values fs) % 6) 0 (list-whole letter 6 _ fs fine) in
+    let n = exprs-length (values fs) (omega arith) in
+    let m = rules-length (exprs (values fs)) (exprs-even (values fs) w) in
+    record { few = omega (arith, list-few letter 6 _ fs fine); each = exprs-rules (exprs (values fs)) (defined-exprs (values fs) (list-small letter 6 _ fs fine) (fine .defined)) }
+
+pub fine-directions : (letter : ℕ) (fs : List Field) → Fine (directionLine letter) fs → Listed (λ d. d ≤ 3) (values fs)
+fine-directions letter fs fine = record { few = omega (arith, list-few letter 1 _ fs fine); each = none-over 3 (values fs) (fine .defined) }
+
+pub fine-names : (letter : ℕ) (fs : List Field) → Fine (nameLine letter) fs → Listed Small (values fs)
+fine-names letter fs fine = record { few = omega (arith, list-few letter 1 _ fs fine); each = list-small letter 1 _ fs fine }
+
+-- ---- a mark, then keys
+
+pub input-fine : (letter : ℕ) (o : Option (List Expression)) → LegalInput o → Fine (inputLine letter) (numbers (inputNumbers o))
+unfolding fits allowsAll undefinedExprs
+input-fine letter none l = record { fit = refl; formed = refl; few = refl; small = refl; defined = refl; suited = refl }
+input-fine letter (some es) l =
+    let f = exprs-fine letter es l in
+    record { fit = f .fit; formed = refl; few = f .few; small = refl; defined = f .defined; suited = refl }
+
+input·at : (t : Bool) (letter : ℕ) (ns : List Field) → Fine (exprLine letter) ns → LegalInput (cond t (some (exprs (values ns))) none)
+input·at true letter ns f = fine-exprs letter ns f
+input·at false letter ns f = tt
+
+pub fine-input : (letter : ℕ) (fs : List Field) → Fine (inputLine letter) fs → LegalInput (inputOf (values fs))
+unfolding fits
+fine-input letter [] fine = tt
+fine-input letter (f ∷ gs) fine =
+    let l = fit-list (inputLine letter) (f ∷ gs) fine in
+    input·at (mark (valueOf f)) letter gs
+    (record {
+      fit = rw (l .0) (l .1);
+      formed = refl;
+      few = fine .few;
+      small = refl;
+      defined = either-false (ltb 1 (valueOf f)) (undefinedExprs (values gs)) (fine .defined) .1;
+      suited = refl;
+    })
+
+pub used-keys : (o : Option (List Expression)) → unusedKeys (inputNumbers o) ≡ false
+used-keys none = refl
+used-keys (some es) = refl
+
+pub input-back : (o : Option (List Expression)) → inputOf (inputNumbers o) ≡ o
+input-back none = refl
+input-back (some es) = ap {B = Option (List Expression)} some (exprs-back es)
+
+pub mark-back : (b : Bool) → mark (markNumber b) ≡ b
+mark-back true = refl
+mark-back false = refl
