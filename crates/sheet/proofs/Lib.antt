@@ -6,3 +6,4 @@ pub mod KeyRows
 pub mod Accepted
 pub mod KeyAccepted
 pub mod LegalRows
+pub mod LegalSheets
