@@ -48,7 +48,7 @@ children-rows : (n : ℕ) (cs : List (List Field)) → FineRows (replicate n (ex
 children-rows zero cs empty = refl
 children-rows (suc n) (fs ∷ cs) (more f r) = λ j. exprs-row 67 fs f j ++ children-rows n cs r j
 
-children-count : (n : ℕ) (cs : List (List Field)) → FineRows (replicate n (exprLine 67) ++ []) cs → length cs ≡ n
+pub children-count : (n : ℕ) (cs : List (List Field)) → FineRows (replicate n (exprLine 67) ++ []) cs → length cs ≡ n
 children-count zero cs empty = refl
 children-count (suc n) (fs ∷ cs) (more f r) = ap suc (children-count n cs r)
 

@@ -6,7 +6,7 @@ use mathlib.Core.List.{List, [], _∷_, _++_, map}
 use mathlib.Core.Bool.{Bool, true, false, cond, not, _&&_, _||_}
 use mathlib.Core.Option.{Option, none, some}
 use lib.Dec.{eqb, ltb, leb}
-use lib.ListN.{length, take, drop, length-map}
+use lib.ListN.{length, take, drop, getD, length-map, replicate}
 use borrow.Author.Tests.{eqb-true, eq-eqb, leb-true, le-leb, ltb-false, le-ltb, not-true, not-false}
 use Rattle.text.specs.Text.{Field, number, empty, malformed, valueOf}
 use Rattle.text.specs.Bounds.{allows, allowsAll, fits}
@@ -46,6 +46,19 @@ allowed-small : (fs : List Field) → allowsAll plain fs ≡ true → Each Small
 unfolding allowsAll
 allowed-small [] e = tt
 allowed-small (f ∷ fs) e = let p = both (allows plain f) (allowsAll plain fs) e in (allowed·at f (p .0), allowed-small fs (p .1))
+
+pub allowed-at : (fs : List Field) (i : ℕ) → allowsAll plain fs ≡ true → Small (valueOf (getD fs i (number 0)))
+unfolding allowsAll
+allowed-at [] i e = omega arith
+allowed-at (f ∷ fs) zero e = allowed·at f (both (allows plain f) (allowsAll plain fs) e .0)
+allowed-at (f ∷ fs) (suc i) e = allowed-at fs i (both (allows plain f) (allowsAll plain fs) e .1)
+
+pub fits-plain : (n : ℕ) (fs : List Field) → fits (replicate n plain) fs ≡ true → allowsAll plain fs ≡ true
+unfolding fits allowsAll
+fits-plain zero [] e = refl
+fits-plain zero (f ∷ fs) e = let z : _≡_ {A = ℕ} 0 1 = cc in absurd (omega arith)
+fits-plain (suc n) [] e = refl
+fits-plain (suc n) (f ∷ fs) e = let p = both (allows plain f) (fits (replicate n plain) fs) e in rw (p .0) (fits-plain n fs (p .1))
 
 over-none : (m : ℕ) (ns : List ℕ) → Each (λ n. n ≤ m) ns → over m ns ≡ false
 unfolding over
