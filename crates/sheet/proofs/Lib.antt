@@ -4,3 +4,11 @@ pub mod LineNumbers
 pub mod ReadLines
 pub mod Packing
 pub mod Examples
+pub mod Chained
+pub mod RowsAgain
+pub mod Numbers
+pub mod KeyRows
+pub mod Accepted
+pub mod KeyAccepted
+pub mod LegalRows
+pub mod LegalSheets

@@ -4,3 +4,5 @@ pub mod KeySheets
 pub mod KeyAnswers
 pub mod KeyTexts
 pub mod Reading
+pub mod InTurn
+pub mod LegalSheets
