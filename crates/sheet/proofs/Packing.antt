@@ -42,3 +42,9 @@ packs-exprs [] h = refl
 packs-exprs (k ∷ []) h = refl
 packs-exprs (k ∷ n ∷ []) h = refl
 packs-exprs (k ∷ n ∷ i ∷ rest) h = λ j. unpacked k n i (h .1 .0) (h .1 .1 .0) j ∷ packs-exprs rest (h .1 .1 .1) j
+
+-- the first entry of an array and of a list
+pub first-put : (out vs : List ℕ) (x : ℕ) → 0 < length out → 0 < length vs → x ≡ getD vs 0 0 → take 1 (set out 0 x) ≡ take 1 vs
+first-put [] vs x h k e = absurd (omega arith)
+first-put (a ∷ out) [] x h k e = absurd (omega arith)
+first-put (a ∷ out) (v ∷ vs) x h k e = ap (λ (n : ℕ). n ∷ []) e

@@ -135,3 +135,13 @@ packedBy Names ns = ns
 abbrev pub Small : List ℕ → Type 0
 Small [] = Unit {0}
 Small (n ∷ ns) = (n < 65536) × Small ns
+
+-- as many fields as a kind has, and no more entries than a list may have
+abbrev pub Fits : Codes → ℕ → Type 0
+Fits Key n = n ≡ 7
+Fits Join n = n ≡ 2
+Fits Exprs n = n ≤ 96
+Fits Rules n = n ≤ 192
+Fits Input n = (1 ≤ n) × (n ≤ 97)
+Fits Directions n = n ≤ 32
+Fits Names n = n ≤ 32
