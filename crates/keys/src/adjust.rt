@@ -112,7 +112,7 @@ pub fn reorder_partitioned_join_keys(
     let at = t.at;
     let n = s.len();
     let items = at.items;
-    let directions = crate::list::moved_numbers(s, &items[0..n]);
+    let moved = crate::list::moved_numbers(s, &items[0..n]);
     let left = t.left;
     let right = t.right;
     let places = crate::list::no_numbers();
@@ -124,7 +124,7 @@ pub fn reorder_partitioned_join_keys(
         at: at,
         left: left,
         right: right,
-        directions: directions,
+        directions: moved,
         places: places,
     }
 }
