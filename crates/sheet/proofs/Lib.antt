@@ -7,3 +7,4 @@ pub mod Accepted
 pub mod KeyAccepted
 pub mod LegalRows
 pub mod LegalSheets
+pub mod Marked
