@@ -8,3 +8,4 @@ pub mod KeyAccepted
 pub mod LegalRows
 pub mod LegalSheets
 pub mod Marked
+pub mod TriedSizes

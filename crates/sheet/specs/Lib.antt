@@ -4,4 +4,5 @@ pub mod KeySheets
 pub mod KeyAnswers
 pub mod KeyTexts
 pub mod InTurn
+pub mod Sizes
 pub mod LegalSheets
