@@ -9,3 +9,4 @@ pub mod LegalRows
 pub mod LegalSheets
 pub mod Marked
 pub mod TriedSizes
+pub mod AnswerSizes
