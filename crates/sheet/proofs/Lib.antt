@@ -10,3 +10,5 @@ pub mod LegalSheets
 pub mod Marked
 pub mod TriedSizes
 pub mod AnswerSizes
+pub mod JoinSizes
+pub mod AnswersFit
