@@ -12,3 +12,8 @@ pub mod Accepted
 pub mod KeyAccepted
 pub mod LegalRows
 pub mod LegalSheets
+pub mod Marked
+pub mod TriedSizes
+pub mod AnswerSizes
+pub mod JoinSizes
+pub mod AnswersFit

@@ -15,6 +15,7 @@ use Rattle.sheet.specs.KeyLines.{definedExpr, definedMode, definedJoin, 
 use Rattle.sheet.specs.KeySheets.{directionsFit, keyListsFit}
 use Rattle.sheet.specs.KeyTexts.{keySheetText, joinSheetText}
 use Rattle.sheet.specs.InTurn.{Each}
+use Rattle.sheet.specs.Sizes.{Few}
 
 -- "Fields are 0..65535"
 abbrev pub Small : ℕ → Type 0
@@ -30,9 +31,8 @@ pub record LegalRule (r : Rule Expression) : Type 0 where
   pub to : LegalExpr (r .to)
 
 -- "32 entries a list"
-pub record Listed {A : Type 0} (P : A → Type 0) (xs : List A) : Type 0 where
-  pub few : length xs ≤ mostEntries
-  pub each : Each P xs
+abbrev pub Listed : {A : Type 0} → (A → Type 0) → List A → Type 0
+Listed P xs = Few mostEntries P xs
 
 abbrev pub LegalExprs : List Expression → Type 0
 LegalExprs es = Listed LegalExpr es

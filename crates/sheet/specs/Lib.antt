@@ -5,4 +5,5 @@ pub mod KeyAnswers
 pub mod KeyTexts
 pub mod Reading
 pub mod InTurn
+pub mod Sizes
 pub mod LegalSheets
