@@ -7,3 +7,4 @@ pub mod Reading
 pub mod InTurn
 pub mod Sizes
 pub mod LegalSheets
+pub mod ListLines

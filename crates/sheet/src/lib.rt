@@ -2,3 +2,4 @@
 pub mod kind;
 pub mod line;
 pub mod pack;
+pub mod lists;

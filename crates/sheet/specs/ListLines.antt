@@ -1,0 +1,50 @@
+-- The list lines of K and I sheets by their number, and what reading them leaves.
+use Prim.Native.Nat.{ℕ, zero, suc}
+use mathlib.Core.Path.{_≡_}
+use mathlib.Core.List.{List, [], _∷_}
+use mathlib.Core.Bool.{cond}
+use lib.Dec.{eqb}
+use lib.ListN.{getD, take}
+use Rattle.text.specs.Text.{Field}
+use Rattle.sheet.specs.Lines.{Kind, Run, read, refused}
+use Rattle.sheet.specs.KeyLines.{values}
+use Rattle.sheet.specs.Reading.{kindOf, packedBy}
+use Rattle.sheet.specs.declared.kind.Codes.{Codes}
+use Rattle.sheet.specs.declared.kind.Codes.the-variants.{Exprs, Rules, Input, Directions, Names}
+use Rattle.sheet.specs.declared.lists.SheetKind.{SheetKind}
+use Rattle.sheet.specs.declared.lists.SheetKind.the-variants.{Key, Join}
+use Rattle.sheet.specs.declared.lists.Lists.{Lists}
+use Rattle.sheet.specs.declared.lists.Lists.the-variants.{Read, Refused}
+
+-- after a K line R, L, G, S, W, O, A, M, then C; after an I line L, G, S, H, N, W, V
+abbrev pub listLetter : SheetKind → ℕ → ℕ
+listLetter Key i =
+    cond (eqb i 0) 82 (cond (eqb i 1) 76 (cond (eqb i 2) 71 (cond (eqb i 3) 83 (cond (eqb i 4) 87 (cond (eqb i 5) 79 (cond (eqb i 6) 65 (cond (eqb i 7) 77 67)))))))
+listLetter Join i = cond (eqb i 0) 76 (cond (eqb i 1) 71 (cond (eqb i 2) 83 (cond (eqb i 3) 72 (cond (eqb i 4) 78 (cond (eqb i 5) 87 86)))))
+
+abbrev pub listCodes : SheetKind → ℕ → Codes
+listCodes Key i = cond (eqb i 3) Directions (cond (eqb i 4) Rules (cond (eqb i 5) Names (cond (eqb i 6) Names Exprs)))
+listCodes Join i = cond (eqb i 2) Directions (cond (eqb i 3) Input (cond (eqb i 4) Input (cond (eqb i 5) Rules (cond (eqb i 6) Rules Exprs))))
+
+abbrev pub listKind : SheetKind → ℕ → Kind
+listKind k i = kindOf (listCodes k i) (listLetter k i)
+
+-- n of them from the i-th on
+abbrev pub listKinds : SheetKind → ℕ → ℕ → List Kind
+listKinds k i zero = []
+listKinds k i (suc n) = listKind k i ∷ listKinds k (suc i) n
+
+abbrev pub listsBy : Run → Lists
+listsBy (read rs ls l p) = Read p l
+listsBy (refused n l) = Refused n l
+
+-- the lists of the rows from the i-th on stand, packed, in the rooms lent
+abbrev pub Held : SheetKind → ℕ → List (List Field) → List (List ℕ) → List ℕ → Type 0
+Held k i [] lists counts = Unit {0}
+Held k i (r ∷ rs) lists counts =
+    (take (getD counts i 0) (getD lists i []) ≡ packedBy (listCodes k i) (values r)) × Held k (suc i) rs lists counts
+
+-- where all was read
+abbrev pub HeldBy : SheetKind → Run → List (List ℕ) → List ℕ → Type 0
+HeldBy k (read rs ls l p) lists counts = Held k 0 rs lists counts
+HeldBy k (refused n l) lists counts = Unit {0}
