@@ -3,6 +3,7 @@ pub mod Judges
 pub mod LineNumbers
 pub mod ReadLines
 pub mod Packing
+pub mod ReadLists
 pub mod Examples
 pub mod Chained
 pub mod RowsAgain

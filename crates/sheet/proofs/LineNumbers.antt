@@ -147,6 +147,9 @@ module _ (c : Codes) (count worst largest next : ℕ) (e : countsNumber c count 
   pub counts-entries : wholeEntries (entryWidth c) (count - headCount c) ≡ true
   counts-entries = and-second (leb worst 0 && leb largest 65535) _ (and-second (leb (headCount c) count) _ (tests .0))
 
+  pub counts-fields : leb worst 0 && leb largest 65535 ≡ true
+  counts-fields = and-first (leb worst 0 && leb largest 65535) _ (and-second (leb (headCount c) count) _ (tests .0))
+
 pub counts-whole : (c : Codes) (count worst largest next : ℕ) → countsNumber c count worst largest next ≡ 0 → Whole c count
 counts-whole Key count worst largest next e =
     let h : 7 ≤ count = counts-enough Key count worst largest next e in
@@ -173,3 +176,16 @@ most-fields Names = omega arith
 
 pub counts-room : (c : Codes) (count worst largest next : ℕ) → countsNumber c count worst largest next ≡ 0 → count ≤ 192
 counts-room c count worst largest next e = omega (arith, counts-few c count worst largest next e, most-fields c)
+
+-- a line that is not turned back: its counts are right, and its numbers are those of fields
+pub not-turned-counts :
+    (c : Codes) (letter seen next : ℕ) (fs : List Field) → lineNumber (kindOf c letter) seen next (some fs) ≡ 0 →
+    countsNumber c (length fs) (greatest 0 (map stateOf fs)) (greatest 0 (map valueOf fs)) next ≡ 0
+not-turned-counts c letter seen next fs e = go (countsNumber c (length fs) (greatest 0 (map stateOf fs)) (greatest 0 (map valueOf fs)) next) (sym (line-number c letter seen next fs) ∙ e)
+  where
+    go : (m : ℕ) → cond (eqb m 0) (codesNumber c (values fs)) m ≡ 0 → m ≡ 0
+    go m h = pick (eqb m 0) refl h
+      where
+        pick : (t : Bool) → eqb m 0 ≡ t → cond t (codesNumber c (values fs)) m ≡ 0 → m ≡ 0
+        pick true p h = eqb-true m 0 p
+        pick false p h = h

@@ -4,15 +4,20 @@ use mathlib.Core.Path.{_≡_}
 use mathlib.Core.List.{List, [], _∷_}
 use mathlib.Core.Bool.{cond}
 use lib.Dec.{eqb}
-use lib.ListN.{getD, take}
-use Rattle.text.specs.Text.{Field}
-use Rattle.sheet.specs.Lines.{Kind, Run, read, refused}
+use mathlib.Core.Option.{Option}
+use lib.ListN.{length, getD, take}
+use Rattle.text.specs.Text.{Field, lineAt, after}
+use Rattle.sheet.specs.Lines.{Kind, Run, read, refused, lineNumber, fieldsOf}
 use Rattle.sheet.specs.KeyLines.{values}
 use Rattle.sheet.specs.Reading.{kindOf, packedBy}
 use Rattle.sheet.specs.declared.kind.Codes.{Codes}
 use Rattle.sheet.specs.declared.kind.Codes.the-variants.{Exprs, Rules, Input, Directions, Names}
+use Rattle.sheet.specs.declared.line.Read as R
+use Rattle.sheet.specs.declared.line.Read.the-variants as RV
 use Rattle.sheet.specs.declared.lists.SheetKind.{SheetKind}
 use Rattle.sheet.specs.declared.lists.SheetKind.the-variants.{Key, Join}
+use Rattle.sheet.specs.declared.lists.Listed.{Listed}
+use Rattle.sheet.specs.declared.lists.Listed.the-variants.{Packed, Turned}
 use Rattle.sheet.specs.declared.lists.Lists.{Lists}
 use Rattle.sheet.specs.declared.lists.Lists.the-variants.{Read, Refused}
 
@@ -48,3 +53,24 @@ Held k i (r ∷ rs) lists counts =
 abbrev pub HeldBy : SheetKind → Run → List (List ℕ) → List ℕ → Type 0
 HeldBy k (read rs ls l p) lists counts = Held k 0 rs lists counts
 HeldBy k (refused n l) lists counts = Unit {0}
+
+-- a line's list, as long as it is packed, with the place after it; or the lowest number that turns it back
+abbrev pub listedBy : ℕ → ℕ → Codes → Option (List Field) → Listed
+listedBy n next c x = cond (eqb n 0) (Packed (length (packedBy c (values (fieldsOf x)))) next) (Turned n)
+
+abbrev pub packedList : Codes → Option (List Field) → List ℕ
+packedList c x = packedBy c (values (fieldsOf x))
+
+-- the number of a refusal, or 0
+abbrev pub numberOf : R.Read → ℕ
+numberOf (RV.Line count next) = 0
+numberOf (RV.Refused n) = n
+
+-- what reading the i-th list line at a place answers, and leaves in the room lent
+pub record ListRead (s : List ℕ) (at : ℕ) (k : SheetKind) (i : ℕ) (r : Listed) (list : List ℕ) : Type 0 where
+  pub answer :
+      r ≡ listedBy (lineNumber (listKind k i) 0 (after s at) (lineAt (listLetter k i) s at)) (after s at) (listCodes k i) (lineAt (listLetter k i) s at)
+  pub full : length list ≡ 64
+  pub held :
+      lineNumber (listKind k i) 0 (after s at) (lineAt (listLetter k i) s at) ≡ 0 →
+      take (length (packedList (listCodes k i) (lineAt (listLetter k i) s at))) list ≡ packedList (listCodes k i) (lineAt (listLetter k i) s at)

@@ -1,10 +1,8 @@
 // Reads the list lines that follow a K line or an I line.
 ghost use mathlib.Core.Path.{_≡_};
-ghost use Prim.Native.Nat.{_+_, _≤_};
-ghost use lib.ListN.{length, drop};
-ghost use Rattle.text.specs.Text.{parts};
-ghost use Rattle.sheet.specs.InTurn.{inTurn};
-ghost use Rattle.sheet.specs.ListLines.{listLetter, listCodes, listKinds, listsBy, HeldBy};
+ghost use Prim.Native.Nat.{_≤_};
+ghost use lib.ListN.{length};
+ghost use Rattle.sheet.specs.ListLines.{listLetter, listCodes, numberOf, ListRead};
 use crate::kind::Codes;
 use crate::line::Read;
 use crate::line::read_line;
@@ -13,6 +11,12 @@ use crate::pack::pack_line;
 pub enum SheetKind {
     Key,
     Join,
+}
+
+// A line's list, packed, and the place after the line; or the lowest number that turns the line back.
+pub enum Listed {
+    Packed { count: usize, next: usize },
+    Turned(u64),
 }
 
 pub enum Lists {
@@ -90,5 +94,39 @@ fn join_codes(i: usize) -> Codes
         5 => Codes::Rules,
         6 => Codes::Rules,
         _ => Codes::Exprs,
+    }
+}
+
+fn number_of(r: Read) -> u64
+    ensures { λ x. ⌜ x ≡ numberOf r ⌝ }
+{
+    match r {
+        Read::Line { count: _, next: _ } => 0,
+        Read::Refused(n) => n,
+    }
+}
+
+// The i-th list line of a sheet: its list goes into the room lent.
+fn read_list(
+    s: &[u8],
+    at: usize,
+    k: SheetKind,
+    i: usize,
+    rows: &mut [[u64; 2]],
+    list: &mut [u64; 64],
+) -> Listed
+    requires { ⌜ (192 ≤ length (now rows)) × (length (now list) ≡ 64) ⌝ }
+    ensures { λ r. ⌜ ListRead (now (s .entry)) at k i r (now (list .exit)) ⌝ }
+{
+    let c = list_codes(k, i);
+    let letter = list_letter(k, i);
+    let r = read_line(s, at, letter, c, rows);
+    let Read::Line { count, next } = r else {
+        return Listed::Turned(number_of(r));
+    };
+    let packed = pack_line(c, &rows[0..count], list);
+    Listed::Packed {
+        count: packed,
+        next: next,
     }
 }
