@@ -74,3 +74,7 @@ pub record ListRead (s : List ℕ) (at : ℕ) (k : SheetKind) (i : ℕ) (r : Lis
   pub held :
       lineNumber (listKind k i) 0 (after s at) (lineAt (listLetter k i) s at) ≡ 0 →
       take (length (packedList (listCodes k i) (lineAt (listLetter k i) s at))) list ≡ packedList (listCodes k i) (lineAt (listLetter k i) s at)
+
+abbrev pub turnedNumber : Listed → ℕ
+turnedNumber (Packed count next) = 0
+turnedNumber (Turned n) = n
