@@ -188,7 +188,7 @@ module _ (m e c : ℕ) (places : e + e ≤ m) (codes : 3 ≤ m) where
           projection = record {
             few = omega (arith, length-append own others, placed-length (s .groups) qs, named-length (length (s .groups)) (s .aggregates), h .groups .few, h .aggregates .few);
             each = each-append (PlacedWithin m) own others (placed-each m n (omega arith) (s .groups) qs (h .groups .each) b)
-            (named-each m (length (s .groups)) (s .aggregates) (omega (arith, h .groups .few, h .aggregates .few)) (h .aggregates .each));
+                (named-each m (length (s .groups)) (s .aggregates) (omega (arith, h .groups .few, h .aggregates .few)) (h .aggregates .each));
           };
           children = handed-sized m e c (given []) kept (gives [] (nothing-few e _)) keeps (s .children) (h .children);
         }
