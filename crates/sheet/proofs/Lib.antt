@@ -12,3 +12,4 @@ pub mod TriedSizes
 pub mod AnswerSizes
 pub mod JoinSizes
 pub mod AnswersFit
+pub mod Refused

@@ -6,3 +6,4 @@ pub mod KeyTexts
 pub mod InTurn
 pub mod Sizes
 pub mod LegalSheets
+pub mod Refusals

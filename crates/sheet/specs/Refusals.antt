@@ -1,0 +1,71 @@
+-- What is wrong with a K or I sheet: for each line the number that turns it back, for the sheet whether its lists fit; and which of these is the refusal.
+-- Renders document 01, "Lowest line first, then lowest number; then Sheet, Work, Write in table order", and "a missing line counts as the line after the last".
+use mathlib.Core.Path.{_≡_}
+use mathlib.Core.Logic.{_⊎_}
+use Prim.Native.Nat.{ℕ, suc, _+_, _<_}
+use mathlib.Core.List.{List, [], _∷_, tail}
+use mathlib.Core.Bool.{Bool, false, cond}
+use lib.ListN.{getD, drop}
+use Rattle.text.specs.Text.{Field, parts}
+use Rattle.text.specs.Lines.{firstOf, nextOf}
+use Rattle.keys.specs.Adjust.{KeySheet}
+use Rattle.keys.specs.Inputs.{JoinSheet}
+use Rattle.sheet.specs.Lines.{Kind, lineNumber, fieldsOf, atEnd}
+use Rattle.sheet.specs.KeyLines.{at, keyLine, inputHead, keyStages, inputStages}
+use Rattle.sheet.specs.KeySheets.{headOf, keySheetOf, joinSheetOf, keyListsFit, joinListsFit}
+use Rattle.sheet.specs.InTurn.{kindsOf}
+
+-- the lowest number that turns each line back, 0 where none does; at the end that of an extra line
+unfoldable pub lineNumbers : List Kind → ℕ → List (List ℕ) → List ℕ
+lineNumbers [] at ls = cond (atEnd ls) 0 1 ∷ []
+lineNumbers (k ∷ ks) at ls = lineNumber k 0 (nextOf at ls) (firstOf (k .letter) ls) ∷ lineNumbers ks (nextOf at ls) (tail ls)
+
+-- the fields of each line
+unfoldable pub lineRows : List Kind → List (List ℕ) → List (List Field)
+lineRows [] ls = []
+lineRows (k ∷ ks) ls = fieldsOf (firstOf (k .letter) ls) ∷ lineRows ks (tail ls)
+
+-- no line is turned back
+abbrev pub NoLine : List ℕ → Type 0
+NoLine ns = (i : ℕ) → getD ns i 0 ≡ 0
+
+-- line l, where the first is `from`, is the first that is turned back, by the number n
+pub record FirstLine (from : ℕ) (ns : List ℕ) (n l : ℕ) : Type 0 where
+  pub past : ℕ
+  pub line : l ≡ from + past
+  pub number : getD ns past 0 ≡ n
+  pub wrong : n ≡ 0 → ⊥
+  pub first : (i : ℕ) → i < past → getD ns i 0 ≡ 0
+
+-- no line is turned back, and the lists do not fit: number 5, line 0
+pub record WholeSheet (ns : List ℕ) (fit : Bool) (n l : ℕ) : Type 0 where
+  pub lines : NoLine ns
+  pub unfit : fit ≡ false
+  pub number : n ≡ 5
+  pub line : l ≡ 0
+
+abbrev pub TurnedBack : List ℕ → Bool → ℕ → ℕ → Type 0
+TurnedBack ns fit n l = FirstLine 1 ns n l ⊎ WholeSheet ns fit n l
+
+module _ (s : List ℕ) where
+  -- the K line, and the lines that it asks for
+  abbrev pub keyKinds : List Kind
+  keyKinds = keyLine ∷ kindsOf (keyStages (at (fieldsOf (firstOf 75 (parts 10 s))) 6))
+
+  abbrev pub keyNumbers : List ℕ
+  keyNumbers = lineNumbers keyKinds 0 (parts 10 s)
+
+  abbrev pub keySheetIn : KeySheet
+  keySheetIn = let rs : List (List Field) = lineRows keyKinds (parts 10 s) in keySheetOf (headOf rs) (drop 1 rs)
+
+  abbrev pub joinKinds : List Kind
+  joinKinds = inputHead ∷ kindsOf inputStages
+
+  abbrev pub joinNumbers : List ℕ
+  joinNumbers = lineNumbers joinKinds 0 (parts 10 s)
+
+  abbrev pub joinSheetIn : JoinSheet
+  joinSheetIn = let rs : List (List Field) = lineRows joinKinds (parts 10 s) in joinSheetOf (headOf rs) (drop 1 rs)
+
+  abbrev pub joinFits : Bool
+  joinFits = joinListsFit joinSheetIn (drop 1 (lineRows joinKinds (parts 10 s)))
