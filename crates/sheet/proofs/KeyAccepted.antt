@@ -13,10 +13,11 @@ use Rattle.keys.specs.Adjust.{KeySheet}
 use Rattle.keys.specs.Inputs.{JoinSheet}
 use Rattle.sheet.specs.Lines.{Kind, Stage, Run, read, refused, rowsOf}
 use Rattle.sheet.specs.KeyLines.{at, listLine, inputLine, keyLine, inputHead, keyStages, inputStages}
-use Rattle.sheet.specs.KeySheets.{Reading, sheet, turned, row, directionsFit, unusedKeys, keyListsFit, joinListsFit, keySheetOf, joinSheetOf, keyWhole, joinWhole, afterKey, afterInput, readKeySheet, readJoinSheet}
+use Rattle.sheet.specs.KeySheets.{Reading, sheet, turned, ended, row, directionsFit, unusedKeys, keyListsFit, joinListsFit, keySheetOf, joinSheetOf, keyWhole, joinWhole, afterKey, afterInput, readKeySheet, readJoinSheet}
 use Rattle.sheet.specs.KeyTexts.{keySheetText, joinSheetText}
-use Rattle.sheet.specs.InTurn.{Each, readable, Counted}
-use Rattle.sheet.proofs.Chained.{afterHead}
+use Rattle.sheet.specs.InTurn.{Each, readable, Counted, inTurn}
+use Rattle.sheet.specs.Refusals.{keyKinds, joinKinds}
+use Rattle.sheet.proofs.Chained.{afterHead, wholeRows, head-in-turn}
 use Rattle.sheet.proofs.Accepted.{Accepted, accepted, accepts}
 use Rattle.sheet.proofs.KeyRows.{key-text, join-text}
 
@@ -83,6 +84,16 @@ after-key (refused n l) = refl
 after-input : (r : Run) → afterInput r ≡ afterHead stagesOfInput joinWhole r
 after-input (read rs ls l p) = refl
 after-input (refused n l) = refl
+
+-- line by line
+module _ (s : List ℕ) where
+  pub key-in-turn : readKeySheet s ≡ ended (wholeRows stagesOfKey keyWhole) (inTurn (keyKinds s) 1 0 (parts 10 s))
+  unfolding readKeySheet
+  key-in-turn = after-key (rowsOf keyLine 1 0 1 0 (parts 10 s)) ∙ head-in-turn stagesOfKey keyWhole keyLine key-counted key-stages-counted (parts 10 s)
+
+  pub join-in-turn : readJoinSheet s ≡ ended (wholeRows stagesOfInput joinWhole) (inTurn (joinKinds s) 1 0 (parts 10 s))
+  unfolding readJoinSheet
+  join-in-turn = after-input (rowsOf inputHead 1 0 1 0 (parts 10 s)) ∙ head-in-turn stagesOfInput joinWhole inputHead head-counted input-stages-counted (parts 10 s)
 
 abbrev pub KeyAccepted : List ℕ → KeySheet → Type 0
 KeyAccepted s x = Accepted keyLine stagesOfKey keyWhole s x

@@ -17,6 +17,8 @@ use Rattle.sheet.specs.Lines.{Kind, Run, read, refused, before, lineNumb
 use Rattle.sheet.specs.KeyLines.{keyLine, inputHead}
 use Rattle.sheet.specs.KeySheets.{Reading, sheet, turned, ended, keyListsFit, keyWhole, joinWhole, readKeySheet, readJoinSheet}
 use Rattle.sheet.specs.InTurn.{inTurn}
+use Rattle.sheet.proofs.Chained.{wholeRows}
+use Rattle.sheet.proofs.KeyAccepted.{stagesOfKey, stagesOfInput, key-in-turn, join-in-turn}
 use Rattle.sheet.specs.Refusals.{lineNumbers, lineRows, NoLine, FirstLine, WholeSheet, TurnedBack, keyKinds, keyNumbers, keySheetIn, joinKinds, joinNumbers, joinSheetIn, joinFits}
 
 -- ---- the first number that is not 0
@@ -35,7 +37,7 @@ one-more line m ns n l e f = record { past = suc (f .past); line = omega (arith,
 -- ---- a reading, by the numbers of its lines
 
 module _ {A : Type 0} where
-  unfoldable judged : ℕ → List ℕ → Reading A → Reading A
+  unfoldable pub judged : ℕ → List ℕ → Reading A → Reading A
   judged line [] r = r
   judged line (n ∷ ns) r = cond (eqb n 0) (judged (suc line) ns r) (turned n line)
 
@@ -51,7 +53,7 @@ module _ {A : Type 0} where
   line·at true whole fs r n line s e = ended-before whole fs r ∙ e
   line·at false whole fs r n line s e = refl
 
-  turn-judged : (whole : List (List Field) → Reading A) (ks : List Kind) (line at : ℕ) (ls : List (List ℕ)) → ended whole (inTurn ks line at ls) ≡ judged line (lineNumbers ks at ls) (whole (lineRows ks ls))
+  pub turn-judged : (whole : List (List Field) → Reading A) (ks : List Kind) (line at : ℕ) (ls : List (List ℕ)) → ended whole (inTurn ks line at ls) ≡ judged line (lineNumbers ks at ls) (whole (lineRows ks ls))
   unfolding inTurn judged lineNumbers lineRows
   turn-judged whole [] line at ls = end·at (atEnd ls) (whole []) line
   turn-judged whole (k ∷ ks) line at ls =
@@ -109,3 +111,54 @@ module _ {A : Type 0} where
   unfolding judged
   judged-sheet line [] r x e = (λ i. refl, e)
   judged-sheet line (m ∷ ns) r x e = sheet·at (eqb m 0) line m ns r x refl e (judged-sheet (suc line) ns r x)
+
+  -- ---- a reading whose rows make a sheet where the lists fit
+
+  module _ (r : Reading A) (ns : List ℕ) (fit : Bool) (y : A) (is : r ≡ judged 1 ns (cond fit (sheet y) (turned 5 0))) where
+    unfit·at : (t : Bool) (n l : ℕ) → cond t (sheet y) (turned 5 0) ≡ turned n l → (t ≡ false) × (n ≡ 5) × (l ≡ 0)
+    unfit·at true n l e = let z : _≡_ {A = ℕ} 0 1 = cc in absurd (omega arith)
+    unfit·at false n l e = (refl, (cc), (cc))
+
+    fit·at : (t : Bool) (x : A) → cond t (sheet y) (turned 5 0) ≡ sheet x → (t ≡ true) × (y ≡ x)
+    fit·at true x e = (refl, (cc))
+    fit·at false x e = let z : _≡_ {A = ℕ} 0 1 = cc in absurd (omega arith)
+
+    refused·by : (n l : ℕ) → FirstLine 1 ns n l ⊎ (NoLine ns × (cond fit (sheet y) (turned 5 0) ≡ turned n l)) → TurnedBack ns fit n l
+    refused·by n l (inl f) = inl f
+    refused·by n l (inr p) = let q = unfit·at fit n l (p .1) in inr (record { lines = p .0; unfit = q .0; number = q .1; line = q .2 })
+
+    turned·by : (n l : ℕ) → TurnedBack ns fit n l → r ≡ turned n l
+    turned·by n l (inl f) = is ∙ first-judged 1 ns (cond fit (sheet y) (turned 5 0)) n l f
+    turned·by n l (inr w) = is ∙ none-judged 1 ns (cond fit (sheet y) (turned 5 0)) (w .lines) ∙ rw (w .unfit, w .number, w .line)
+
+    pub refused-exactly : (n l : ℕ) → (r ≡ turned n l) ↔ TurnedBack ns fit n l
+    refused-exactly n l = (λ e. refused·by n l (judged-turned 1 ns (cond fit (sheet y) (turned 5 0)) n l (sym is ∙ e)), turned·by n l)
+
+    pub accepted-exactly : (x : A) → (r ≡ sheet x) ↔ (NoLine ns × (fit ≡ true) × (y ≡ x))
+    accepted-exactly x = (
+      λ e. let p = judged-sheet 1 ns (cond fit (sheet y) (turned 5 0)) x (sym is ∙ e) in let q = fit·at fit x (p .1) in (p .0, q .0, q .1),
+      λ h. is ∙ none-judged 1 ns (cond fit (sheet y) (turned 5 0)) (h .0) ∙ rw (h .1, h .2),
+    )
+
+-- ---- K and I sheets
+
+module _ (s : List ℕ) where
+  key-judged : readKeySheet s ≡ judged 1 (keyNumbers s) (cond (keyListsFit (keySheetIn s)) (sheet (keySheetIn s)) (turned 5 0))
+  key-judged = key-in-turn s ∙ turn-judged (wholeRows stagesOfKey keyWhole) (keyKinds s) 1 0 (parts 10 s)
+
+  join-judged : readJoinSheet s ≡ judged 1 (joinNumbers s) (cond (joinFits s) (sheet (joinSheetIn s)) (turned 5 0))
+  join-judged = join-in-turn s ∙ turn-judged (wholeRows stagesOfInput joinWhole) (joinKinds s) 1 0 (parts 10 s)
+
+  -- refused with a number and a line exactly where the sheet is wrong there
+  pub key-refused-exactly : (n l : ℕ) → (readKeySheet s ≡ turned n l) ↔ TurnedBack (keyNumbers s) (keyListsFit (keySheetIn s)) n l
+  key-refused-exactly = refused-exactly (readKeySheet s) (keyNumbers s) (keyListsFit (keySheetIn s)) (keySheetIn s) key-judged
+
+  pub join-refused-exactly : (n l : ℕ) → (readJoinSheet s ≡ turned n l) ↔ TurnedBack (joinNumbers s) (joinFits s) n l
+  join-refused-exactly = refused-exactly (readJoinSheet s) (joinNumbers s) (joinFits s) (joinSheetIn s) join-judged
+
+  -- accepted exactly where nothing is wrong, and then it is the sheet of its lines
+  pub key-accepted-exactly : (x : KeySheet) → (readKeySheet s ≡ sheet x) ↔ (NoLine (keyNumbers s) × (keyListsFit (keySheetIn s) ≡ true) × (keySheetIn s ≡ x))
+  key-accepted-exactly = accepted-exactly (readKeySheet s) (keyNumbers s) (keyListsFit (keySheetIn s)) (keySheetIn s) key-judged
+
+  pub join-accepted-exactly : (x : JoinSheet) → (readJoinSheet s ≡ sheet x) ↔ (NoLine (joinNumbers s) × (joinFits s ≡ true) × (joinSheetIn s ≡ x))
+  join-accepted-exactly = accepted-exactly (readJoinSheet s) (joinNumbers s) (joinFits s) (joinSheetIn s) join-judged
