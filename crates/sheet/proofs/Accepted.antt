@@ -14,7 +14,9 @@ use Rattle.text.proofs.RoundTrip.{first-back}
 use Rattle.text.proofs.WrittenBack.{led, led-parts}
 use Rattle.sheet.specs.Lines.{Kind, Stage, Run, read, refused, mostBytes, fieldsOf, rowsOf, atEnd}
 use Rattle.sheet.specs.KeySheets.{Reading, sheet, turned, ended}
-use Rattle.sheet.specs.InTurn.{Each, Counted, kindsOf, inTurn, rowsText, Fine, FineRows, empty, more}
+use Rattle.sheet.specs.Sizes.{Each}
+use Rattle.sheet.specs.Refusals.{kindsOf}
+use Rattle.sheet.proofs.InTurn.{Counted, inTurn, rowsText, Fine, FineRows, empty, more}
 use Rattle.sheet.proofs.Chained.{afterHead, wholeRows, head-in-turn}
 use Rattle.sheet.proofs.RowsAgain.{fine-wide, Written, rows-written, rows-read}
 

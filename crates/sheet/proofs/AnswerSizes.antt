@@ -16,8 +16,7 @@ use Rattle.keys.specs.Inputs.{JoinSheet, JoinAnswer, asStood, following, trySid
 use Rattle.keys.proofs.Truths.{by-test}
 use Rattle.keys.proofs.Lists.{place-below}
 use Rattle.keys.proofs.Names.{columns-length}
-use Rattle.sheet.specs.InTurn.{Each}
-use Rattle.sheet.specs.Sizes.{Few, Within, PlacedWithin, NumberList, ExprList, InputList, SizedKeySheet, SizedKeyAnswer, SizedJoinSheet, SizedJoinAnswer}
+use Rattle.sheet.specs.Sizes.{Each, Few, Within, PlacedWithin, NumberList, ExprList, InputList, SizedKeySheet, SizedKeyAnswer, SizedJoinSheet, SizedJoinAnswer}
 use Rattle.sheet.proofs.Accepted.{each-append}
 use Rattle.sheet.proofs.TriedSizes.{nothing-few, few-permuted, Placed, positions-placed, SizedTried, placed-list, tried-sized, directions-sized}
 

@@ -19,8 +19,7 @@ use Rattle.keys.proofs.Truths.{by-test}
 use Rattle.sheet.specs.Lines.{mostBytes}
 use Rattle.sheet.specs.KeySheets.{Reading, sheet, turned, readKeySheet, readJoinSheet}
 use Rattle.sheet.specs.KeyAnswers.{Outcome, refused, wrote, numbersLine, exprNumbers, exprsLine, projectedNumbers, childLines, keyAnswerText, joinAnswerText, adjusted, keyOutcome, joinOutcome, adjustDecision, inputsDecision, decision}
-use Rattle.sheet.specs.InTurn.{Each}
-use Rattle.sheet.specs.Sizes.{Few, Within, PlacedWithin, NumberList, ExprList, InputList, SizedKeySheet, SizedKeyAnswer, SizedJoinSheet, SizedJoinAnswer, lineMost, keyAnswerMost, joinAnswerMost}
+use Rattle.sheet.specs.Sizes.{Each, Few, Within, PlacedWithin, NumberList, ExprList, InputList, SizedKeySheet, SizedKeyAnswer, SizedJoinSheet, SizedJoinAnswer, lineMost, keyAnswerMost, joinAnswerMost}
 use Rattle.sheet.specs.LegalSheets.{LegalExpr, LegalExprs, LegalInput, LegalKeySheet, LegalJoinSheet}
 use Rattle.sheet.proofs.LegalRows.{each-weaker, kind-small, exprs-count}
 use Rattle.sheet.proofs.LegalSheets.{key-read-legal, join-read-legal}

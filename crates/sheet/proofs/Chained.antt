@@ -12,7 +12,9 @@ use Rattle.text.specs.Text.{Field}
 use Rattle.text.specs.Lines.{firstOf, nextOf}
 use Rattle.sheet.specs.Lines.{Kind, Stage, Run, read, refused, before, behind, onward, lineNumber, fieldsOf, rowsOf, chain}
 use Rattle.sheet.specs.KeySheets.{Reading, turned, ended, headOf}
-use Rattle.sheet.specs.InTurn.{Each, Counted, kindsOf, inTurn}
+use Rattle.sheet.specs.Sizes.{Each}
+use Rattle.sheet.specs.Refusals.{kindsOf}
+use Rattle.sheet.proofs.InTurn.{Counted, inTurn}
 
 number-seen : (k : Kind) → Counted k → (seen next : ℕ) (x : Option (List Field)) → lineNumber k seen next x ≡ lineNumber k 0 next x
 unfolding lineNumber

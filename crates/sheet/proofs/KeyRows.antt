@@ -21,7 +21,8 @@ use Rattle.sheet.specs.KeyLines.{at, values, undefinedExprs, listLine, e
 use Rattle.sheet.specs.KeySheets.{exprs, rulesOf, mark, inputOf, unusedKeys, keySheetOf, joinSheetOf, row}
 use Rattle.sheet.specs.KeyAnswers.{numbersLine, exprNumbers, exprsLine, childLines}
 use Rattle.sheet.specs.KeyTexts.{markNumber, rulesLine, inputNumbers, keySheetText, joinSheetText}
-use Rattle.sheet.specs.InTurn.{kindsOf, rowsText, Fine, FineRows, empty, more}
+use Rattle.sheet.specs.Refusals.{kindsOf}
+use Rattle.sheet.proofs.InTurn.{rowsText, Fine, FineRows, empty, more}
 use Rattle.sheet.proofs.Numbers.{filled, row-numbers, fit-heads, fit-list, spelled, spelled-out, exprs-again, rule-numbers-again, mark-again, input-again}
 
 -- ---- a line

@@ -18,7 +18,8 @@ use Rattle.sheet.specs.KeyLines.{at, values, definedExpr, undefinedExprs
 use Rattle.sheet.specs.KeySheets.{exprs, rulesOf, mark, inputOf, unusedKeys}
 use Rattle.sheet.specs.KeyAnswers.{exprNumbers}
 use Rattle.sheet.specs.KeyTexts.{markNumber, ruleExprs, inputNumbers}
-use Rattle.sheet.specs.InTurn.{Each, Fine}
+use Rattle.sheet.specs.Sizes.{Each}
+use Rattle.sheet.proofs.InTurn.{Fine}
 use Rattle.sheet.specs.LegalSheets.{Small, LegalExpr, LegalRule, Listed, LegalExprs, LegalInput}
 use Rattle.sheet.proofs.Numbers.{fit-list, fit-heads, exprs-length, exprs-even, rules-length}
 use Rattle.sheet.proofs.KeyRows.{either-false}

@@ -22,7 +22,9 @@ use Rattle.sheet.specs.KeyLines.{at, values, definedMode, definedJoin, f
 use Rattle.sheet.specs.KeySheets.{sheet, exprs, rulesOf, inputOf, unusedKeys, keySheetOf, joinSheetOf, keyWhole, joinWhole, keyListsFit, joinListsFit, directionsFit, readKeySheet, readJoinSheet}
 use Rattle.sheet.specs.KeyAnswers.{exprNumbers, exprsLine, childLines}
 use Rattle.sheet.specs.KeyTexts.{markNumber, ruleExprs, rulesLine, inputNumbers, keySheetText, joinSheetText}
-use Rattle.sheet.specs.InTurn.{Each, kindsOf, rowsText, Fine, FineRows, empty, more}
+use Rattle.sheet.specs.Sizes.{Each}
+use Rattle.sheet.specs.Refusals.{kindsOf}
+use Rattle.sheet.proofs.InTurn.{rowsText, Fine, FineRows, empty, more}
 use Rattle.sheet.specs.LegalSheets.{LegalExprs, LegalKeySheet, LegalJoinSheet}
 use Rattle.sheet.proofs.Numbers.{fit-heads}
 use Rattle.sheet.proofs.KeyRows.{key-codes, children-count}

@@ -21,7 +21,7 @@ use Rattle.sheet.specs.KeyLines.{at, values}
 use Rattle.sheet.specs.KeySheets.{exprs, rulesOf, mark, inputOf, unusedKeys}
 use Rattle.sheet.specs.KeyAnswers.{numbersLine, exprNumbers, exprsLine}
 use Rattle.sheet.specs.KeyTexts.{markNumber, ruleExprs, inputNumbers}
-use Rattle.sheet.specs.InTurn.{Fine}
+use Rattle.sheet.proofs.InTurn.{Fine}
 
 -- ---- fields that are numbers
 

@@ -16,7 +16,7 @@ use Rattle.keys.specs.Inputs.{JoinSheet}
 use Rattle.sheet.specs.Lines.{Kind, Run, read, refused, before, lineNumber, fieldsOf, rowsOf, atEnd}
 use Rattle.sheet.specs.KeyLines.{keyLine, inputHead}
 use Rattle.sheet.specs.KeySheets.{Reading, sheet, turned, ended, keyListsFit, keyWhole, joinWhole, readKeySheet, readJoinSheet}
-use Rattle.sheet.specs.InTurn.{inTurn}
+use Rattle.sheet.proofs.InTurn.{inTurn}
 use Rattle.sheet.proofs.Chained.{wholeRows}
 use Rattle.sheet.proofs.KeyAccepted.{stagesOfKey, stagesOfInput, key-in-turn, join-in-turn}
 use Rattle.sheet.specs.Refusals.{lineNumbers, lineRows, NoLine, FirstLine, WholeSheet, TurnedBack, keyKinds, keyNumbers, keySheetIn, joinKinds, joinNumbers, joinSheetIn, joinFits}

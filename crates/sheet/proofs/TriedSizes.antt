@@ -15,8 +15,7 @@ use Rattle.keys.specs.Adjust.{movedDirections, directionsOf}
 use Rattle.keys.proofs.Truths.{by-test}
 use Rattle.keys.proofs.Lists.{positions-below, orElse-below}
 use Rattle.keys.proofs.Ways.{Way, unequal, meeting, moving, missing, way, rewrite-length, searched}
-use Rattle.sheet.specs.InTurn.{Each}
-use Rattle.sheet.specs.Sizes.{Few, Within, NumberList, ExprList}
+use Rattle.sheet.specs.Sizes.{Each, Few, Within, NumberList, ExprList}
 
 pub nothing-few : {A : Type 0} (n : ℕ) (P : A → Type 0) → Few n P []
 nothing-few n P = record { few = omega arith; each = tt }

@@ -14,8 +14,7 @@ use Rattle.sheet.specs.Lines.{mostBytes, mostEntries}
 use Rattle.sheet.specs.KeyLines.{definedExpr, definedMode, definedJoin, fitChildren}
 use Rattle.sheet.specs.KeySheets.{directionsFit, keyListsFit}
 use Rattle.sheet.specs.KeyTexts.{keySheetText, joinSheetText}
-use Rattle.sheet.specs.InTurn.{Each}
-use Rattle.sheet.specs.Sizes.{Few}
+use Rattle.sheet.specs.Sizes.{Each, Few}
 
 -- "Fields are 0..65535"
 abbrev pub Small : ℕ → Type 0

@@ -3,7 +3,6 @@ pub mod KeyLines
 pub mod KeySheets
 pub mod KeyAnswers
 pub mod KeyTexts
-pub mod InTurn
 pub mod Sizes
 pub mod LegalSheets
 pub mod Refusals

@@ -3,17 +3,21 @@
 use mathlib.Core.Path.{_≡_}
 use mathlib.Core.Logic.{_⊎_}
 use Prim.Native.Nat.{ℕ, suc, _+_, _<_}
-use mathlib.Core.List.{List, [], _∷_, tail}
+use mathlib.Core.List.{List, [], _∷_, _++_, tail}
 use mathlib.Core.Bool.{Bool, false, cond}
-use lib.ListN.{getD, drop}
+use lib.ListN.{getD, drop, replicate}
 use Rattle.text.specs.Text.{Field, parts}
 use Rattle.text.specs.Lines.{firstOf, nextOf}
 use Rattle.keys.specs.Adjust.{KeySheet}
 use Rattle.keys.specs.Inputs.{JoinSheet}
-use Rattle.sheet.specs.Lines.{Kind, lineNumber, fieldsOf, atEnd}
+use Rattle.sheet.specs.Lines.{Kind, Stage, lineNumber, fieldsOf, atEnd}
 use Rattle.sheet.specs.KeyLines.{at, keyLine, inputHead, keyStages, inputStages}
 use Rattle.sheet.specs.KeySheets.{headOf, keySheetOf, joinSheetOf, keyListsFit, joinListsFit}
-use Rattle.sheet.specs.InTurn.{kindsOf}
+
+-- the kind of each line of a chain
+abbrev pub kindsOf : List Stage → List Kind
+kindsOf [] = []
+kindsOf (c ∷ cs) = replicate (c .count) (c .kind) ++ kindsOf cs
 
 -- the lowest number that turns each line back, 0 where none does; at the end that of an extra line
 unfoldable pub lineNumbers : List Kind → ℕ → List (List ℕ) → List ℕ
