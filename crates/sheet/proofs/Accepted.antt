@@ -17,18 +17,11 @@ use Rattle.sheet.specs.KeySheets.{Reading, sheet, turned, ended}
 use Rattle.sheet.specs.Sizes.{Each}
 use Rattle.sheet.specs.Refusals.{kindsOf}
 use Rattle.sheet.proofs.InTurn.{Counted, inTurn, rowsText, Fine, FineRows, empty, more}
+use Rattle.sheet.proofs.Entries.{each-append, each-same}
 use Rattle.sheet.proofs.Chained.{afterHead, wholeRows, head-in-turn}
 use Rattle.sheet.proofs.RowsAgain.{fine-wide, Written, rows-written, rows-read}
 
 -- ---- counted kinds
-
-pub each-append : {A : Type 0} (P : A → Type 0) (xs ys : List A) → Each P xs → Each P ys → Each P (xs ++ ys)
-each-append P [] ys h k = k
-each-append P (x ∷ xs) ys h k = (h .0, each-append P xs ys (h .1) k)
-
-each-same : {A : Type 0} (P : A → Type 0) (n : ℕ) (x : A) → P x → Each P (replicate n x)
-each-same P zero x h = tt
-each-same P (suc n) x h = (h, each-same P n x h)
 
 pub each-kind : (cs : List Stage) → Each (λ c. Counted (c .kind)) cs → Each Counted (kindsOf cs)
 each-kind [] h = tt

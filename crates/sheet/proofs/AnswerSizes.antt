@@ -9,7 +9,7 @@ use lib.Dec.{eqb, leb}
 use lib.ListN.{length, getD, length-map, length-append}
 use Rattle.keys.specs.Lists.{also, andThen, placeOf, sameList, expectedExprPositions, permute}
 use Rattle.keys.specs.Reorder.{Tried, tryReorder}
-use Rattle.keys.specs.Arrange.{Below}
+use Rattle.keys.specs.Arrange.{Below, AllBelow}
 use Rattle.keys.specs.Expressions.{Expression, column, placeholder}
 use Rattle.keys.specs.Adjust.{KeySheet, KeyAnswer, Projected, Adjustment, answered, nameNotFound, handOver, kept, given, passed, unchanged, cleared, onto, shifted, orEmpty, shiftRightRequired, columnsFrom, namePlaces, placedNames, namesFrom, reorderPartitionedJoinKeys, pushedRight, collectLeft, hashJoin, crossJoin, notRegrouped, regrouped, regroupedBy, reorderAggregateKeys, aggregate, projection, other, adjustInputKeysOrdering}
 use Rattle.keys.specs.Inputs.{JoinSheet, JoinAnswer, asStood, following, trySide, tryRight, reorderCurrentJoinKeys, reorderJoinKeysToInputs}
@@ -17,8 +17,8 @@ use Rattle.keys.proofs.Truths.{by-test}
 use Rattle.keys.proofs.Lists.{place-below}
 use Rattle.keys.proofs.Names.{columns-length}
 use Rattle.sheet.specs.Sizes.{Each, Few, Within, PlacedWithin, NumberList, ExprList, InputList, SizedKeySheet, SizedKeyAnswer, SizedJoinSheet, SizedJoinAnswer}
-use Rattle.sheet.proofs.Accepted.{each-append}
-use Rattle.sheet.proofs.TriedSizes.{nothing-few, few-permuted, Placed, positions-placed, SizedTried, placed-list, tried-sized, directions-sized}
+use Rattle.sheet.proofs.Entries.{each-append, nothing-few}
+use Rattle.sheet.proofs.TriedSizes.{Placed, positions-placed, SizedTried, placed-list, tried-sized, directions-sized}
 
 -- ---- lists that are made
 
@@ -62,20 +62,15 @@ module _ (m e : ℕ) where
 
 -- ---- the names of an aggregate
 
--- places below n
-abbrev FoundBelow : ℕ → Option (List ℕ) → Type 0
-FoundBelow n none = Unit {0}
-FoundBelow n (some ps) = Below n ps
-
-also-found : (n p : ℕ) (o : Option (List ℕ)) → p < n → FoundBelow n o → FoundBelow n (also p o)
+also-found : (n p : ℕ) (o : Option (List ℕ)) → p < n → AllBelow n o → AllBelow n (also p o)
 also-found n p none h b = tt
 also-found n p (some ps) h b = (h, b)
 
-names-below : (fields ns : List ℕ) → FoundBelow (length fields) (namePlaces fields ns)
+names-below : (fields ns : List ℕ) → AllBelow (length fields) (namePlaces fields ns)
 names-below fields [] = tt
 names-below fields (n ∷ ns) = go (placeOf eqb n fields) (place-below eqb n fields) (names-below fields ns)
   where
-    go : (o : Option ℕ) → ((p : ℕ) → o ≡ some p → p < length fields) → FoundBelow (length fields) (namePlaces fields ns) → FoundBelow (length fields) (andThen o (λ p. namePlaces fields ns))
+    go : (o : Option ℕ) → ((p : ℕ) → o ≡ some p → p < length fields) → AllBelow (length fields) (namePlaces fields ns) → AllBelow (length fields) (andThen o (λ p. namePlaces fields ns))
     go none h k = tt
     go (some p) h k = also-found (length fields) p (namePlaces fields ns) (h p refl) k
 
@@ -169,7 +164,7 @@ module _ (m e c : ℕ) (places : e + e ≤ m) (codes : 3 ≤ m) where
         by-test Sized (eqb (s .mode) 0) (λ t. partitioned-sized)
         (λ t. by-test Sized (eqb (s .mode) 1) (λ u. second-sized (pushedRight same s) pushed-sized) (λ u. cleared-sized))
 
-    regrouped-sized : (ps : List ℕ) → Placed e (some ps) → (o : Option (List ℕ)) → FoundBelow (length (permute 0 (s .groups) ps ++ s .aggregates)) o → Sized (regrouped same s ps o)
+    regrouped-sized : (ps : List ℕ) → Placed e (some ps) → (o : Option (List ℕ)) → AllBelow (length (permute 0 (s .groups) ps ++ s .aggregates)) o → Sized (regrouped same s ps o)
     regrouped-sized ps p none b = tt
     regrouped-sized ps p (some qs) b =
         let n : ℕ = length (permute 0 (s .groups) ps ++ s .aggregates) in

@@ -21,7 +21,8 @@ use Rattle.sheet.specs.KeySheets.{Reading, sheet, turned, readKeySheet, 
 use Rattle.sheet.specs.KeyAnswers.{Outcome, refused, wrote, numbersLine, exprNumbers, exprsLine, projectedNumbers, childLines, keyAnswerText, joinAnswerText, adjusted, keyOutcome, joinOutcome, adjustDecision, inputsDecision, decision}
 use Rattle.sheet.specs.Sizes.{Each, Few, Within, PlacedWithin, NumberList, ExprList, InputList, SizedKeySheet, SizedKeyAnswer, SizedJoinSheet, SizedJoinAnswer, lineMost, keyAnswerMost, joinAnswerMost}
 use Rattle.sheet.specs.LegalSheets.{LegalExpr, LegalExprs, LegalInput, LegalKeySheet, LegalJoinSheet}
-use Rattle.sheet.proofs.LegalRows.{each-weaker, kind-small, exprs-count}
+use Rattle.sheet.proofs.Entries.{each-weaker, few-weaker}
+use Rattle.sheet.proofs.LegalRows.{kind-small, exprs-count}
 use Rattle.sheet.proofs.LegalSheets.{key-read-legal, join-read-legal}
 use Rattle.sheet.proofs.AnswerSizes.{key-answer-sized}
 use Rattle.sheet.proofs.JoinSizes.{join-answer-sized}
@@ -100,9 +101,6 @@ module _ (m d e : ℕ) (digits : m < 10 ^ suc d) where
       ))
 
 -- ---- legal sheets
-
-few-weaker : {A : Type 0} (n : ℕ) (P Q : A → Type 0) → ((x : A) → P x → Q x) → (xs : List A) → Few n P xs → Few n Q xs
-few-weaker n P Q f xs h = record { few = h .few; each = each-weaker P Q f xs (h .each) }
 
 exprs-sized : (es : List Expression) → LegalExprs es → ExprList 65535 32 es
 exprs-sized = few-weaker 32 LegalExpr (Within 65535) (λ x h. record { kind = omega (arith, kind-small x h); name = h .name; index = h .index })

@@ -12,7 +12,8 @@ use Rattle.keys.specs.Expressions.{Expression, placeholder}
 use Rattle.keys.specs.Inputs.{JoinSheet, JoinAnswer, asStood, following, trySide, tryRight, reorderCurrentJoinKeys, reorderJoinKeysToInputs}
 use Rattle.keys.proofs.Truths.{by-test}
 use Rattle.sheet.specs.Sizes.{NumberList, ExprList, InputList, SizedJoinSheet, SizedJoinAnswer}
-use Rattle.sheet.proofs.TriedSizes.{nothing-few, SizedTried, tried-sized, directions-sized}
+use Rattle.sheet.proofs.Entries.{nothing-few}
+use Rattle.sheet.proofs.TriedSizes.{SizedTried, tried-sized, directions-sized}
 
 module _ (m e : ℕ) (places : e + e ≤ m) (codes : 3 ≤ m) (same : Expression → Expression → Bool) (s : JoinSheet) (h : SizedJoinSheet m e s) where
   abbrev Sized : JoinAnswer → Type 0

@@ -21,6 +21,7 @@ use Rattle.sheet.specs.KeyTexts.{markNumber, ruleExprs, inputNumbers}
 use Rattle.sheet.specs.Sizes.{Each}
 use Rattle.sheet.proofs.InTurn.{Fine}
 use Rattle.sheet.specs.LegalSheets.{Small, LegalExpr, LegalRule, Listed, LegalExprs, LegalInput}
+use Rattle.sheet.proofs.Entries.{each-weaker}
 use Rattle.sheet.proofs.Numbers.{fit-list, fit-heads, exprs-length, exprs-even, rules-length}
 use Rattle.sheet.proofs.KeyRows.{either-false}
 
@@ -70,10 +71,6 @@ none-over : (m : ℕ) (ns : List ℕ) → over m ns ≡ false → Each (λ n. n 
 unfolding over
 none-over m [] e = tt
 none-over m (n ∷ ns) e = let p = either-false (ltb m n) (over m ns) e in (ltb-false m n (p .0), none-over m ns (p .1))
-
-pub each-weaker : {A : Type 0} (P Q : A → Type 0) → ((x : A) → P x → Q x) → (xs : List A) → Each P xs → Each Q xs
-each-weaker P Q f [] h = tt
-each-weaker P Q f (x ∷ xs) h = (f x (h .0), each-weaker P Q f xs (h .1))
 
 -- ---- expressions and rules as numbers
 

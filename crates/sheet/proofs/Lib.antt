@@ -1,4 +1,5 @@
 pub mod Examples
+pub mod Entries
 pub mod InTurn
 pub mod Chained
 pub mod RowsAgain
