@@ -1,5 +1,6 @@
 -- Reading what was written gives the sheet, for every legal K and I sheet; and what was read is legal.
 use mathlib.Core.Path.{_≡_, refl, sym, ap, _∙_, subst}
+use mathlib.Core.Logic.{_↔_}
 use Prim.Native.Nat.{ℕ, zero, suc, _+_, _≤_}
 use native.Mathlib.Omega.{arith}
 use mathlib.Core.List.{List, [], _∷_, _++_, append-nil, map}
@@ -250,3 +251,11 @@ join-read-legal s x e =
     let m = join-made (a .head) (a .rows) x (a .is) in
     let t : joinSheetText (joinSheetOf (a .head) (a .rows)) ≡ s = ap joinSheetText (m .1) ∙ join-written-again s x e in
     subst LegalJoinSheet (m .1) (join-legal (a .head) (a .rows) (a .fine) (join-fits (joinSheetOf (a .head) (a .rows)) (a .rows) (m .0)) (rw t (a .short)))
+
+-- ---- so a sheet is read exactly from the text of a legal one
+
+pub key-read-exactly : (s : List ℕ) (x : KeySheet) → (readKeySheet s ≡ sheet x) ↔ (LegalKeySheet x × (keySheetText x ≡ s))
+key-read-exactly s x = (λ e. (key-read-legal s x e, key-written-again s x e), λ h. ap readKeySheet (sym (h .1)) ∙ key-read-again x (h .0))
+
+pub join-read-exactly : (s : List ℕ) (x : JoinSheet) → (readJoinSheet s ≡ sheet x) ↔ (LegalJoinSheet x × (joinSheetText x ≡ s))
+join-read-exactly s x = (λ e. (join-read-legal s x e, join-written-again s x e), λ h. ap readJoinSheet (sym (h .1)) ∙ join-read-again x (h .0))

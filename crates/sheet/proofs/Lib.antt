@@ -15,3 +15,4 @@ pub mod AnswerSizes
 pub mod JoinSizes
 pub mod AnswersFit
 pub mod Refused
+pub mod Lowest

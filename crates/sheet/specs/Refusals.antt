@@ -4,15 +4,37 @@ use mathlib.Core.Path.{_≡_}
 use mathlib.Core.Logic.{_⊎_}
 use Prim.Native.Nat.{ℕ, suc, _+_, _<_}
 use mathlib.Core.List.{List, [], _∷_, _++_, tail}
-use mathlib.Core.Bool.{Bool, false, cond}
+use mathlib.Core.Bool.{Bool, true, false, cond, not, _||_}
+use mathlib.Core.Option.{Option, none, some}
+use lib.Dec.{ltb}
 use lib.ListN.{getD, drop, replicate}
 use Rattle.text.specs.Text.{Field, parts}
 use Rattle.text.specs.Lines.{firstOf, nextOf}
 use Rattle.keys.specs.Adjust.{KeySheet}
 use Rattle.keys.specs.Inputs.{JoinSheet}
-use Rattle.sheet.specs.Lines.{Kind, Stage, lineNumber, fieldsOf, atEnd}
+use Rattle.sheet.specs.Lines.{Kind, Stage, mostBytes, fieldsFit, tooManyEntries, lineNumber, fieldsOf, atEnd}
 use Rattle.sheet.specs.KeyLines.{at, keyLine, inputHead, keyStages, inputStages}
 use Rattle.sheet.specs.KeySheets.{headOf, keySheetOf, joinSheetOf, keyListsFit, joinListsFit}
+
+-- ---- a line
+
+-- the conditions of numbers 1 to 6 on a line that ends at a place; 5 is no line's
+abbrev pub conditions : Kind → ℕ → Option (List Field) → List Bool
+conditions k next none = true ∷ []
+conditions k next (some fs) =
+    false ∷ (not (fieldsFit k fs) || k .malformed fs) ∷ (ltb mostBytes next || (tooManyEntries k fs || k .large 0 fs)) ∷ k .undefined fs ∷ false ∷ k .unfit fs ∷ []
+
+-- n is the lowest number, the first being `from`, whose condition holds
+pub record Lowest (from : ℕ) (cs : List Bool) (n : ℕ) : Type 0 where
+  pub below : ℕ
+  pub number : n ≡ from + below
+  pub holds : getD cs below false ≡ true
+  pub lowest : (i : ℕ) → i < below → getD cs i false ≡ false
+
+abbrev pub NoCondition : List Bool → Type 0
+NoCondition cs = (i : ℕ) → getD cs i false ≡ false
+
+-- ---- the lines of a sheet
 
 -- the kind of each line of a chain
 abbrev pub kindsOf : List Stage → List Kind
