@@ -1,25 +1,22 @@
 -- A sheet of a head line and counted stages is accepted exactly when its text is that of fine rows, within the most bytes, and the rows make a sheet.
 use mathlib.Core.Path.{_≡_, refl, sym, ap, _∙_}
-use Prim.Native.Nat.{ℕ, zero, suc, _+_, _≤_}
+use Prim.Native.Nat.{ℕ, _+_, _≤_}
 use native.Mathlib.Omega.{arith}
-use native.Mathlib.Nat.{zero-add}
 use mathlib.Core.List.{List, [], _∷_, _++_, append-nil}
 use mathlib.Core.Bool.{Bool, true, false, cond}
-use mathlib.Core.Option.{Option, none, some}
 use lib.ListN.{length, replicate}
 use Rattle.text.specs.Text.{Field, parts}
 use Rattle.text.specs.Lines.{firstOf}
-use Rattle.text.specs.Write.{lineText}
 use Rattle.text.proofs.RoundTrip.{first-back}
 use Rattle.text.proofs.WrittenBack.{led, led-parts}
 use Rattle.sheet.specs.Lines.{Kind, Stage, Run, read, refused, mostBytes, fieldsOf, rowsOf, atEnd}
 use Rattle.sheet.specs.KeySheets.{Reading, sheet, turned, ended}
 use Rattle.sheet.specs.Sizes.{Each}
 use Rattle.sheet.specs.Refusals.{kindsOf}
-use Rattle.sheet.proofs.InTurn.{Counted, inTurn, rowsText, Fine, FineRows, empty, more}
+use Rattle.sheet.proofs.InTurn.{Counted, inTurn, rowsText, Fine, FineRows, more}
 use Rattle.sheet.proofs.Entries.{each-append, each-same}
 use Rattle.sheet.proofs.Chained.{afterHead, wholeRows, head-in-turn}
-use Rattle.sheet.proofs.RowsAgain.{fine-wide, Written, rows-written, rows-read}
+use Rattle.sheet.proofs.RowsAgain.{fine-wide, rows-written, rows-read}
 
 -- ---- counted kinds
 

@@ -1,9 +1,9 @@
 -- Answers of K and I sheets are no larger than the sheets: no longer lists (but J, of both lists of names), no larger numbers.
-use mathlib.Core.Path.{_≡_, refl, sym, ap, _∙_, subst}
-use Prim.Native.Nat.{ℕ, zero, suc, _+_, _-_, _*_, _≤_, _<_}
+use mathlib.Core.Path.{_≡_, refl, ap, subst}
+use Prim.Native.Nat.{ℕ, suc, _+_, _-_, _≤_, _<_}
 use native.Mathlib.Omega.{arith}
 use mathlib.Core.List.{List, [], _∷_, _++_, map}
-use mathlib.Core.Bool.{Bool, true, false, cond, not, _&&_, _||_}
+use mathlib.Core.Bool.{Bool, not, _&&_, _||_}
 use mathlib.Core.Option.{Option, none, some}
 use lib.Dec.{eqb, leb}
 use lib.ListN.{length, getD, length-map, length-append}
@@ -11,12 +11,11 @@ use Rattle.keys.specs.Lists.{also, andThen, placeOf, sameList, expectedExprPosi
 use Rattle.keys.specs.Reorder.{Tried, tryReorder}
 use Rattle.keys.specs.Arrange.{Below, AllBelow}
 use Rattle.keys.specs.Expressions.{Expression, column, placeholder}
-use Rattle.keys.specs.Adjust.{KeySheet, KeyAnswer, Projected, Adjustment, answered, nameNotFound, handOver, kept, given, passed, unchanged, cleared, onto, shifted, orEmpty, shiftRightRequired, columnsFrom, namePlaces, placedNames, namesFrom, reorderPartitionedJoinKeys, pushedRight, collectLeft, hashJoin, crossJoin, notRegrouped, regrouped, regroupedBy, reorderAggregateKeys, aggregate, projection, other, adjustInputKeysOrdering}
-use Rattle.keys.specs.Inputs.{JoinSheet, JoinAnswer, asStood, following, trySide, tryRight, reorderCurrentJoinKeys, reorderJoinKeysToInputs}
+use Rattle.keys.specs.Adjust.{KeySheet, KeyAnswer, Projected, Adjustment, answered, nameNotFound, handOver, kept, given, passed, unchanged, cleared, onto, shifted, orEmpty, shiftRightRequired, columnsFrom, namePlaces, placedNames, namesFrom, reorderPartitionedJoinKeys, pushedRight, hashJoin, notRegrouped, regrouped, regroupedBy, aggregate, projection, other, adjustInputKeysOrdering}
 use Rattle.keys.proofs.Truths.{by-test}
 use Rattle.keys.proofs.Lists.{place-below}
 use Rattle.keys.proofs.Names.{columns-length}
-use Rattle.sheet.specs.Sizes.{Each, Few, Within, PlacedWithin, NumberList, ExprList, InputList, SizedKeySheet, SizedKeyAnswer, SizedJoinSheet, SizedJoinAnswer}
+use Rattle.sheet.specs.Sizes.{Each, Few, Within, PlacedWithin, ExprList, SizedKeySheet, SizedKeyAnswer}
 use Rattle.sheet.proofs.Entries.{each-append, nothing-few}
 use Rattle.sheet.proofs.TriedSizes.{Placed, positions-placed, SizedTried, placed-list, tried-sized, directions-sized}
 

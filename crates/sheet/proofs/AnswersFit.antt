@@ -1,15 +1,15 @@
 -- An output of 65,536 bytes suffices for the answer of every accepted K or I sheet.
-use mathlib.Core.Path.{_≡_, refl, sym, ap, _∙_, subst}
+use mathlib.Core.Path.{_≡_, refl, ap}
 use Prim.Native.Nat.{ℕ, zero, suc, _+_, _*_, _^_, _≤_, _<_}
 use native.Mathlib.Nat.{mul-le-mul-right, suc-mul}
 use native.Mathlib.Omega.{arith}
-use mathlib.Core.List.{List, [], _∷_, _++_, map}
-use mathlib.Core.Bool.{Bool, true, false, cond}
+use mathlib.Core.List.{List, [], _∷_, map}
+use mathlib.Core.Bool.{true, false}
 use mathlib.Core.Option.{Option, none, some}
-use lib.Dec.{eqb, leb}
+use lib.Dec.{eqb}
 use lib.ListN.{length, getD, length-map, length-append}
 use borrow.Author.Tests.{le-leb}
-use Rattle.text.specs.Text.{Field, number}
+use Rattle.text.specs.Text.{number}
 use Rattle.text.specs.Bounds.{Bound, allowsAll}
 use Rattle.text.proofs.Lengths.{line-bound, all-short}
 use Rattle.keys.specs.Expressions.{Expression, sameExpr}

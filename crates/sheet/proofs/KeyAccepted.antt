@@ -2,8 +2,8 @@
 use mathlib.Core.Path.{_≡_, refl, sym, ap, _∙_}
 use Prim.Native.Nat.{ℕ}
 use native.Mathlib.Omega.{arith}
-use mathlib.Core.List.{List, [], _∷_}
-use mathlib.Core.Bool.{Bool, true, false, cond, not, _&&_}
+use mathlib.Core.List.{List}
+use mathlib.Core.Bool.{Bool, true, false, cond, not}
 use lib.Dec.{eqb}
 use lib.ListN.{length}
 use borrow.Author.Tests.{not-true}
@@ -11,9 +11,9 @@ use Rattle.text.specs.Text.{Field, parts}
 use Rattle.text.proofs.Exact.{both}
 use Rattle.keys.specs.Adjust.{KeySheet}
 use Rattle.keys.specs.Inputs.{JoinSheet}
-use Rattle.sheet.specs.Lines.{Kind, Stage, Run, read, refused, rowsOf}
+use Rattle.sheet.specs.Lines.{Stage, Run, read, refused, rowsOf}
 use Rattle.sheet.specs.KeyLines.{at, listLine, inputLine, keyLine, inputHead, keyStages, inputStages}
-use Rattle.sheet.specs.KeySheets.{Reading, sheet, turned, ended, row, directionsFit, unusedKeys, keyListsFit, joinListsFit, keySheetOf, joinSheetOf, keyWhole, joinWhole, afterKey, afterInput, readKeySheet, readJoinSheet}
+use Rattle.sheet.specs.KeySheets.{sheet, turned, ended, row, directionsFit, unusedKeys, keyListsFit, joinListsFit, keySheetOf, joinSheetOf, keyWhole, joinWhole, afterKey, afterInput, readKeySheet, readJoinSheet}
 use Rattle.sheet.specs.KeyTexts.{keySheetText, joinSheetText}
 use Rattle.sheet.specs.Sizes.{Each}
 use Rattle.sheet.proofs.InTurn.{readable, Counted, inTurn}

@@ -1,25 +1,21 @@
 -- The rows of a K or I sheet, made a sheet, are written as they stood.
 use mathlib.Core.Path.{_≡_, refl, sym, ap, _∙_}
-use Prim.Native.Nat.{ℕ, zero, suc, _+_, _*_, _%_, _≤_}
+use Prim.Native.Nat.{ℕ, zero, suc, _+_, _%_, _≤_}
 use native.Mathlib.Omega.{arith}
 use mathlib.Core.List.{List, [], _∷_, _++_, append-nil, map}
-use mathlib.Core.Bool.{Bool, true, false, cond, not, _&&_, _||_}
-use mathlib.Core.Option.{Option, none, some}
-use lib.Dec.{eqb, ltb, leb}
-use lib.ListN.{length, take, drop, getD, length-map, length-take, length-drop, replicate}
+use mathlib.Core.Bool.{Bool, true, false, _||_}
+use lib.Dec.{ltb, leb}
+use lib.ListN.{length, take, drop, length-map, length-take, length-drop, replicate}
 use borrow.Author.Tests.{eqb-true, leb-true, not-false, ltb-false}
 use Rattle.text.specs.Text.{Field, number, valueOf}
-use Rattle.text.specs.Bounds.{allowsAll, fits}
+use Rattle.text.specs.Bounds.{fits}
 use Rattle.text.specs.Write.{lineText}
 use Rattle.text.proofs.Exact.{both}
 use Rattle.text.proofs.Limits.{fits-length}
-use Rattle.keys.specs.Expressions.{Expression}
-use Rattle.keys.specs.Adjust.{KeySheet}
-use Rattle.keys.specs.Inputs.{JoinSheet}
 use Rattle.sheet.specs.Lines.{Kind, plain, wholeEntries}
-use Rattle.sheet.specs.KeyLines.{at, values, undefinedExprs, listLine, exprLine, ruleLine, directionLine, nameLine, inputLine, keyLine, inputHead, keyStages, inputStages, definedMode, definedJoin}
+use Rattle.sheet.specs.KeyLines.{at, values, undefinedExprs, listLine, exprLine, ruleLine, inputLine, keyLine, inputHead, keyStages, inputStages, definedMode, definedJoin}
 use Rattle.sheet.specs.KeySheets.{exprs, rulesOf, mark, inputOf, unusedKeys, keySheetOf, joinSheetOf, row}
-use Rattle.sheet.specs.KeyAnswers.{numbersLine, exprNumbers, exprsLine, childLines}
+use Rattle.sheet.specs.KeyAnswers.{numbersLine, exprsLine, childLines}
 use Rattle.sheet.specs.KeyTexts.{markNumber, rulesLine, inputNumbers, keySheetText, joinSheetText}
 use Rattle.sheet.specs.Refusals.{kindsOf}
 use Rattle.sheet.proofs.InTurn.{rowsText, Fine, FineRows, empty, more}

@@ -1,20 +1,20 @@
 -- The rows of legal lists are fine, and fine rows are those of legal lists.
-use mathlib.Core.Path.{_≡_, refl, sym, ap, _∙_}
-use Prim.Native.Nat.{ℕ, zero, suc, _+_, _*_, _%_, _≤_}
+use mathlib.Core.Path.{_≡_, refl, ap}
+use Prim.Native.Nat.{ℕ, zero, suc, _*_, _%_, _≤_}
 use native.Mathlib.Omega.{arith}
-use mathlib.Core.List.{List, [], _∷_, _++_, map}
+use mathlib.Core.List.{List, [], _∷_, map}
 use mathlib.Core.Bool.{Bool, true, false, cond, not, _&&_, _||_}
 use mathlib.Core.Option.{Option, none, some}
-use lib.Dec.{eqb, ltb, leb}
-use lib.ListN.{length, take, drop, getD, length-map, replicate}
-use borrow.Author.Tests.{eqb-true, eq-eqb, leb-true, le-leb, ltb-false, le-ltb, not-true, not-false}
+use lib.Dec.{eqb, ltb}
+use lib.ListN.{length, getD, length-map, replicate}
+use borrow.Author.Tests.{eqb-true, eq-eqb, leb-true, le-leb, ltb-false, le-ltb, not-false}
 use Rattle.text.specs.Text.{Field, number, empty, malformed, valueOf}
 use Rattle.text.specs.Bounds.{allows, allowsAll, fits}
 use Rattle.text.proofs.Exact.{both}
 use Rattle.keys.specs.Reorder.{Rule}
 use Rattle.keys.specs.Expressions.{Expression}
-use Rattle.sheet.specs.Lines.{Kind, plain, wholeEntries, never, mostEntries}
-use Rattle.sheet.specs.KeyLines.{at, values, definedExpr, undefinedExprs, over, listLine, exprLine, ruleLine, directionLine, nameLine, inputLine}
+use Rattle.sheet.specs.Lines.{plain, wholeEntries, never, mostEntries}
+use Rattle.sheet.specs.KeyLines.{values, definedExpr, undefinedExprs, over, listLine, exprLine, ruleLine, directionLine, nameLine, inputLine}
 use Rattle.sheet.specs.KeySheets.{exprs, rulesOf, mark, inputOf, unusedKeys}
 use Rattle.sheet.specs.KeyAnswers.{exprNumbers}
 use Rattle.sheet.specs.KeyTexts.{markNumber, ruleExprs, inputNumbers}
@@ -22,7 +22,7 @@ use Rattle.sheet.specs.Sizes.{Each}
 use Rattle.sheet.proofs.InTurn.{Fine}
 use Rattle.sheet.specs.LegalSheets.{Small, LegalExpr, LegalRule, Listed, LegalExprs, LegalInput}
 use Rattle.sheet.proofs.Entries.{each-weaker}
-use Rattle.sheet.proofs.Numbers.{fit-list, fit-heads, exprs-length, exprs-even, rules-length}
+use Rattle.sheet.proofs.Numbers.{fit-list, exprs-length, exprs-even, rules-length}
 use Rattle.sheet.proofs.KeyRows.{either-false}
 
 -- ---- numbers

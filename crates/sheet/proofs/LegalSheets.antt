@@ -1,26 +1,25 @@
 -- Reading what was written gives the sheet, for every legal K and I sheet; and what was read is legal.
 use mathlib.Core.Path.{_≡_, refl, sym, ap, _∙_, subst}
 use mathlib.Core.Logic.{_↔_}
-use Prim.Native.Nat.{ℕ, zero, suc, _+_, _≤_}
+use Prim.Native.Nat.{ℕ, zero, suc, _≤_}
 use native.Mathlib.Omega.{arith}
 use mathlib.Core.List.{List, [], _∷_, _++_, append-nil, map}
-use mathlib.Core.Bool.{Bool, true, false, cond, not, _&&_}
-use mathlib.Core.Option.{Option, none, some}
-use lib.Dec.{eqb, ltb, leb}
-use lib.ListN.{length, take, drop, getD, length-map, replicate}
+use mathlib.Core.Bool.{Bool, true, false, cond}
+use mathlib.Core.Option.{Option}
+use lib.Dec.{eqb, leb}
+use lib.ListN.{length, take, length-map, replicate}
 use lib.Seq.{getD-take}
 use borrow.Author.Tests.{eqb-true, eq-eqb, leb-true, le-leb, le-ltb, ltb-false, not-false}
-use Rattle.text.specs.Text.{Field, number, valueOf}
-use Rattle.text.specs.Bounds.{allows, allowsAll, fits}
+use Rattle.text.specs.Text.{Field, number}
+use Rattle.text.specs.Bounds.{allowsAll, fits}
 use Rattle.text.proofs.Exact.{both}
-use Rattle.text.proofs.Limits.{fits-at}
 use Rattle.keys.specs.Reorder.{Rule}
 use Rattle.keys.specs.Expressions.{Expression}
 use Rattle.keys.specs.Adjust.{KeySheet}
 use Rattle.keys.specs.Inputs.{JoinSheet}
 use Rattle.sheet.specs.Lines.{mostBytes}
-use Rattle.sheet.specs.KeyLines.{at, values, definedMode, definedJoin, fitChildren, exprLine, keyLine, inputHead, keyStages, inputStages}
-use Rattle.sheet.specs.KeySheets.{sheet, exprs, rulesOf, inputOf, unusedKeys, keySheetOf, joinSheetOf, keyWhole, joinWhole, keyListsFit, joinListsFit, directionsFit, readKeySheet, readJoinSheet}
+use Rattle.sheet.specs.KeyLines.{at, values, definedMode, fitChildren, exprLine, keyLine, inputHead, keyStages, inputStages}
+use Rattle.sheet.specs.KeySheets.{sheet, exprs, rulesOf, inputOf, unusedKeys, keySheetOf, joinSheetOf, keyListsFit, joinListsFit, readKeySheet, readJoinSheet}
 use Rattle.sheet.specs.KeyAnswers.{exprNumbers, exprsLine, childLines}
 use Rattle.sheet.specs.KeyTexts.{markNumber, ruleExprs, rulesLine, inputNumbers, keySheetText, joinSheetText}
 use Rattle.sheet.specs.Sizes.{Each}

@@ -2,24 +2,21 @@
 use mathlib.Core.Path.{_≡_, refl, sym, ap, _∙_}
 use Prim.Native.Nat.{ℕ, zero, suc, _+_, _*_, _/_, _%_, _≤_}
 use native.Mathlib.Omega.{arith}
-use native.Mathlib.Nat.{add-zero}
 use mathlib.Core.List.{List, [], _∷_, _++_, map}
-use mathlib.Core.Bool.{Bool, true, false, cond, not, _&&_, _||_}
-use mathlib.Core.Option.{Option, none, some}
-use lib.Dec.{eqb, ltb, leb}
-use lib.ListN.{length, take, drop, getD, length-map, take-append-drop, drop-of-length-le}
+use mathlib.Core.Bool.{Bool, true, false, cond, not, _&&_}
+use mathlib.Core.Option.{none, some}
+use lib.Dec.{eqb}
+use lib.ListN.{length, take, drop, getD, take-append-drop, drop-of-length-le}
 use lib.Seq.{drop-cons}
-use borrow.Author.Tests.{eqb-true, eqb-false, leb-true, not-true, not-false, eq-eqb}
+use borrow.Author.Tests.{eqb-true, eqb-false, not-true, not-false}
 use Rattle.text.specs.Text.{Field, number, empty, malformed, valueOf}
 use Rattle.text.specs.Bounds.{Bound, allows, allowsAll, fits}
-use Rattle.text.specs.Write.{lineText}
 use Rattle.text.proofs.Exact.{both}
-use Rattle.keys.specs.Reorder.{Rule}
 use Rattle.keys.specs.Expressions.{Expression}
 use Rattle.sheet.specs.Lines.{Kind, plain, wholeEntries}
 use Rattle.sheet.specs.KeyLines.{at, values}
 use Rattle.sheet.specs.KeySheets.{exprs, rulesOf, mark, inputOf, unusedKeys}
-use Rattle.sheet.specs.KeyAnswers.{numbersLine, exprNumbers, exprsLine}
+use Rattle.sheet.specs.KeyAnswers.{exprNumbers}
 use Rattle.sheet.specs.KeyTexts.{markNumber, ruleExprs, inputNumbers}
 use Rattle.sheet.proofs.InTurn.{Fine}
 

@@ -1,25 +1,24 @@
 -- A sheet is turned back by the first wrong line, or else where its lists do not fit; and accepted exactly when neither holds.
-use mathlib.Core.Path.{_≡_, refl, sym, ap, _∙_}
+use mathlib.Core.Path.{_≡_, refl, sym, _∙_}
 use mathlib.Core.Logic.{_⊎_, inl, inr, _↔_}
 use Prim.Native.Nat.{ℕ, zero, suc, _+_, _<_}
 use native.Mathlib.Omega.{arith}
 use mathlib.Core.List.{List, [], _∷_, tail}
 use mathlib.Core.Bool.{Bool, true, false, cond}
-use mathlib.Core.Option.{Option, none, some}
+use mathlib.Core.Option.{Option}
 use lib.Dec.{eqb}
-use lib.ListN.{getD, drop}
-use borrow.Author.Tests.{eqb-true, eqb-false, ne-eqb, eq-eqb}
+use lib.ListN.{getD}
+use borrow.Author.Tests.{eqb-true, eqb-false, eq-eqb}
 use Rattle.text.specs.Text.{Field, parts}
 use Rattle.text.specs.Lines.{firstOf, nextOf}
 use Rattle.keys.specs.Adjust.{KeySheet}
 use Rattle.keys.specs.Inputs.{JoinSheet}
-use Rattle.sheet.specs.Lines.{Kind, Run, read, refused, before, lineNumber, fieldsOf, rowsOf, atEnd}
-use Rattle.sheet.specs.KeyLines.{keyLine, inputHead}
+use Rattle.sheet.specs.Lines.{Kind, Run, read, refused, before, lineNumber, fieldsOf, atEnd}
 use Rattle.sheet.specs.KeySheets.{Reading, sheet, turned, ended, keyListsFit, keyWhole, joinWhole, readKeySheet, readJoinSheet}
 use Rattle.sheet.proofs.InTurn.{inTurn}
 use Rattle.sheet.proofs.Chained.{wholeRows}
 use Rattle.sheet.proofs.KeyAccepted.{stagesOfKey, stagesOfInput, key-in-turn, join-in-turn}
-use Rattle.sheet.specs.Refusals.{lineNumbers, lineRows, NoLine, FirstLine, WholeSheet, TurnedBack, keyKinds, keyNumbers, keySheetIn, joinKinds, joinNumbers, joinSheetIn, joinFits}
+use Rattle.sheet.specs.Refusals.{lineNumbers, lineRows, NoLine, FirstLine, TurnedBack, keyKinds, keyNumbers, keySheetIn, joinKinds, joinNumbers, joinSheetIn, joinFits}
 
 -- ---- the first number that is not 0
 

@@ -1,6 +1,6 @@
 -- Reading and writing lines of kinds in turn are inverse: what was read is fine and is written as it stood, and fine rows that are written are read.
 use mathlib.Core.Path.{_≡_, refl, sym, ap, _∙_}
-use Prim.Native.Nat.{ℕ, zero, suc, _+_, _≤_}
+use Prim.Native.Nat.{ℕ, suc, _+_, _≤_}
 use native.Mathlib.Omega.{arith}
 use native.Mathlib.Nat.{add-zero}
 use mathlib.Core.List.{List, [], _∷_, _++_, append-assoc, tail}
@@ -9,9 +9,9 @@ use mathlib.Core.Option.{Option, none, some}
 use lib.Dec.{eqb, ltb, leb}
 use lib.ListN.{length, take, drop, length-append, take-append-drop}
 use borrow.Author.Tests.{eqb-true, ltb-false, le-ltb, le-leb, leb-true}
-use Rattle.text.specs.Text.{Field, number, empty, malformed, most, parts, stateOf, after}
+use Rattle.text.specs.Text.{Field, number, empty, malformed, most, parts, after}
 use Rattle.text.specs.Lines.{firstOf, nextOf}
-use Rattle.text.specs.Bounds.{Bound, widest, allows, allowsAll, wellFormed, fits}
+use Rattle.text.specs.Bounds.{Bound, widest, allows, allowsAll, fits}
 use Rattle.text.specs.Write.{fieldsText, lineText}
 use Rattle.text.proofs.Exact.{both}
 use Rattle.text.proofs.Limits.{all-well}

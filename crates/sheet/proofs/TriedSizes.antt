@@ -1,21 +1,21 @@
 -- An order that is tried keeps the sizes of lists and numbers: positions are places of a side, moved keys and directions are entries of the sheet.
-use mathlib.Core.Path.{_≡_, refl, sym, ap, _∙_, subst}
-use Prim.Native.Nat.{ℕ, zero, suc, _+_, _*_, _≤_, _<_, min}
+use mathlib.Core.Path.{subst}
+use Prim.Native.Nat.{ℕ, suc, _+_, _≤_}
 use native.Mathlib.Omega.{arith}
-use mathlib.Core.List.{List, [], _∷_, _++_, map}
-use mathlib.Core.Bool.{Bool, true, false, cond}
+use mathlib.Core.List.{List, [], _∷_}
+use mathlib.Core.Bool.{Bool}
 use mathlib.Core.Option.{Option, none, some}
 use lib.Dec.{eqb}
-use lib.ListN.{length, getD, take, set, length-map, length-take}
-use Rattle.keys.specs.Lists.{also, andThen, placeOf, takePlaces, expectedExprPositions, orElse, permute}
-use Rattle.keys.specs.Reorder.{Rule, Tried, met, movedBy, rewrite, eitherSide, tryReorder}
+use lib.ListN.{length, take, set, length-take}
+use Rattle.keys.specs.Lists.{also, andThen, placeOf, takePlaces, expectedExprPositions, orElse}
+use Rattle.keys.specs.Reorder.{Rule, Tried, rewrite, eitherSide, tryReorder}
 use Rattle.keys.specs.Arrange.{Below, AllBelow}
 use Rattle.keys.specs.Expressions.{Expression, placeholder}
-use Rattle.keys.specs.Adjust.{movedDirections, directionsOf}
+use Rattle.keys.specs.Adjust.{directionsOf}
 use Rattle.keys.proofs.Truths.{by-test}
-use Rattle.keys.proofs.Lists.{positions-below, orElse-below}
+use Rattle.keys.proofs.Lists.{positions-below}
 use Rattle.keys.proofs.Ways.{Way, unequal, meeting, moving, missing, way, rewrite-length, searched}
-use Rattle.sheet.specs.Sizes.{Each, Few, Within, NumberList, ExprList}
+use Rattle.sheet.specs.Sizes.{Each, Within, NumberList, ExprList}
 use Rattle.sheet.proofs.Entries.{nothing-few, few-permuted}
 
 -- ---- positions

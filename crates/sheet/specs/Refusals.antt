@@ -2,7 +2,7 @@
 -- Renders document 01, "Lowest line first, then lowest number; then Sheet, Work, Write in table order", and "a missing line counts as the line after the last".
 use mathlib.Core.Path.{_≡_}
 use mathlib.Core.Logic.{_⊎_}
-use Prim.Native.Nat.{ℕ, suc, _+_, _<_}
+use Prim.Native.Nat.{ℕ, _+_, _<_}
 use mathlib.Core.List.{List, [], _∷_, _++_, tail}
 use mathlib.Core.Bool.{Bool, true, false, cond, not, _||_}
 use mathlib.Core.Option.{Option, none, some}
@@ -14,7 +14,7 @@ use Rattle.keys.specs.Adjust.{KeySheet}
 use Rattle.keys.specs.Inputs.{JoinSheet}
 use Rattle.sheet.specs.Lines.{Kind, Stage, mostBytes, fieldsFit, tooManyEntries, lineNumber, fieldsOf, atEnd}
 use Rattle.sheet.specs.KeyLines.{at, keyLine, inputHead, keyStages, inputStages}
-use Rattle.sheet.specs.KeySheets.{headOf, keySheetOf, joinSheetOf, keyListsFit, joinListsFit}
+use Rattle.sheet.specs.KeySheets.{headOf, keySheetOf, joinSheetOf, joinListsFit}
 
 -- ---- a line
 
