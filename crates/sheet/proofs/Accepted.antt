@@ -46,7 +46,9 @@ module _ {A : Type 0} (whole : List (List Field) → Reading A) where
     end : atEnd lines ≡ true
     is : whole rows ≡ sheet x
 
-  whole·at : (t : Bool) (rs : List (List Field)) (ls : List (List ℕ)) (l p : ℕ) (x : A) → atEnd ls ≡ t → cond t (whole rs) (turned 1 l) ≡ sheet x → Whole (read rs ls l p) x
+  whole·at :
+      (t : Bool) (rs : List (List Field)) (ls : List (List ℕ)) (l p : ℕ) (x : A) → atEnd ls ≡ t → cond t (whole rs) (turned 1 l) ≡ sheet x →
+      Whole (read rs ls l p) x
   whole·at true rs ls l p x t e = record { rows = rs; lines = ls; line = l; place = p; was = refl; end = t; is = e }
   whole·at false rs ls l p x t e = let z : _≡_ {A = ℕ} 0 1 = cc in absurd (omega arith)
 
@@ -72,10 +74,14 @@ module _ {A : Type 0} (k : Kind) (stages : List Field → List Stage) (whole : L
     all : (h : List Field) → Each Counted (kinds h)
     all h = (c, each-kind (stages h) (cs h))
 
-    head-of : (s : List ℕ) (h : List Field) (ks : List Kind) (rs : List (List Field)) → Fine k h → rowsText (k ∷ ks) (h ∷ rs) ≡ s → fieldsOf (firstOf (k .letter) (parts 10 s)) ≡ h
+    head-of :
+        (s : List ℕ) (h : List Field) (ks : List Kind) (rs : List (List Field)) → Fine k h → rowsText (k ∷ ks) (h ∷ rs) ≡ s →
+        fieldsOf (firstOf (k .letter) (parts 10 s)) ≡ h
     head-of s h ks rs f e = rw (← e, first-back (k .letter) h (c .letter) (fine-wide k c h f) (rowsText ks rs))
 
-    accepted·by : (s : List ℕ) (x : A) (h : List Field) (rs : List (List Field)) → fieldsOf (firstOf (k .letter) (parts 10 s)) ≡ h → FineRows (kinds h) rs → rowsText (kinds h) rs ≡ s → length s ≤ mostBytes → wholeRows stages whole rs ≡ sheet x → Accepted s x
+    accepted·by :
+        (s : List ℕ) (x : A) (h : List Field) (rs : List (List Field)) → fieldsOf (firstOf (k .letter) (parts 10 s)) ≡ h → FineRows (kinds h) rs →
+        rowsText (kinds h) rs ≡ s → length s ≤ mostBytes → wholeRows stages whole rs ≡ sheet x → Accepted s x
     accepted·by s x h (fs ∷ rs) e (more f fr) t l w =
         let z : h ≡ fs = sym e ∙ head-of s fs (kindsOf (stages h)) rs f t in
         record { head = fs; rows = rs; fine = rw z at (more {k = k} f fr); text = rw z at t; short = l; is = w }

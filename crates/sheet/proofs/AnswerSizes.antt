@@ -48,7 +48,9 @@ module _ (m e : ℕ) where
   shifted-sized columns es h = record { few = omega (arith, shifted-length columns es, h .few); each = shifted-each columns es (h .each) }
 
   -- what the children are handed
-  each-mapped : (g : List Expression → List Expression) → ((c : List Expression) → ExprList m e c → ExprList m e (g c)) → (cs : List (List Expression)) → Each (ExprList m e) cs → Each (ExprList m e) (map g cs)
+  each-mapped :
+      (g : List Expression → List Expression) → ((c : List Expression) → ExprList m e c → ExprList m e (g c)) → (cs : List (List Expression)) →
+      Each (ExprList m e) cs → Each (ExprList m e) (map g cs)
   each-mapped g k [] h = tt
   each-mapped g k (c ∷ cs) h = (k c (h .0), each-mapped g k cs (h .1))
 
@@ -69,7 +71,9 @@ names-below : (fields ns : List ℕ) → AllBelow (length fields) (namePlaces fi
 names-below fields [] = tt
 names-below fields (n ∷ ns) = go (placeOf eqb n fields) (place-below eqb n fields) (names-below fields ns)
   where
-    go : (o : Option ℕ) → ((p : ℕ) → o ≡ some p → p < length fields) → AllBelow (length fields) (namePlaces fields ns) → AllBelow (length fields) (andThen o (λ p. namePlaces fields ns))
+    go :
+        (o : Option ℕ) → ((p : ℕ) → o ≡ some p → p < length fields) → AllBelow (length fields) (namePlaces fields ns) →
+        AllBelow (length fields) (andThen o (λ p. namePlaces fields ns))
     go none h k = tt
     go (some p) h k = also-found (length fields) p (namePlaces fields ns) (h p refl) k
 
@@ -106,7 +110,9 @@ module _ (m e c : ℕ) (places : e + e ≤ m) (codes : 3 ≤ m) where
     abbrev Keeps : (List Expression → List Expression) → Type 0
     Keeps f = (xs : List Expression) → ExprList m e xs → ExprList m e (f xs)
 
-    passed-sized : (changed : ℕ) (r : List Expression) (f g : List Expression → List Expression) → changed ≤ 1 → ExprList m e r → Keeps f → Keeps g → Sized (passed s changed r f g)
+    passed-sized :
+        (changed : ℕ) (r : List Expression) (f g : List Expression → List Expression) → changed ≤ 1 → ExprList m e r → Keeps f → Keeps g →
+        Sized (passed s changed r f g)
     passed-sized changed r f g l hr hf hg = record {
       changed = omega arith;
       report = omega arith;
@@ -163,7 +169,9 @@ module _ (m e c : ℕ) (places : e + e ≤ m) (codes : 3 ≤ m) where
         by-test Sized (eqb (s .mode) 0) (λ t. partitioned-sized)
         (λ t. by-test Sized (eqb (s .mode) 1) (λ u. second-sized (pushedRight same s) pushed-sized) (λ u. cleared-sized))
 
-    regrouped-sized : (ps : List ℕ) → Placed e (some ps) → (o : Option (List ℕ)) → AllBelow (length (permute 0 (s .groups) ps ++ s .aggregates)) o → Sized (regrouped same s ps o)
+    regrouped-sized :
+        (ps : List ℕ) → Placed e (some ps) → (o : Option (List ℕ)) → AllBelow (length (permute 0 (s .groups) ps ++ s .aggregates)) o →
+        Sized (regrouped same s ps o)
     regrouped-sized ps p none b = tt
     regrouped-sized ps p (some qs) b =
         let n : ℕ = length (permute 0 (s .groups) ps ++ s .aggregates) in

@@ -135,7 +135,9 @@ join-sized x l = record {
 
 -- ---- the answer fits
 
-pub key-answer-fits : (s : List ℕ) (x : KeySheet) (a : KeyAnswer) → readKeySheet s ≡ sheet x → adjustInputKeysOrdering sameExpr x ≡ answered a → length (keyAnswerText a) ≤ mostBytes
+pub key-answer-fits :
+    (s : List ℕ) (x : KeySheet) (a : KeyAnswer) → readKeySheet s ≡ sheet x → adjustInputKeysOrdering sameExpr x ≡ answered a →
+    length (keyAnswerText a) ≤ mostBytes
 key-answer-fits s x a r e =
     omega (arith, key-answer-long 65535 4 32 (omega arith) 8 a (key-answer-sized 65535 32 8 (omega arith) (omega arith) sameExpr x (key-sized x (key-read-legal s x r)) a e))
 

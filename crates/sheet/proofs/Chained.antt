@@ -38,7 +38,9 @@ before-behind : (fs : List Field) (rs : List (List Field)) (r : Run) → before 
 before-behind fs rs (read qs ls l p) = refl
 before-behind fs rs (refused n l) = refl
 
-onward·at : (b : Bool) (fs : List Field) (r : Run) (n line : ℕ) (f : ℕ → ℕ → List (List ℕ) → Run) → cond b (before fs (onward r f)) (refused n line) ≡ onward (cond b (before fs r) (refused n line)) f
+onward·at :
+    (b : Bool) (fs : List Field) (r : Run) (n line : ℕ) (f : ℕ → ℕ → List (List ℕ) → Run) →
+    cond b (before fs (onward r f)) (refused n line) ≡ onward (cond b (before fs r) (refused n line)) f
 onward·at true fs (read rs ls l p) n line f = before-behind fs rs (f l p ls)
 onward·at true fs (refused m l) n line f = refl
 onward·at false fs r n line f = refl
@@ -77,11 +79,15 @@ module _ {A : Type 0} (stages : List Field → List Stage) (whole : List Field �
   ended-before fs (read rs ls l p) = refl
   ended-before fs (refused n l) = refl
 
-  head·at : (b : Bool) (fs : List Field) (n line at : ℕ) (ls : List (List ℕ)) → Each (λ c. Counted (c .kind)) (stages fs) → afterHead (cond b (read (fs ∷ []) ls line at) (refused n 1)) ≡ ended wholeRows (cond b (before fs (inTurn (kindsOf (stages fs)) line at ls)) (refused n 1))
+  head·at :
+      (b : Bool) (fs : List Field) (n line at : ℕ) (ls : List (List ℕ)) → Each (λ c. Counted (c .kind)) (stages fs) →
+      afterHead (cond b (read (fs ∷ []) ls line at) (refused n 1)) ≡ ended wholeRows (cond b (before fs (inTurn (kindsOf (stages fs)) line at ls)) (refused n 1))
   head·at true fs n line at ls e = rw (chain-in-turn (stages fs) e line at ls) (ended-before fs (inTurn (kindsOf (stages fs)) line at ls))
   head·at false fs n line at ls e = refl
 
-  pub head-in-turn : (k : Kind) → Counted k → ((fs : List Field) → Each (λ c. Counted (c .kind)) (stages fs)) → (ls : List (List ℕ)) → afterHead (rowsOf k 1 0 1 0 ls) ≡ ended wholeRows (inTurn (k ∷ kindsOf (stages (fieldsOf (firstOf (k .letter) ls)))) 1 0 ls)
+  pub head-in-turn :
+      (k : Kind) → Counted k → ((fs : List Field) → Each (λ c. Counted (c .kind)) (stages fs)) → (ls : List (List ℕ)) →
+      afterHead (rowsOf k 1 0 1 0 ls) ≡ ended wholeRows (inTurn (k ∷ kindsOf (stages (fieldsOf (firstOf (k .letter) ls)))) 1 0 ls)
   unfolding inTurn
   head-in-turn k c e ls =
       let x : Option (List Field) = firstOf (k .letter) ls in

@@ -128,7 +128,9 @@ whole·at false y x e = let z : _≡_ {A = ℕ} 0 1 = cc in absurd (omega arith)
 pub key-made : (k : List Field) (rs : List (List Field)) (x : KeySheet) → keyWhole k rs ≡ sheet x → (keyListsFit (keySheetOf k rs) ≡ true) × (keySheetOf k rs ≡ x)
 key-made k rs x e = whole·at (keyListsFit (keySheetOf k rs)) (keySheetOf k rs) x e
 
-pub join-made : (k : List Field) (rs : List (List Field)) (x : JoinSheet) → joinWhole k rs ≡ sheet x → (joinListsFit (joinSheetOf k rs) rs ≡ true) × (joinSheetOf k rs ≡ x)
+pub join-made :
+    (k : List Field) (rs : List (List Field)) (x : JoinSheet) → joinWhole k rs ≡ sheet x →
+    (joinListsFit (joinSheetOf k rs) rs ≡ true) × (joinSheetOf k rs ≡ x)
 join-made k rs x e = whole·at (joinListsFit (joinSheetOf k rs) rs) (joinSheetOf k rs) x e
 
 -- H and N have no keys after mark 0

@@ -123,7 +123,9 @@ mark·at false n e h = let ne : n ≡ 1 → ⊥ = eqb-false n 1 e in omega arith
 pub mark-again : (n : ℕ) → n ≤ 1 → markNumber (mark n) ≡ n
 mark-again n h = mark·at (mark n) n refl h
 
-input·at : (t : Bool) (m : ℕ) (ns : List ℕ) → mark m ≡ t → m ≤ 1 → length ns % 3 ≡ 0 → (not t && not (eqb (length ns) 0)) ≡ false → inputNumbers (cond t (some (exprs ns)) none) ≡ m ∷ ns
+input·at :
+    (t : Bool) (m : ℕ) (ns : List ℕ) → mark m ≡ t → m ≤ 1 → length ns % 3 ≡ 0 → (not t && not (eqb (length ns) 0)) ≡ false →
+    inputNumbers (cond t (some (exprs ns)) none) ≡ m ∷ ns
 input·at true m ns e h l u = rw (eqb-true m 1 e) (ap (λ (ys : List ℕ). 1 ∷ ys) (exprs-again ns l))
 input·at false m [] e h l u = ap (λ (x : ℕ). x ∷ []) (mark·at false m e h)
 input·at false m (n ∷ ns) e h l u = let z : suc (length ns) ≡ 0 = eqb-true (suc (length ns)) 0 (not-false (eqb (suc (length ns)) 0) u) in absurd (omega arith)

@@ -48,11 +48,15 @@ module _ {A : Type 0} where
   ended-before whole fs (read rs ls l p) = refl
   ended-before whole fs (refused n l) = refl
 
-  line·at : (t : Bool) (whole : List (List Field) → Reading A) (fs : List Field) (r : Run) (n line : ℕ) (s : Reading A) → ended (λ rs. whole (fs ∷ rs)) r ≡ s → ended whole (cond t (before fs r) (refused n line)) ≡ cond t s (turned n line)
+  line·at :
+      (t : Bool) (whole : List (List Field) → Reading A) (fs : List Field) (r : Run) (n line : ℕ) (s : Reading A) →
+      ended (λ rs. whole (fs ∷ rs)) r ≡ s → ended whole (cond t (before fs r) (refused n line)) ≡ cond t s (turned n line)
   line·at true whole fs r n line s e = ended-before whole fs r ∙ e
   line·at false whole fs r n line s e = refl
 
-  pub turn-judged : (whole : List (List Field) → Reading A) (ks : List Kind) (line at : ℕ) (ls : List (List ℕ)) → ended whole (inTurn ks line at ls) ≡ judged line (lineNumbers ks at ls) (whole (lineRows ks ls))
+  pub turn-judged :
+      (whole : List (List Field) → Reading A) (ks : List Kind) (line at : ℕ) (ls : List (List ℕ)) →
+      ended whole (inTurn ks line at ls) ≡ judged line (lineNumbers ks at ls) (whole (lineRows ks ls))
   unfolding inTurn judged lineNumbers lineRows
   turn-judged whole [] line at ls = end·at (atEnd ls) (whole []) line
   turn-judged whole (k ∷ ks) line at ls =
@@ -86,7 +90,9 @@ module _ {A : Type 0} where
       (FirstLine (suc line) ns n l → judged (suc line) ns r ≡ turned n l) → cond t (judged (suc line) ns r) (turned m line) ≡ turned n l
   turned·at t line m ns r n l f e ih = go t e (f .past) (f .line) (f .number) (f .first)
     where
-      go : (t : Bool) → eqb m 0 ≡ t → (p : ℕ) → l ≡ line + p → getD (m ∷ ns) p 0 ≡ n → ((i : ℕ) → i < p → getD (m ∷ ns) i 0 ≡ 0) → cond t (judged (suc line) ns r) (turned m line) ≡ turned n l
+      go :
+          (t : Bool) → eqb m 0 ≡ t → (p : ℕ) → l ≡ line + p → getD (m ∷ ns) p 0 ≡ n → ((i : ℕ) → i < p → getD (m ∷ ns) i 0 ≡ 0) →
+          cond t (judged (suc line) ns r) (turned m line) ≡ turned n l
       go true e zero q a h = absurd (f .wrong (sym a ∙ eqb-true m 0 e))
       go true e (suc p) q a h = ih (record { past = p; line = omega arith; number = a; wrong = f .wrong; first = λ i k. h (suc i) (omega arith) })
       go false e zero q a h = let z : line ≡ l = omega arith in rw (a, z)
@@ -102,7 +108,9 @@ module _ {A : Type 0} where
   none-judged line [] r h = refl
   none-judged line (m ∷ ns) r h = rw (eq-eqb m 0 (h 0)) (none-judged (suc line) ns r (λ i. h (suc i)))
 
-  sheet·at : (t : Bool) (line m : ℕ) (ns : List ℕ) (r : Reading A) (x : A) → eqb m 0 ≡ t → cond t (judged (suc line) ns r) (turned m line) ≡ sheet x → (judged (suc line) ns r ≡ sheet x → NoLine ns × (r ≡ sheet x)) → NoLine (m ∷ ns) × (r ≡ sheet x)
+  sheet·at :
+      (t : Bool) (line m : ℕ) (ns : List ℕ) (r : Reading A) (x : A) → eqb m 0 ≡ t → cond t (judged (suc line) ns r) (turned m line) ≡ sheet x →
+      (judged (suc line) ns r ≡ sheet x → NoLine ns × (r ≡ sheet x)) → NoLine (m ∷ ns) × (r ≡ sheet x)
   sheet·at true line m ns r x t e ih = let p = ih e in (no-line m ns (eqb-true m 0 t) (p .0), p .1)
   sheet·at false line m ns r x t e ih = let z : _≡_ {A = ℕ} 0 1 = cc in absurd (omega arith)
 

@@ -121,7 +121,9 @@ record Goes (b : Bool) (fs : List Field) (r : Run) (rs : List (List Field)) (ls 
   rows : rs ≡ fs ∷ qs
   goes : r ≡ read qs ls l p
 
-goes-on : (b : Bool) (fs : List Field) (r : Run) (n line : ℕ) (rs : List (List Field)) (ls : List (List ℕ)) (l p : ℕ) → cond b (before fs r) (refused n line) ≡ read rs ls l p → Goes b fs r rs ls l p
+goes-on :
+    (b : Bool) (fs : List Field) (r : Run) (n line : ℕ) (rs : List (List Field)) (ls : List (List ℕ)) (l p : ℕ) →
+    cond b (before fs r) (refused n line) ≡ read rs ls l p → Goes b fs r rs ls l p
 goes-on true fs (read qs ms m q) n line rs ls l p e =
     let a : ms ≡ ls = cc in
     let b : m ≡ l = cc in
@@ -154,7 +156,9 @@ module _ (k : Kind) (c : Counted k) (ks : List Kind) (line at : ℕ) (s : List �
         within = λ h. omega (arith, w .within (omega (arith, t .within)), length-append one (rowsText ks (g .qs)));
       })
 
-pub rows-written : (ks : List Kind) → Each Counted ks → (line at : ℕ) (s : List ℕ) (rs : List (List Field)) (ls : List (List ℕ)) (l p : ℕ) → inTurn ks line at (parts 10 s) ≡ read rs ls l p → Written ks at s rs ls
+pub rows-written :
+    (ks : List Kind) → Each Counted ks → (line at : ℕ) (s : List ℕ) (rs : List (List Field)) (ls : List (List ℕ)) (l p : ℕ) →
+    inTurn ks line at (parts 10 s) ≡ read rs ls l p → Written ks at s rs ls
 unfolding inTurn
 rows-written [] cs line at s rs ls l p e =
     let q : [] ≡ rs = cc in
