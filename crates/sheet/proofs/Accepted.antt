@@ -103,10 +103,11 @@ module _ {A : Type 0} (k : Kind) (stages : List Field → List Stage) (whole : L
     accepts s x a =
         let h : List Field = a .head in
         let rs : List (List Field) = h ∷ a .rows in
+        let first : fieldsOf (firstOf (k .letter) (parts 10 s)) ≡ h = head-of s h (kindsOf (stages h)) (a .rows) (first-fine h (a .rows) (a .fine)) (a .text) in
         let t : s ≡ rowsText (kinds h) rs ++ [] = sym (a .text) ∙ sym (append-nil (rowsText (kinds h) rs)) in
         let l : 0 + length (rowsText (kinds h) rs) ≤ mostBytes = omega (arith, a .short, ap length (a .text)) in
         head-in-turn stages whole k c cs (parts 10 s)
-        ∙ ap (λ (fs : List Field). ended (wholeRows stages whole) (inTurn (kinds fs) 1 0 (parts 10 s))) (head-of s h (kindsOf (stages h)) (a .rows) (first-fine h (a .rows) (a .fine)) (a .text))
+        ∙ ap (λ (fs : List Field). ended (wholeRows stages whole) (inTurn (kinds fs) 1 0 (parts 10 s))) first
         ∙ ap (λ (ys : List ℕ). ended (wholeRows stages whole) (inTurn (kinds h) 1 0 (parts 10 ys))) t
         ∙ ap (ended (wholeRows stages whole)) (rows-read (kinds h) rs (all h) (a .fine) 1 0 [] l)
         ∙ a .is

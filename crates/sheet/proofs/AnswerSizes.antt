@@ -30,7 +30,8 @@ module _ (m e : ℕ) where
   shifted-each columns [] h = tt
   shifted-each columns (x ∷ es) h =
       by-test (λ o. Each (Within m) (orEmpty o)) (eqb (x .kind) 0 && leb columns (x .index))
-      (λ t. onto-sized (column (x .name) (x .index - columns)) (shifted columns es) (record { kind = omega arith; name = h .0 .name; index = omega (arith, h .0 .index) }) (shifted-each columns es (h .1)))
+      (λ t. onto-sized (column (x .name) (x .index - columns)) (shifted columns es)
+      (record { kind = omega arith; name = h .0 .name; index = omega (arith, h .0 .index) }) (shifted-each columns es (h .1)))
       (λ t. tt)
 
   onto-length : (x : Expression) (o : Option (List Expression)) → length (orEmpty (onto x o)) ≤ suc (length (orEmpty o))
@@ -55,7 +56,8 @@ module _ (m e : ℕ) where
   each-mapped g k (c ∷ cs) h = (k c (h .0), each-mapped g k cs (h .1))
 
   handed-sized :
-      (n : ℕ) (f g : List Expression → List Expression) → ((c : List Expression) → ExprList m e c → ExprList m e (f c)) → ((c : List Expression) → ExprList m e c → ExprList m e (g c)) →
+      (n : ℕ) (f g : List Expression → List Expression) →
+      ((c : List Expression) → ExprList m e c → ExprList m e (f c)) → ((c : List Expression) → ExprList m e c → ExprList m e (g c)) →
       (cs : List (List Expression)) → Few n (ExprList m e) cs → Few n (ExprList m e) (handOver f g cs)
   handed-sized n f g hf hg [] h = h
   handed-sized n f g hf hg (c ∷ cs) h =
@@ -206,7 +208,8 @@ module _ (m e c : ℕ) (places : e + e ≤ m) (codes : 3 ≤ m) where
         by-test Sized (eqb (length (s .required)) 0) (λ t. unchanged-sized)
         (λ t. by-test Sized (eqb (s .mode) 0)
         (λ u. by-test Sized (eqb (length (s .required)) (length columns) && (s .plain && not (sameList same columns (s .required))))
-        (λ v. acting-sized (expectedExprPositions same placeholder columns (s .required)) (positions-placed same placeholder e columns (s .required) (omega (arith, columns-length 0 (s .groups), h .groups .few)) (h .required .few)))
+        (λ v. acting-sized (expectedExprPositions same placeholder columns (s .required))
+        (positions-placed same placeholder e columns (s .required) (omega (arith, columns-length 0 (s .groups), h .groups .few)) (h .required .few)))
         (λ v. stays-sized))
         (λ u. cleared-sized))
 

@@ -139,11 +139,13 @@ pub key-answer-fits :
     (s : List ℕ) (x : KeySheet) (a : KeyAnswer) → readKeySheet s ≡ sheet x → adjustInputKeysOrdering sameExpr x ≡ answered a →
     length (keyAnswerText a) ≤ mostBytes
 key-answer-fits s x a r e =
-    omega (arith, key-answer-long 65535 4 32 (omega arith) 8 a (key-answer-sized 65535 32 8 (omega arith) (omega arith) sameExpr x (key-sized x (key-read-legal s x r)) a e))
+    let z = key-answer-sized 65535 32 8 (omega arith) (omega arith) sameExpr x (key-sized x (key-read-legal s x r)) a e in
+    omega (arith, key-answer-long 65535 4 32 (omega arith) 8 a z)
 
 pub join-answer-fits : (s : List ℕ) (x : JoinSheet) → readJoinSheet s ≡ sheet x → length (joinAnswerText (reorderJoinKeysToInputs x sameExpr)) ≤ mostBytes
 join-answer-fits s x r =
-    omega (arith, join-answer-long 65535 4 32 (omega arith) (reorderJoinKeysToInputs x sameExpr) (join-answer-sized 65535 32 (omega arith) (omega arith) sameExpr x (join-sized x (join-read-legal s x r))))
+    let z = join-answer-sized 65535 32 (omega arith) (omega arith) sameExpr x (join-sized x (join-read-legal s x r)) in
+    omega (arith, join-answer-long 65535 4 32 (omega arith) (reorderJoinKeysToInputs x sameExpr) z)
 
 -- what is written, if anything, has at most 65,536 bytes
 abbrev pub Fits : Outcome → Type 0

@@ -29,8 +29,9 @@ rows-in-turn k c zero seen line at (l ∷ ls) = rw (c .stops 0 (firstOf (k .lett
 rows-in-turn k c (suc n) seen line at [] = rw (c .stops (suc n) none, ne-eqb (suc n) 0 (λ e. omega arith))
 rows-in-turn k c (suc n) seen line at (l ∷ ls) =
     let x : Option (List Field) = firstOf (k .letter) (l ∷ ls) in
+    let next : ℕ = nextOf at (l ∷ ls) in
     let e : suc n - 1 ≡ n = omega arith in
-    rw (c .stops (suc n) x, ne-eqb (suc n) 0 (λ e. omega arith), number-seen k c seen (nextOf at (l ∷ ls)) x, c .owes (suc n) (fieldsOf x), e, rows-in-turn k c n (suc seen) (suc line) (nextOf at (l ∷ ls)) ls)
+    rw (c .stops (suc n) x, ne-eqb (suc n) 0 (λ e. omega arith), number-seen k c seen next x, c .owes (suc n) (fieldsOf x), e, rows-in-turn k c n (suc seen) (suc line) next ls)
 
 -- ---- lines behind lines
 

@@ -31,7 +31,8 @@ module _ (m e : ℕ) (places : e + e ≤ m) (codes : 3 ≤ m) (same : Expression
   }
 
   side-sized :
-      (side : ℕ) → side ≤ 2 → (w : List (Rule Expression)) (impossible unhashed : JoinAnswer) → Sized impossible → Sized unhashed → (o : Option (List Expression)) → InputList m e o →
+      (side : ℕ) → side ≤ 2 → (w : List (Rule Expression)) (impossible unhashed : JoinAnswer) →
+      Sized impossible → Sized unhashed → (o : Option (List Expression)) → InputList m e o →
       Sized (trySide s same side w impossible unhashed o)
   side-sized side l w i u hi hu none k = hu
   side-sized side l w i u hi hu (some keys) k =

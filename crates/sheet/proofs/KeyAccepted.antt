@@ -6,7 +6,7 @@ use mathlib.Core.List.{List}
 use mathlib.Core.Bool.{Bool, true, false, cond, not}
 use lib.Dec.{eqb}
 use lib.ListN.{length}
-use borrow.Author.Tests.{not-true}
+use borrow.Author.Tests.{not-true, eqb-false}
 use Rattle.text.specs.Text.{Field, parts}
 use Rattle.text.proofs.Exact.{both}
 use Rattle.keys.specs.Adjust.{KeySheet}
@@ -24,13 +24,13 @@ use Rattle.sheet.proofs.KeyRows.{key-text, join-text}
 
 -- ---- their kinds are counted
 
-list-counted : (letter width : ℕ) (undefined : List Field → Bool) → (letter ≡ 10 → ⊥) → Counted (listLine letter width undefined)
+list-counted : (letter width : ℕ) (undefined : List Field → Bool) → eqb letter 10 ≡ false → Counted (listLine letter width undefined)
 unfolding readable
-list-counted letter width undefined ne = record { letter = ne; heads = refl; stops = λ o x. refl; owes = λ o fs. refl; large = λ n fs. refl }
+list-counted letter width undefined ne = record { letter = eqb-false letter 10 ne; heads = refl; stops = λ o x. refl; owes = λ o fs. refl; large = λ n fs. refl }
 
-input-counted : (letter : ℕ) → (letter ≡ 10 → ⊥) → Counted (inputLine letter)
+input-counted : (letter : ℕ) → eqb letter 10 ≡ false → Counted (inputLine letter)
 unfolding readable
-input-counted letter ne = record { letter = ne; heads = refl; stops = λ o x. refl; owes = λ o fs. refl; large = λ n fs. refl }
+input-counted letter ne = record { letter = eqb-false letter 10 ne; heads = refl; stops = λ o x. refl; owes = λ o fs. refl; large = λ n fs. refl }
 
 key-counted : Counted keyLine
 unfolding readable
@@ -44,37 +44,15 @@ abbrev pub stagesOfKey : List Field → List Stage
 stagesOfKey fs = keyStages (at fs 6)
 
 key-stages-counted : (fs : List Field) → Each (λ c. Counted (c .kind)) (stagesOfKey fs)
-key-stages-counted fs = (
-  list-counted 82 3 _ (λ e. omega arith),
-  (
-    list-counted 76 3 _ (λ e. omega arith),
-    (
-      list-counted 71 3 _ (λ e. omega arith),
-      (
-        list-counted 83 1 _ (λ e. omega arith),
-        (list-counted 87 6 _ (λ e. omega arith), (list-counted 79 1 _ (λ e. omega arith), (list-counted 65 1 _ (λ e. omega arith), (list-counted 77 3 _ (λ e. omega arith), (list-counted 67 3 _ (λ e. omega arith), tt))))),
-      ),
-    ),
-  ),
-)
+key-stages-counted fs =
+    (list-counted 82 3 _ refl, (list-counted 76 3 _ refl, (list-counted 71 3 _ refl, (list-counted 83 1 _ refl, (list-counted 87 6 _ refl, (list-counted 79 1 _ refl, (list-counted 65 1 _ refl, (list-counted 77 3 _ refl, (list-counted 67 3 _ refl, tt)))))))))
 
 abbrev pub stagesOfInput : List Field → List Stage
 stagesOfInput fs = inputStages
 
 input-stages-counted : (fs : List Field) → Each (λ c. Counted (c .kind)) (stagesOfInput fs)
-input-stages-counted fs = (
-  list-counted 76 3 _ (λ e. omega arith),
-  (
-    list-counted 71 3 _ (λ e. omega arith),
-    (
-      list-counted 83 1 _ (λ e. omega arith),
-      (
-        input-counted 72 (λ e. omega arith),
-        (input-counted 78 (λ e. omega arith), (list-counted 87 6 _ (λ e. omega arith), (list-counted 86 6 _ (λ e. omega arith), tt))),
-      ),
-    ),
-  ),
-)
+input-stages-counted fs =
+    (list-counted 76 3 _ refl, (list-counted 71 3 _ refl, (list-counted 83 1 _ refl, (input-counted 72 refl, (input-counted 78 refl, (list-counted 87 6 _ refl, (list-counted 86 6 _ refl, tt)))))))
 
 -- ---- what is accepted
 

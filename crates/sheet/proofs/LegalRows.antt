@@ -39,6 +39,11 @@ unfolding allowsAll
 small-allowed [] h = refl
 small-allowed (n ∷ ns) h = rw (le-leb n 65535 (h .0)) (small-allowed ns (h .1))
 
+pub small-fits : (ns : List ℕ) → Each Small ns → fits (replicate (length ns) plain) (numbers ns) ≡ true
+unfolding fits
+small-fits [] h = refl
+small-fits (n ∷ ns) h = rw (le-leb n 65535 (h .0)) (small-fits ns (h .1))
+
 allowed·at : (f : Field) → allows plain f ≡ true → Small (valueOf f)
 allowed·at (number n) e = leb-true n 65535 e
 allowed·at empty e = omega arith
@@ -133,7 +138,8 @@ exprs-rules (e ∷ f ∷ es) h = (record { from = h .0; to = h .1 .0 }, exprs-ru
 -- ---- list lines
 
 list-fine :
-    (letter width : ℕ) (undefined : List Field → Bool) (ns : List ℕ) → Each Small ns → wholeEntries width (length ns) ≡ true → length ns ≤ mostEntries * width → undefined (numbers ns) ≡ false →
+    (letter width : ℕ) (undefined : List Field → Bool) (ns : List ℕ) →
+    Each Small ns → wholeEntries width (length ns) ≡ true → length ns ≤ mostEntries * width → undefined (numbers ns) ≡ false →
     Fine (listLine letter width undefined) (numbers ns)
 unfolding fits
 list-fine letter width undefined ns h w l u =
@@ -150,7 +156,8 @@ list-fine letter width undefined ns h w l u =
 pub exprs-fine : (letter : ℕ) (es : List Expression) → LegalExprs es → Fine (exprLine letter) (numbers (exprNumbers es))
 exprs-fine letter es l =
     let n = exprs-count es in
-    list-fine letter 3 _ (exprNumbers es) (exprs-small es (l .each)) (eq-eqb (length (exprNumbers es) % 3) 0 (omega arith)) (omega (arith, l .few)) (rw (values-numbers (exprNumbers es)) (exprs-defined es (l .each)))
+    list-fine letter 3 _ (exprNumbers es) (exprs-small es (l .each)) (eq-eqb (length (exprNumbers es) % 3) 0 (omega arith)) (omega (arith, l .few))
+    (rw (values-numbers (exprNumbers es)) (exprs-defined es (l .each)))
 
 pub rules-fine : (letter : ℕ) (rs : List (Rule Expression)) → Listed LegalRule rs → Fine (ruleLine letter) (numbers (exprNumbers (ruleExprs rs)))
 rules-fine letter rs l =
@@ -158,14 +165,16 @@ rules-fine letter rs l =
     let n = exprs-count es in
     let m = rules-count rs in
     let h = rules-exprs rs (l .each) in
-    list-fine letter 6 _ (exprNumbers es) (exprs-small es h) (eq-eqb (length (exprNumbers es) % 6) 0 (omega arith)) (omega (arith, l .few)) (rw (values-numbers (exprNumbers es)) (exprs-defined es h))
+    list-fine letter 6 _ (exprNumbers es) (exprs-small es h) (eq-eqb (length (exprNumbers es) % 6) 0 (omega arith)) (omega (arith, l .few))
+    (rw (values-numbers (exprNumbers es)) (exprs-defined es h))
 
 one-wide : (n : ℕ) → wholeEntries 1 n ≡ true
 one-wide n = eq-eqb (n % 1) 0 (omega arith)
 
 pub directions-fine : (letter : ℕ) (ns : List ℕ) → Listed (λ d. d ≤ 3) ns → Fine (directionLine letter) (numbers ns)
 directions-fine letter ns l =
-    list-fine letter 1 _ ns (each-weaker (λ d. d ≤ 3) Small (λ d h. omega arith) ns (l .each)) (one-wide (length ns)) (omega (arith, l .few)) (rw (values-numbers ns) (over-none 3 ns (l .each)))
+    list-fine letter 1 _ ns (each-weaker (λ d. d ≤ 3) Small (λ d h. omega arith) ns (l .each)) (one-wide (length ns)) (omega (arith, l .few))
+    (rw (values-numbers ns) (over-none 3 ns (l .each)))
 
 pub names-fine : (letter : ℕ) (ns : List ℕ) → Listed Small ns → Fine (nameLine letter) (numbers ns)
 names-fine letter ns l = list-fine letter 1 never ns (l .each) (one-wide (length ns)) (omega (arith, l .few)) refl

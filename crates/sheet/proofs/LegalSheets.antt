@@ -25,10 +25,10 @@ use Rattle.sheet.specs.KeyTexts.{markNumber, ruleExprs, rulesLine, input
 use Rattle.sheet.specs.Sizes.{Each}
 use Rattle.sheet.specs.Refusals.{kindsOf}
 use Rattle.sheet.proofs.InTurn.{rowsText, Fine, FineRows, empty, more}
-use Rattle.sheet.specs.LegalSheets.{LegalExprs, LegalKeySheet, LegalJoinSheet}
+use Rattle.sheet.specs.LegalSheets.{Small, LegalExprs, LegalKeySheet, LegalJoinSheet}
 use Rattle.sheet.proofs.Numbers.{fit-heads}
 use Rattle.sheet.proofs.KeyRows.{key-codes, children-count}
-use Rattle.sheet.proofs.LegalRows.{numbers, allowed-at, fits-plain, values-numbers, exprs-back, rules-back, input-back, mark-back, used-keys, exprs-fine, rules-fine, directions-fine, names-fine, input-fine, fine-exprs, fine-rules, fine-directions, fine-names, fine-input}
+use Rattle.sheet.proofs.LegalRows.{numbers, allowed-at, small-fits, fits-plain, values-numbers, exprs-back, rules-back, input-back, mark-back, used-keys, exprs-fine, rules-fine, directions-fine, names-fine, input-fine, fine-exprs, fine-rules, fine-directions, fine-names, fine-input}
 use Rattle.sheet.proofs.KeyAccepted.{key-accepted, join-accepted, key-made, join-made, JoinFits, join-fits, key-written-again, join-written-again}
 
 -- ---- codes are small
@@ -51,8 +51,11 @@ mark-small false = omega arith
 
 -- ---- a K sheet's rows
 
+abbrev headNumbers : KeySheet → List ℕ
+headNumbers x = x .op ∷ x .mode ∷ x .join ∷ x .columns ∷ markNumber (x .plain) ∷ markNumber (x .partial) ∷ length (x .children) ∷ []
+
 abbrev keyHead : KeySheet → List Field
-keyHead x = numbers (x .op ∷ x .mode ∷ x .join ∷ x .columns ∷ markNumber (x .plain) ∷ markNumber (x .partial) ∷ length (x .children) ∷ [])
+keyHead x = numbers (headNumbers x)
 
 abbrev keyRows : KeySheet → List (List Field)
 keyRows x =
@@ -60,13 +63,19 @@ keyRows x =
     ∷ numbers (exprNumbers (ruleExprs (x .rewriting))) ∷ numbers (x .groups) ∷ numbers (x .aggregates) ∷ numbers (exprNumbers (x .mapped))
     ∷ map (λ es. numbers (exprNumbers es)) (x .children)
 
+head-small : (x : KeySheet) → LegalKeySheet x → Each Small (headNumbers x)
+head-small x l =
+    let mode : Small (x .mode) = omega (arith, mode-small (x .op) (x .mode) (l .mode)) in
+    let join : Small (x .join) = omega (arith, join·at (eqb (x .op) 0) (x .join) (l .join)) in
+    let mark : (b : Bool) → Small (markNumber b) = λ b. omega (arith, mark-small b) in
+    (omega (arith, l .op), (mode, (join, (l .columns, (mark (x .plain), (mark (x .partial), (omega (arith, l .few), tt)))))))
+
 key-head-fine : (x : KeySheet) → LegalKeySheet x → Fine keyLine (keyHead x)
-unfolding fits allowsAll
+unfolding allowsAll
 key-head-fine x l =
-    let small : (n : ℕ) → n ≤ 65535 → leb n 65535 ≡ true = λ n h. le-leb n 65535 h in
     let mark : (b : Bool) → leb (markNumber b) 1 ≡ true = λ b. le-leb (markNumber b) 1 (mark-small b) in
     record {
-      fit = rw (small (x .op) (omega (arith, l .op)), small (x .mode) (omega (arith, mode-small (x .op) (x .mode) (l .mode))), small (x .join) (omega (arith, join·at (eqb (x .op) 0) (x .join) (l .join))), small (x .columns) (l .columns), small (markNumber (x .plain)) (omega (arith, mark-small (x .plain))), small (markNumber (x .partial)) (omega (arith, mark-small (x .partial))), small (length (x .children)) (omega (arith, l .few)));
+      fit = rw (small-fits (headNumbers x) (head-small x l));
       formed = refl;
       few = refl;
       small = le-ltb 8 (length (x .children)) (l .few);
@@ -135,7 +144,10 @@ children-legal (suc n) (fs ∷ cs) (more f r) = (fine-exprs 67 fs f, children-le
 key-legal :
     (k : List Field) (rs : List (List Field)) → FineRows (keyLine ∷ kindsOf (keyStages (at k 6))) (k ∷ rs) → keyListsFit (keySheetOf k rs) ≡ true →
     length (keySheetText (keySheetOf k rs)) ≤ mostBytes → LegalKeySheet (keySheetOf k rs)
-key-legal k rs (more fk (more {fs = r} fr (more {fs = l} fl (more {fs = g} fg (more {fs = s} fs (more {fs = w} fw (more {fs = o} fo (more {fs = a} fa (more {fs = m} {rs = cs} fm fc))))))))) fit bytes =
+key-legal
+    k rs
+    (more fk (more {fs = r} fr (more {fs = l} fl (more {fs = g} fg (more {fs = s} fs (more {fs = w} fw (more {fs = o} fo (more {fs = a} fa (more {fs = m} {rs = cs} fm fc)))))))))
+    fit bytes =
     let n : length (map (λ fs. exprs (values fs)) cs) ≡ at k 6 = length-map cs (λ fs. exprs (values fs)) ∙ children-count (at k 6) cs fc in
     let c = key-codes k fk in
     record {
@@ -178,7 +190,7 @@ joinRows x =
 join-head-fine : (x : JoinSheet) → LegalJoinSheet x → Fine inputHead (joinHead x)
 unfolding fits allowsAll
 join-head-fine x l = record {
-  fit = rw (le-leb (x .op) 65535 (omega (arith, l .op)), le-leb (x .mode) 65535 (omega (arith, mode-small (x .op) (x .mode) (l .mode))));
+  fit = rw (small-fits (x .op ∷ x .mode ∷ []) (omega (arith, l .op), (omega (arith, mode-small (x .op) (x .mode) (l .mode)), tt)));
   formed = refl;
   few = refl;
   small = refl;

@@ -84,12 +84,15 @@ module _ (m e : ℕ) (places : e + e ≤ m) (codes : 3 ≤ m) where
 
   module _ (same : Expression → Expression → Bool) (w : List (Rule Expression)) (r l g : List Expression) (hr : ExprList m e r) (hl : ExprList m e l) (hg : ExprList m e g) where
     either-placed : (r l g : List Expression) → length r ≤ e → length l ≤ e → length g ≤ e → Placed e (eitherSide same placeholder r l g)
-    either-placed r l g a b c = placed-either e (expectedExprPositions same placeholder l r) (expectedExprPositions same placeholder g r) (positions-placed same placeholder e l r b a) (positions-placed same placeholder e g r c a)
+    either-placed r l g a b c =
+        placed-either e (expectedExprPositions same placeholder l r) (expectedExprPositions same placeholder g r)
+        (positions-placed same placeholder e l r b a) (positions-placed same placeholder e g r c a)
 
     searched-placed : Placed e (searched same placeholder w r l g)
     searched-placed =
         let rewritten : (xs : List Expression) → length xs ≤ e → length (rewrite same w xs) ≤ e = λ xs h. omega (arith, rewrite-length same w xs) in
-        placed-either e (eitherSide same placeholder r l g) (eitherSide same placeholder (rewrite same w r) (rewrite same w l) (rewrite same w g)) (either-placed r l g (hr .few) (hl .few) (hg .few))
+        placed-either e (eitherSide same placeholder r l g) (eitherSide same placeholder (rewrite same w r) (rewrite same w l) (rewrite same w g))
+        (either-placed r l g (hr .few) (hl .few) (hg .few))
         (either-placed (rewrite same w r) (rewrite same w l) (rewrite same w g) (rewritten r (hr .few)) (rewritten l (hl .few)) (rewritten g (hg .few)))
 
     stood : (report : ℕ) → report ≤ 3 → SizedTried m e (record { report = report; positions = []; left = l; right = g })
