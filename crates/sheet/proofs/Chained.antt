@@ -65,6 +65,11 @@ chain-in-turn (c ∷ cs) e line at ls =
     (λ j. onward (rows-in-turn (c .kind) (e .0) (c .count) 0 line at ls j) (λ l p ms. chain-in-turn cs (e .1) l p ms j))
     ∙ sym (turn-append (replicate (c .count) (c .kind)) (kindsOf cs) line at ls)
 
+-- a row in front of what was read is a row in front of what the sheet is made of
+pub ended-before : {A : Type 0} (whole : List (List Field) → Reading A) (fs : List Field) (r : Run) → ended whole (before fs r) ≡ ended (λ rs. whole (fs ∷ rs)) r
+ended-before whole fs (read rs ls l p) = refl
+ended-before whole fs (refused n l) = refl
+
 -- ---- a head line, and the stages that its fields ask for
 
 module _ {A : Type 0} (stages : List Field → List Stage) (whole : List Field → List (List Field) → Reading A) where
@@ -76,14 +81,10 @@ module _ {A : Type 0} (stages : List Field → List Stage) (whole : List Field �
   abbrev pub wholeRows : List (List Field) → Reading A
   wholeRows rs = whole (headOf rs) (drop 1 rs)
 
-  ended-before : (fs : List Field) (r : Run) → ended (whole fs) r ≡ ended wholeRows (before fs r)
-  ended-before fs (read rs ls l p) = refl
-  ended-before fs (refused n l) = refl
-
   head·at :
       (b : Bool) (fs : List Field) (n line at : ℕ) (ls : List (List ℕ)) → Each (λ c. Counted (c .kind)) (stages fs) →
       afterHead (cond b (read (fs ∷ []) ls line at) (refused n 1)) ≡ ended wholeRows (cond b (before fs (inTurn (kindsOf (stages fs)) line at ls)) (refused n 1))
-  head·at true fs n line at ls e = rw (chain-in-turn (stages fs) e line at ls) (ended-before fs (inTurn (kindsOf (stages fs)) line at ls))
+  head·at true fs n line at ls e = rw (chain-in-turn (stages fs) e line at ls) (sym (ended-before wholeRows fs (inTurn (kindsOf (stages fs)) line at ls)))
   head·at false fs n line at ls e = refl
 
   pub head-in-turn :

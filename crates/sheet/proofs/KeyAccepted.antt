@@ -99,17 +99,17 @@ module _ (s : List ℕ) where
 
 -- ---- a sheet whose lists fit
 
-whole·at : {A : Type 0} (t : Bool) (y x : A) → cond t (sheet y) (turned 5 0) ≡ sheet x → (t ≡ true) × (y ≡ x)
-whole·at true y x e = (refl, cc)
-whole·at false y x e = let z : _≡_ {A = ℕ} 0 1 = cc in absurd (omega arith)
+pub made-fits : {A : Type 0} (t : Bool) (y x : A) → cond t (sheet y) (turned 5 0) ≡ sheet x → (t ≡ true) × (y ≡ x)
+made-fits true y x e = (refl, cc)
+made-fits false y x e = let z : _≡_ {A = ℕ} 0 1 = cc in absurd (omega arith)
 
 pub key-made : (k : List Field) (rs : List (List Field)) (x : KeySheet) → keyWhole k rs ≡ sheet x → (keyListsFit (keySheetOf k rs) ≡ true) × (keySheetOf k rs ≡ x)
-key-made k rs x e = whole·at (keyListsFit (keySheetOf k rs)) (keySheetOf k rs) x e
+key-made k rs x e = made-fits (keyListsFit (keySheetOf k rs)) (keySheetOf k rs) x e
 
 pub join-made :
     (k : List Field) (rs : List (List Field)) (x : JoinSheet) → joinWhole k rs ≡ sheet x →
     (joinListsFit (joinSheetOf k rs) rs ≡ true) × (joinSheetOf k rs ≡ x)
-join-made k rs x e = whole·at (joinListsFit (joinSheetOf k rs) rs) (joinSheetOf k rs) x e
+join-made k rs x e = made-fits (joinListsFit (joinSheetOf k rs) rs) (joinSheetOf k rs) x e
 
 -- H and N have no keys after mark 0
 pub record JoinFits (y : JoinSheet) (rs : List (List Field)) : Type 0 where

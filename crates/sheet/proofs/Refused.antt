@@ -16,8 +16,8 @@ use Rattle.keys.specs.Inputs.{JoinSheet}
 use Rattle.sheet.specs.Lines.{Kind, Run, read, refused, before, lineNumber, fieldsOf, atEnd}
 use Rattle.sheet.specs.KeySheets.{Reading, sheet, turned, ended, keyListsFit, keyWhole, joinWhole, readKeySheet, readJoinSheet}
 use Rattle.sheet.proofs.InTurn.{inTurn}
-use Rattle.sheet.proofs.Chained.{wholeRows}
-use Rattle.sheet.proofs.KeyAccepted.{stagesOfKey, stagesOfInput, key-in-turn, join-in-turn}
+use Rattle.sheet.proofs.Chained.{wholeRows, ended-before}
+use Rattle.sheet.proofs.KeyAccepted.{made-fits, stagesOfKey, stagesOfInput, key-in-turn, join-in-turn}
 use Rattle.sheet.specs.Refusals.{lineNumbers, lineRows, NoLine, FirstLine, TurnedBack, keyKinds, keyNumbers, keySheetIn, joinKinds, joinNumbers, joinSheetIn, joinFits}
 
 -- ---- the first number that is not 0
@@ -43,10 +43,6 @@ module _ {A : Type 0} where
   end·at : (t : Bool) (r : Reading A) (line : ℕ) → cond t r (turned 1 line) ≡ cond (eqb (cond t 0 1) 0) r (turned (cond t 0 1) line)
   end·at true r line = refl
   end·at false r line = refl
-
-  ended-before : (whole : List (List Field) → Reading A) (fs : List Field) (r : Run) → ended whole (before fs r) ≡ ended (λ rs. whole (fs ∷ rs)) r
-  ended-before whole fs (read rs ls l p) = refl
-  ended-before whole fs (refused n l) = refl
 
   line·at :
       (t : Bool) (whole : List (List Field) → Reading A) (fs : List Field) (r : Run) (n line : ℕ) (s : Reading A) →
@@ -126,10 +122,6 @@ module _ {A : Type 0} where
     unfit·at true n l e = let z : _≡_ {A = ℕ} 0 1 = cc in absurd (omega arith)
     unfit·at false n l e = (refl, (cc), (cc))
 
-    fit·at : (t : Bool) (x : A) → cond t (sheet y) (turned 5 0) ≡ sheet x → (t ≡ true) × (y ≡ x)
-    fit·at true x e = (refl, (cc))
-    fit·at false x e = let z : _≡_ {A = ℕ} 0 1 = cc in absurd (omega arith)
-
     refused·by : (n l : ℕ) → FirstLine 1 ns n l ⊎ (NoLine ns × (cond fit (sheet y) (turned 5 0) ≡ turned n l)) → TurnedBack ns fit n l
     refused·by n l (inl f) = inl f
     refused·by n l (inr p) = let q = unfit·at fit n l (p .1) in inr (record { lines = p .0; unfit = q .0; number = q .1; line = q .2 })
@@ -143,7 +135,7 @@ module _ {A : Type 0} where
 
     pub accepted-exactly : (x : A) → (r ≡ sheet x) ↔ (NoLine ns × (fit ≡ true) × (y ≡ x))
     accepted-exactly x = (
-      λ e. let p = judged-sheet 1 ns (cond fit (sheet y) (turned 5 0)) x (sym is ∙ e) in let q = fit·at fit x (p .1) in (p .0, q .0, q .1),
+      λ e. let p = judged-sheet 1 ns (cond fit (sheet y) (turned 5 0)) x (sym is ∙ e) in let q = made-fits fit y x (p .1) in (p .0, q .0, q .1),
       λ h. is ∙ none-judged 1 ns (cond fit (sheet y) (turned 5 0)) (h .0) ∙ rw (h .1, h .2),
     )
 
