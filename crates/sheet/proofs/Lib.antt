@@ -16,3 +16,4 @@ pub mod JoinSizes
 pub mod AnswersFit
 pub mod Refused
 pub mod Lowest
+pub mod Decided

@@ -2,7 +2,7 @@
 -- Renders document 01, "Lowest line first, then lowest number; then Sheet, Work, Write in table order", and "a missing line counts as the line after the last".
 use mathlib.Core.Path.{_≡_}
 use mathlib.Core.Logic.{_⊎_}
-use Prim.Native.Nat.{ℕ, _+_, _<_}
+use Prim.Native.Nat.{ℕ, zero, suc, _+_, _<_}
 use mathlib.Core.List.{List, [], _∷_, _++_, tail}
 use mathlib.Core.Bool.{Bool, true, false, cond, not, _||_}
 use mathlib.Core.Option.{Option, none, some}
@@ -10,11 +10,12 @@ use lib.Dec.{ltb}
 use lib.ListN.{getD, drop, replicate}
 use Rattle.text.specs.Text.{Field, parts}
 use Rattle.text.specs.Lines.{firstOf, nextOf}
-use Rattle.keys.specs.Adjust.{KeySheet}
+use Rattle.keys.specs.Expressions.{sameExpr}
+use Rattle.keys.specs.Adjust.{KeySheet, nameNotFound, adjustInputKeysOrdering}
 use Rattle.keys.specs.Inputs.{JoinSheet}
 use Rattle.sheet.specs.Lines.{Kind, Stage, mostBytes, fieldsFit, tooManyEntries, lineNumber, fieldsOf, atEnd}
 use Rattle.sheet.specs.KeyLines.{at, keyLine, inputHead, keyStages, inputStages}
-use Rattle.sheet.specs.KeySheets.{headOf, keySheetOf, joinSheetOf, joinListsFit}
+use Rattle.sheet.specs.KeySheets.{sheet, readKeySheet, headOf, keySheetOf, joinSheetOf, joinListsFit}
 
 -- ---- a line
 
@@ -45,6 +46,11 @@ kindsOf (c ∷ cs) = replicate (c .count) (c .kind) ++ kindsOf cs
 unfoldable pub lineNumbers : List Kind → ℕ → List (List ℕ) → List ℕ
 lineNumbers [] at ls = cond (atEnd ls) 0 1 ∷ []
 lineNumbers (k ∷ ks) at ls = lineNumber k 0 (nextOf at ls) (firstOf (k .letter) ls) ∷ lineNumbers ks (nextOf at ls) (tail ls)
+
+-- the place after line i of the lines that begin at a place, i from 0
+unfoldable pub placeAfter : ℕ → List (List ℕ) → ℕ → ℕ
+placeAfter at ls zero = nextOf at ls
+placeAfter at ls (suc i) = placeAfter (nextOf at ls) (tail ls) i
 
 -- the fields of each line
 unfoldable pub lineRows : List Kind → List (List ℕ) → List (List Field)
@@ -95,3 +101,11 @@ module _ (s : List ℕ) where
 
   abbrev pub joinFits : Bool
   joinFits = joinListsFit joinSheetIn (drop 1 (lineRows joinKinds (parts 10 s)))
+
+  -- a name for J isn't found: number 10, line 0
+  pub record NameMissing (n l : ℕ) : Type 0 where
+    pub is : KeySheet
+    pub reads : readKeySheet s ≡ sheet is
+    pub missing : adjustInputKeysOrdering sameExpr is ≡ nameNotFound
+    pub number : n ≡ 10
+    pub line : l ≡ 0
