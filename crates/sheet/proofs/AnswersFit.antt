@@ -24,7 +24,7 @@ use Rattle.sheet.specs.LegalSheets.{LegalExpr, LegalExprs, LegalInput, L
 use Rattle.sheet.proofs.Entries.{each-weaker, few-weaker}
 use Rattle.sheet.proofs.LegalRows.{kind-small, exprs-count}
 use Rattle.sheet.proofs.LegalSheets.{key-read-legal, join-read-legal}
-use Rattle.sheet.proofs.AnswerSizes.{key-answer-sized}
+use Rattle.sheet.proofs.KeySizes.{key-answer-sized}
 use Rattle.sheet.proofs.JoinSizes.{join-answer-sized}
 
 -- ---- how long lines are: numbers up to m have at most d + 1 digits

@@ -23,7 +23,9 @@ drop-tail zero [] = refl
 drop-tail (suc i) [] = refl
 drop-tail i (l ∷ ls) = refl
 
-pub number-at : (ks : List Kind) (at : ℕ) (ls : List (List ℕ)) (i : ℕ) (d : Kind) → i < length ks → getD (lineNumbers ks at ls) i 0 ≡ lineNumber (getD ks i d) 0 (placeAfter at ls i) (firstOf (getD ks i d .letter) (drop i ls))
+pub number-at :
+    (ks : List Kind) (at : ℕ) (ls : List (List ℕ)) (i : ℕ) (d : Kind) → i < length ks →
+    getD (lineNumbers ks at ls) i 0 ≡ lineNumber (getD ks i d) 0 (placeAfter at ls i) (firstOf (getD ks i d .letter) (drop i ls))
 unfolding lineNumbers placeAfter
 number-at [] at ls i d h = absurd (omega arith)
 number-at (k ∷ ks) at ls zero d h = refl

@@ -1,11 +1,12 @@
 -- K and I sheets: what is accepted, exactly; and writing what was read gives the bytes.
 use mathlib.Core.Path.{_≡_, refl, sym, ap, _∙_}
+use mathlib.Core.Logic.{_↔_}
 use Prim.Native.Nat.{ℕ}
 use native.Mathlib.Omega.{arith}
 use mathlib.Core.List.{List}
 use mathlib.Core.Bool.{Bool, true, false, cond, not}
 use lib.Dec.{eqb}
-use lib.ListN.{length}
+use lib.ListN.{length, drop}
 use borrow.Author.Tests.{not-true, eqb-false}
 use Rattle.text.specs.Text.{Field, parts}
 use Rattle.text.proofs.Exact.{both}
@@ -45,7 +46,8 @@ stagesOfKey fs = keyStages (at fs 6)
 
 key-stages-counted : (fs : List Field) → Each (λ c. Counted (c .kind)) (stagesOfKey fs)
 key-stages-counted fs =
-    (list-counted 82 3 _ refl, (list-counted 76 3 _ refl, (list-counted 71 3 _ refl, (list-counted 83 1 _ refl, (list-counted 87 6 _ refl, (list-counted 79 1 _ refl, (list-counted 65 1 _ refl, (list-counted 77 3 _ refl, (list-counted 67 3 _ refl, tt)))))))))
+    let lists : Each (λ c. Counted (c .kind)) (drop 5 (stagesOfKey fs)) = (list-counted 79 1 _ refl, (list-counted 65 1 _ refl, (list-counted 77 3 _ refl, (list-counted 67 3 _ refl, tt)))) in
+    (list-counted 82 3 _ refl, (list-counted 76 3 _ refl, (list-counted 71 3 _ refl, (list-counted 83 1 _ refl, (list-counted 87 6 _ refl, lists)))))
 
 abbrev pub stagesOfInput : List Field → List Stage
 stagesOfInput fs = inputStages
@@ -70,7 +72,7 @@ module _ (s : List ℕ) where
   unfolding readKeySheet
   key-in-turn = after-key (rowsOf keyLine 1 0 1 0 (parts 10 s)) ∙ head-in-turn stagesOfKey keyWhole keyLine key-counted key-stages-counted (parts 10 s)
 
-  pub join-in-turn : readJoinSheet s ≡ ended (wholeRows stagesOfInput joinWhole) (inTurn (joinKinds s) 1 0 (parts 10 s))
+  pub join-in-turn : readJoinSheet s ≡ ended (wholeRows stagesOfInput joinWhole) (inTurn joinKinds 1 0 (parts 10 s))
   unfolding readJoinSheet
   join-in-turn = after-input (rowsOf inputHead 1 0 1 0 (parts 10 s)) ∙ head-in-turn stagesOfInput joinWhole inputHead head-counted input-stages-counted (parts 10 s)
 
@@ -81,7 +83,7 @@ abbrev pub JoinAccepted : List ℕ → JoinSheet → Type 0
 JoinAccepted s x = Accepted inputHead stagesOfInput joinWhole s x
 
 module _ (s : List ℕ) where
-  pub key-accepted : (x : KeySheet) → (readKeySheet s ≡ sheet x → KeyAccepted s x) × (KeyAccepted s x → readKeySheet s ≡ sheet x)
+  pub key-accepted : (x : KeySheet) → (readKeySheet s ≡ sheet x) ↔ KeyAccepted s x
   unfolding readKeySheet
   key-accepted x =
       let r : Run = rowsOf keyLine 1 0 1 0 (parts 10 s) in (
@@ -89,7 +91,7 @@ module _ (s : List ℕ) where
         λ a. after-key r ∙ accepts keyLine stagesOfKey keyWhole key-counted key-stages-counted s x a,
       )
 
-  pub join-accepted : (x : JoinSheet) → (readJoinSheet s ≡ sheet x → JoinAccepted s x) × (JoinAccepted s x → readJoinSheet s ≡ sheet x)
+  pub join-accepted : (x : JoinSheet) → (readJoinSheet s ≡ sheet x) ↔ JoinAccepted s x
   unfolding readJoinSheet
   join-accepted x =
       let r : Run = rowsOf inputHead 1 0 1 0 (parts 10 s) in (
@@ -111,7 +113,7 @@ pub join-made :
     (joinListsFit (joinSheetOf k rs) rs ≡ true) × (joinSheetOf k rs ≡ x)
 join-made k rs x e = made-fits (joinListsFit (joinSheetOf k rs) rs) (joinSheetOf k rs) x e
 
--- H and N have no keys after mark 0
+-- L and G are equally long, S is as long as they are or empty, and H and N have no keys after mark 0
 pub record JoinFits (y : JoinSheet) (rs : List (List Field)) : Type 0 where
   pub even : eqb (length (y .left)) (length (y .right)) ≡ true
   pub directed : directionsFit (y .op) (y .directions) (y .left) ≡ true

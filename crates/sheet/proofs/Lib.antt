@@ -11,7 +11,7 @@ pub mod LegalRows
 pub mod LegalSheets
 pub mod Marked
 pub mod TriedSizes
-pub mod AnswerSizes
+pub mod KeySizes
 pub mod JoinSizes
 pub mod AnswersFit
 pub mod Refused

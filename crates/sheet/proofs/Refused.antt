@@ -146,7 +146,7 @@ module _ (s : List ℕ) where
   key-judged = key-in-turn s ∙ turn-judged (wholeRows stagesOfKey keyWhole) (keyKinds s) 1 0 (parts 10 s)
 
   join-judged : readJoinSheet s ≡ judged 1 (joinNumbers s) (cond (joinFits s) (sheet (joinSheetIn s)) (turned 5 0))
-  join-judged = join-in-turn s ∙ turn-judged (wholeRows stagesOfInput joinWhole) (joinKinds s) 1 0 (parts 10 s)
+  join-judged = join-in-turn s ∙ turn-judged (wholeRows stagesOfInput joinWhole) joinKinds 1 0 (parts 10 s)
 
   -- refused with a number and a line exactly where the sheet is wrong there
   pub key-refused-exactly : (n l : ℕ) → (readKeySheet s ≡ turned n l) ↔ TurnedBack (keyNumbers s) (keyListsFit (keySheetIn s)) n l

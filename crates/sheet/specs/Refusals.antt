@@ -19,7 +19,8 @@ use Rattle.sheet.specs.KeySheets.{sheet, readKeySheet, headOf, keySheetO
 
 -- ---- a line
 
--- the conditions of numbers 1 to 6 on a line that ends at a place; 5 is no line's
+-- the conditions of numbers 1 to 6 on a line, `next` the place after it: wrong or missing; malformed field, wrong field count, over the
+-- largest number; beyond a size; undefined code, mark, direction or expression; 5 is of no line; child count unfit
 abbrev pub conditions : Kind → ℕ → Option (List Field) → List Bool
 conditions k next none = true ∷ []
 conditions k next (some fs) =
@@ -76,22 +77,24 @@ pub record WholeSheet (ns : List ℕ) (fit : Bool) (n l : ℕ) : Type 0 where
   pub number : n ≡ 5
   pub line : l ≡ 0
 
+-- number n and line l turn the sheet back
 abbrev pub TurnedBack : List ℕ → Bool → ℕ → ℕ → Type 0
 TurnedBack ns fit n l = FirstLine 1 ns n l ⊎ WholeSheet ns fit n l
+
+abbrev pub joinKinds : List Kind
+joinKinds = inputHead ∷ kindsOf inputStages
 
 module _ (s : List ℕ) where
   -- the K line, and the lines that it asks for
   abbrev pub keyKinds : List Kind
   keyKinds = keyLine ∷ kindsOf (keyStages (at (fieldsOf (firstOf 75 (parts 10 s))) 6))
 
+  -- for each line its number, or 0; and the sheet that its lines make
   abbrev pub keyNumbers : List ℕ
   keyNumbers = lineNumbers keyKinds 0 (parts 10 s)
 
   abbrev pub keySheetIn : KeySheet
   keySheetIn = let rs : List (List Field) = lineRows keyKinds (parts 10 s) in keySheetOf (headOf rs) (drop 1 rs)
-
-  abbrev pub joinKinds : List Kind
-  joinKinds = inputHead ∷ kindsOf inputStages
 
   abbrev pub joinNumbers : List ℕ
   joinNumbers = lineNumbers joinKinds 0 (parts 10 s)

@@ -1,4 +1,4 @@
--- Answers of K and I sheets are no larger than the sheets: no longer lists (but J, of both lists of names), no larger numbers.
+-- The answer of a K sheet is no larger than the sheet: no longer lists (J as long as both lists of names), no larger numbers.
 use mathlib.Core.Path.{_≡_, refl, ap, subst}
 use Prim.Native.Nat.{ℕ, suc, _+_, _-_, _≤_, _<_}
 use native.Mathlib.Omega.{arith}
