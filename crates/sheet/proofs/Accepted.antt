@@ -1,32 +1,24 @@
 -- A sheet of a head line and counted stages is accepted exactly when its text is that of fine rows, within the most bytes, and the rows make a sheet.
 use mathlib.Core.Path.{_≡_, refl, sym, ap, _∙_}
-use Prim.Native.Nat.{ℕ, zero, suc, _+_, _≤_}
+use Prim.Native.Nat.{ℕ, _+_, _≤_}
 use native.Mathlib.Omega.{arith}
-use native.Mathlib.Nat.{zero-add}
 use mathlib.Core.List.{List, [], _∷_, _++_, append-nil}
 use mathlib.Core.Bool.{Bool, true, false, cond}
-use mathlib.Core.Option.{Option, none, some}
 use lib.ListN.{length, replicate}
 use Rattle.text.specs.Text.{Field, parts}
 use Rattle.text.specs.Lines.{firstOf}
-use Rattle.text.specs.Write.{lineText}
 use Rattle.text.proofs.RoundTrip.{first-back}
 use Rattle.text.proofs.WrittenBack.{led, led-parts}
 use Rattle.sheet.specs.Lines.{Kind, Stage, Run, read, refused, mostBytes, fieldsOf, rowsOf, atEnd}
 use Rattle.sheet.specs.KeySheets.{Reading, sheet, turned, ended}
-use Rattle.sheet.specs.InTurn.{Each, Counted, kindsOf, inTurn, rowsText, Fine, FineRows, empty, more}
+use Rattle.sheet.specs.Sizes.{Each}
+use Rattle.sheet.specs.Refusals.{kindsOf}
+use Rattle.sheet.proofs.InTurn.{Counted, inTurn, rowsText, Fine, FineRows, more}
+use Rattle.sheet.proofs.Entries.{each-append, each-same}
 use Rattle.sheet.proofs.Chained.{afterHead, wholeRows, head-in-turn}
-use Rattle.sheet.proofs.RowsAgain.{fine-wide, Written, rows-written, rows-read}
+use Rattle.sheet.proofs.RowsAgain.{fine-wide, rows-written, rows-read}
 
 -- ---- counted kinds
-
-pub each-append : {A : Type 0} (P : A → Type 0) (xs ys : List A) → Each P xs → Each P ys → Each P (xs ++ ys)
-each-append P [] ys h k = k
-each-append P (x ∷ xs) ys h k = (h .0, each-append P xs ys (h .1) k)
-
-each-same : {A : Type 0} (P : A → Type 0) (n : ℕ) (x : A) → P x → Each P (replicate n x)
-each-same P zero x h = tt
-each-same P (suc n) x h = (h, each-same P n x h)
 
 pub each-kind : (cs : List Stage) → Each (λ c. Counted (c .kind)) cs → Each Counted (kindsOf cs)
 each-kind [] h = tt
@@ -54,7 +46,9 @@ module _ {A : Type 0} (whole : List (List Field) → Reading A) where
     end : atEnd lines ≡ true
     is : whole rows ≡ sheet x
 
-  whole·at : (t : Bool) (rs : List (List Field)) (ls : List (List ℕ)) (l p : ℕ) (x : A) → atEnd ls ≡ t → cond t (whole rs) (turned 1 l) ≡ sheet x → Whole (read rs ls l p) x
+  whole·at :
+      (t : Bool) (rs : List (List Field)) (ls : List (List ℕ)) (l p : ℕ) (x : A) → atEnd ls ≡ t → cond t (whole rs) (turned 1 l) ≡ sheet x →
+      Whole (read rs ls l p) x
   whole·at true rs ls l p x t e = record { rows = rs; lines = ls; line = l; place = p; was = refl; end = t; is = e }
   whole·at false rs ls l p x t e = let z : _≡_ {A = ℕ} 0 1 = cc in absurd (omega arith)
 
@@ -80,10 +74,14 @@ module _ {A : Type 0} (k : Kind) (stages : List Field → List Stage) (whole : L
     all : (h : List Field) → Each Counted (kinds h)
     all h = (c, each-kind (stages h) (cs h))
 
-    head-of : (s : List ℕ) (h : List Field) (ks : List Kind) (rs : List (List Field)) → Fine k h → rowsText (k ∷ ks) (h ∷ rs) ≡ s → fieldsOf (firstOf (k .letter) (parts 10 s)) ≡ h
+    head-of :
+        (s : List ℕ) (h : List Field) (ks : List Kind) (rs : List (List Field)) → Fine k h → rowsText (k ∷ ks) (h ∷ rs) ≡ s →
+        fieldsOf (firstOf (k .letter) (parts 10 s)) ≡ h
     head-of s h ks rs f e = rw (← e, first-back (k .letter) h (c .letter) (fine-wide k c h f) (rowsText ks rs))
 
-    accepted·by : (s : List ℕ) (x : A) (h : List Field) (rs : List (List Field)) → fieldsOf (firstOf (k .letter) (parts 10 s)) ≡ h → FineRows (kinds h) rs → rowsText (kinds h) rs ≡ s → length s ≤ mostBytes → wholeRows stages whole rs ≡ sheet x → Accepted s x
+    accepted·by :
+        (s : List ℕ) (x : A) (h : List Field) (rs : List (List Field)) → fieldsOf (firstOf (k .letter) (parts 10 s)) ≡ h → FineRows (kinds h) rs →
+        rowsText (kinds h) rs ≡ s → length s ≤ mostBytes → wholeRows stages whole rs ≡ sheet x → Accepted s x
     accepted·by s x h (fs ∷ rs) e (more f fr) t l w =
         let z : h ≡ fs = sym e ∙ head-of s fs (kindsOf (stages h)) rs f t in
         record { head = fs; rows = rs; fine = rw z at (more {k = k} f fr); text = rw z at t; short = l; is = w }
@@ -105,10 +103,11 @@ module _ {A : Type 0} (k : Kind) (stages : List Field → List Stage) (whole : L
     accepts s x a =
         let h : List Field = a .head in
         let rs : List (List Field) = h ∷ a .rows in
+        let first : fieldsOf (firstOf (k .letter) (parts 10 s)) ≡ h = head-of s h (kindsOf (stages h)) (a .rows) (first-fine h (a .rows) (a .fine)) (a .text) in
         let t : s ≡ rowsText (kinds h) rs ++ [] = sym (a .text) ∙ sym (append-nil (rowsText (kinds h) rs)) in
         let l : 0 + length (rowsText (kinds h) rs) ≤ mostBytes = omega (arith, a .short, ap length (a .text)) in
         head-in-turn stages whole k c cs (parts 10 s)
-        ∙ ap (λ (fs : List Field). ended (wholeRows stages whole) (inTurn (kinds fs) 1 0 (parts 10 s))) (head-of s h (kindsOf (stages h)) (a .rows) (first-fine h (a .rows) (a .fine)) (a .text))
+        ∙ ap (λ (fs : List Field). ended (wholeRows stages whole) (inTurn (kinds fs) 1 0 (parts 10 s))) first
         ∙ ap (λ (ys : List ℕ). ended (wholeRows stages whole) (inTurn (kinds h) 1 0 (parts 10 ys))) t
         ∙ ap (ended (wholeRows stages whole)) (rows-read (kinds h) rs (all h) (a .fine) 1 0 [] l)
         ∙ a .is

@@ -1,29 +1,30 @@
 -- An output of 65,536 bytes suffices for the answer of every accepted K or I sheet.
-use mathlib.Core.Path.{_≡_, refl, sym, ap, _∙_, subst}
+use mathlib.Core.Path.{_≡_, refl, ap}
 use Prim.Native.Nat.{ℕ, zero, suc, _+_, _*_, _^_, _≤_, _<_}
 use native.Mathlib.Nat.{mul-le-mul-right, suc-mul}
 use native.Mathlib.Omega.{arith}
-use mathlib.Core.List.{List, [], _∷_, _++_, map}
-use mathlib.Core.Bool.{Bool, true, false, cond}
+use mathlib.Core.List.{List, [], _∷_, map}
+use mathlib.Core.Bool.{true, false}
 use mathlib.Core.Option.{Option, none, some}
-use lib.Dec.{leb}
-use lib.ListN.{length, length-map, length-append}
+use lib.Dec.{eqb}
+use lib.ListN.{length, getD, length-map, length-append}
 use borrow.Author.Tests.{le-leb}
-use Rattle.text.specs.Text.{Field, number}
+use Rattle.text.specs.Text.{number}
 use Rattle.text.specs.Bounds.{Bound, allowsAll}
 use Rattle.text.proofs.Lengths.{line-bound, all-short}
 use Rattle.keys.specs.Expressions.{Expression, sameExpr}
 use Rattle.keys.specs.Adjust.{KeySheet, KeyAnswer, Projected, Adjustment, answered, nameNotFound, adjustInputKeysOrdering}
 use Rattle.keys.specs.Inputs.{JoinSheet, JoinAnswer, reorderJoinKeysToInputs}
+use Rattle.keys.proofs.Truths.{by-test}
 use Rattle.sheet.specs.Lines.{mostBytes}
 use Rattle.sheet.specs.KeySheets.{Reading, sheet, turned, readKeySheet, readJoinSheet}
 use Rattle.sheet.specs.KeyAnswers.{Outcome, refused, wrote, numbersLine, exprNumbers, exprsLine, projectedNumbers, childLines, keyAnswerText, joinAnswerText, adjusted, keyOutcome, joinOutcome, adjustDecision, inputsDecision, decision}
-use Rattle.sheet.specs.InTurn.{Each}
-use Rattle.sheet.specs.Sizes.{Few, Within, PlacedWithin, NumberList, ExprList, InputList, SizedKeySheet, SizedKeyAnswer, SizedJoinSheet, SizedJoinAnswer, lineMost, keyAnswerMost, joinAnswerMost}
+use Rattle.sheet.specs.Sizes.{Each, Few, Within, PlacedWithin, NumberList, ExprList, InputList, SizedKeySheet, SizedKeyAnswer, SizedJoinSheet, SizedJoinAnswer, lineMost, keyAnswerMost, joinAnswerMost}
 use Rattle.sheet.specs.LegalSheets.{LegalExpr, LegalExprs, LegalInput, LegalKeySheet, LegalJoinSheet}
-use Rattle.sheet.proofs.LegalRows.{each-weaker, kind-small, exprs-count}
+use Rattle.sheet.proofs.Entries.{each-weaker, few-weaker}
+use Rattle.sheet.proofs.LegalRows.{kind-small, exprs-count}
 use Rattle.sheet.proofs.LegalSheets.{key-read-legal, join-read-legal}
-use Rattle.sheet.proofs.AnswerSizes.{key-answer-sized}
+use Rattle.sheet.proofs.KeySizes.{key-answer-sized}
 use Rattle.sheet.proofs.JoinSizes.{join-answer-sized}
 
 -- ---- how long lines are: numbers up to m have at most d + 1 digits
@@ -98,3 +99,79 @@ module _ (m d e : ℕ) (digits : m < 10 ^ suc d) where
         exprs-long 71 (a .right) (h .right),
         list-long 83 (a .directions) (h .directions),
       ))
+
+-- ---- legal sheets
+
+exprs-sized : (es : List Expression) → LegalExprs es → ExprList 65535 32 es
+exprs-sized = few-weaker 32 LegalExpr (Within 65535) (λ x h. record { kind = omega (arith, kind-small x h); name = h .name; index = h .index })
+
+directions-small : (ns : List ℕ) → Few 32 (λ d. d ≤ 3) ns → NumberList 65535 32 ns
+directions-small = few-weaker 32 (λ d. d ≤ 3) (λ d. d ≤ 65535) (λ d h. omega arith)
+
+key-sized : (x : KeySheet) → LegalKeySheet x → SizedKeySheet 65535 32 8 x
+key-sized x l = record {
+  required = exprs-sized (x .required) (l .required);
+  left = exprs-sized (x .left) (l .left);
+  right = exprs-sized (x .right) (l .right);
+  directions = directions-small (x .directions) (l .directions);
+  groups = l .groups;
+  aggregates = l .aggregates;
+  mapped = exprs-sized (x .mapped) (l .mapped);
+  children = record { few = l .few; each = each-weaker LegalExprs (ExprList 65535 32) exprs-sized (x .children) (l .children) };
+}
+
+input-sized : (o : Option (List Expression)) → LegalInput o → InputList 65535 32 o
+input-sized none h = tt
+input-sized (some es) h = exprs-sized es h
+
+join-sized : (x : JoinSheet) → LegalJoinSheet x → SizedJoinSheet 65535 32 x
+join-sized x l = record {
+  left = exprs-sized (x .left) (l .left);
+  right = exprs-sized (x .right) (l .right);
+  directions = directions-small (x .directions) (l .directions);
+  leftInput = input-sized (x .leftInput) (l .leftInput);
+  rightInput = input-sized (x .rightInput) (l .rightInput);
+}
+
+-- ---- the answer fits
+
+pub key-answer-fits :
+    (s : List ℕ) (x : KeySheet) (a : KeyAnswer) → readKeySheet s ≡ sheet x → adjustInputKeysOrdering sameExpr x ≡ answered a →
+    length (keyAnswerText a) ≤ mostBytes
+key-answer-fits s x a r e =
+    let z = key-answer-sized 65535 32 8 (omega arith) (omega arith) sameExpr x (key-sized x (key-read-legal s x r)) a e in
+    omega (arith, key-answer-long 65535 4 32 (omega arith) 8 a z)
+
+pub join-answer-fits : (s : List ℕ) (x : JoinSheet) → readJoinSheet s ≡ sheet x → length (joinAnswerText (reorderJoinKeysToInputs x sameExpr)) ≤ mostBytes
+join-answer-fits s x r =
+    let z = join-answer-sized 65535 32 (omega arith) (omega arith) sameExpr x (join-sized x (join-read-legal s x r)) in
+    omega (arith, join-answer-long 65535 4 32 (omega arith) (reorderJoinKeysToInputs x sameExpr) z)
+
+-- what is written, if anything, has at most 65,536 bytes
+abbrev pub Fits : Outcome → Type 0
+Fits (refused n l) = Unit {0}
+Fits (wrote bs) = length bs ≤ mostBytes
+
+adjusted-fits : (s : List ℕ) (x : KeySheet) (o : Adjustment) → readKeySheet s ≡ sheet x → adjustInputKeysOrdering sameExpr x ≡ o → Fits (adjusted o)
+adjusted-fits s x (answered a) r e = key-answer-fits s x a r e
+adjusted-fits s x nameNotFound r e = tt
+
+key-fits : (s : List ℕ) (r : Reading KeySheet) → readKeySheet s ≡ r → Fits (keyOutcome r)
+key-fits s (sheet x) r = adjusted-fits s x (adjustInputKeysOrdering sameExpr x) r refl
+key-fits s (turned n l) r = tt
+
+join-fits : (s : List ℕ) (r : Reading JoinSheet) → readJoinSheet s ≡ r → Fits (joinOutcome r)
+join-fits s (sheet x) r = join-answer-fits s x r
+join-fits s (turned n l) r = tt
+
+pub adjust-fits : (s : List ℕ) → Fits (adjustDecision s)
+unfolding adjustDecision
+adjust-fits s = key-fits s (readKeySheet s) refl
+
+pub inputs-fits : (s : List ℕ) → Fits (inputsDecision s)
+unfolding inputsDecision
+inputs-fits s = join-fits s (readJoinSheet s) refl
+
+pub decision-fits : (s : List ℕ) → Fits (decision s)
+unfolding decision
+decision-fits s = by-test Fits (eqb (getD s 0 0) 75) (λ t. adjust-fits s) (λ t. by-test Fits (eqb (getD s 0 0) 73) (λ u. inputs-fits s) (λ u. tt))

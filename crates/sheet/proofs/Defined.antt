@@ -1,15 +1,15 @@
 -- Codes, by the tests that the code makes; and a turn of each loop over a line's numbers.
 -- Assumes nothing.
 use Prim.Native.Nat.{ℕ, suc, _+_, _-_, _≤_, _<_}
-use mathlib.Core.Path.{_≡_, refl, ap, sym, _∙_}
-use mathlib.Core.Bool.{Bool, true, false, cond, not, _&&_, _||_}
-use mathlib.Core.List.{List, [], _∷_, map}
+use mathlib.Core.Path.{_≡_, refl, ap, _∙_}
+use mathlib.Core.Bool.{Bool, true, false, not, _&&_, _||_}
+use mathlib.Core.List.{List, [], _∷_}
 use native.Mathlib.Numerals.{add-one}
 use native.Mathlib.Omega.{arith}
 use borrow.Author.Tests.{ne-eqb, le-leb, lt-leb, lt-ltb, le-ltb, leb-true, leb-false}
 use lib.Dec.{eqb, leb, ltb}
 use lib.ListN.{length, getD, drop, drop-of-length-le, length-drop, List·getD-map}
-use lib.Seq.{drop-cons, drop-drop}
+use lib.Seq.{drop-cons}
 use Rattle.sheet.specs.KeyLines.{definedExpr, undefinedExprs, over, definedMode, definedJoin, fitChildren}
 use Rattle.sheet.specs.Reading.{rowValue, rowValues}
 

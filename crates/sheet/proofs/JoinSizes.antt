@@ -1,18 +1,17 @@
 -- The answer of an I sheet is no larger than the sheet: no longer lists, no larger numbers.
-use mathlib.Core.Path.{_≡_, refl}
 use Prim.Native.Nat.{ℕ, _+_, _≤_}
 use native.Mathlib.Omega.{arith}
-use mathlib.Core.List.{List, []}
-use mathlib.Core.Bool.{Bool, cond, _&&_, _||_}
+use mathlib.Core.List.{List}
+use mathlib.Core.Bool.{Bool, _&&_, _||_}
 use mathlib.Core.Option.{Option, none, some}
 use lib.Dec.{eqb}
-use lib.ListN.{length}
 use Rattle.keys.specs.Reorder.{Rule, Tried, tryReorder}
 use Rattle.keys.specs.Expressions.{Expression, placeholder}
-use Rattle.keys.specs.Inputs.{JoinSheet, JoinAnswer, asStood, following, trySide, tryRight, reorderCurrentJoinKeys, reorderJoinKeysToInputs}
+use Rattle.keys.specs.Inputs.{JoinSheet, JoinAnswer, asStood, following, trySide, tryRight, reorderJoinKeysToInputs}
 use Rattle.keys.proofs.Truths.{by-test}
-use Rattle.sheet.specs.Sizes.{NumberList, ExprList, InputList, SizedJoinSheet, SizedJoinAnswer}
-use Rattle.sheet.proofs.TriedSizes.{nothing-few, SizedTried, tried-sized, directions-sized}
+use Rattle.sheet.specs.Sizes.{InputList, SizedJoinSheet, SizedJoinAnswer}
+use Rattle.sheet.proofs.Entries.{nothing-few}
+use Rattle.sheet.proofs.TriedSizes.{SizedTried, tried-sized, directions-sized}
 
 module _ (m e : ℕ) (places : e + e ≤ m) (codes : 3 ≤ m) (same : Expression → Expression → Bool) (s : JoinSheet) (h : SizedJoinSheet m e s) where
   abbrev Sized : JoinAnswer → Type 0
@@ -32,7 +31,8 @@ module _ (m e : ℕ) (places : e + e ≤ m) (codes : 3 ≤ m) (same : Expression
   }
 
   side-sized :
-      (side : ℕ) → side ≤ 2 → (w : List (Rule Expression)) (impossible unhashed : JoinAnswer) → Sized impossible → Sized unhashed → (o : Option (List Expression)) → InputList m e o →
+      (side : ℕ) → side ≤ 2 → (w : List (Rule Expression)) (impossible unhashed : JoinAnswer) →
+      Sized impossible → Sized unhashed → (o : Option (List Expression)) → InputList m e o →
       Sized (trySide s same side w impossible unhashed o)
   side-sized side l w i u hi hu none k = hu
   side-sized side l w i u hi hu (some keys) k =

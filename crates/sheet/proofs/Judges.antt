@@ -1,23 +1,20 @@
 -- The number of a line, by the tests that the code makes; and that it is `lineNumber`.
 -- Assumes nothing.
-use Prim.Native.Nat.{ℕ, zero, suc, _+_, _-_, _*_, _%_, _≤_, _<_}
-use mathlib.Core.Path.{_≡_, refl, ap, sym, _∙_}
-use mathlib.Core.Bool.{Bool, true, false, cond, not, _&&_, _||_}
-use mathlib.Core.Option.{Option, none, some}
-use mathlib.Core.List.{List, [], _∷_, map}
-use mathlib.Core.Logic.{_⊎_, inl, inr, ⊎-elim}
+use Prim.Native.Nat.{ℕ, _-_, _*_, _%_, _≤_, _<_}
+use mathlib.Core.Path.{_≡_, refl}
+use mathlib.Core.Bool.{Bool, true, false, cond, _&&_}
+use mathlib.Core.List.{List, [], _∷_}
+use mathlib.Core.Logic.{⊎-elim}
 use native.Mathlib.Omega.{arith}
-use borrow.Author.Tests.{eq-eqb, ne-eqb, le-leb, lt-leb, lt-ltb, le-ltb}
-use lib.Dec.{eqb, leb, ltb}
-use lib.ListN.{length, getD, take, drop, length-map, length-drop, List·getD-map}
+use borrow.Author.Tests.{ne-eqb, le-leb, lt-leb, lt-ltb, le-ltb}
+use lib.Dec.{eqb}
+use lib.ListN.{getD}
 use types.Run.{OneOf}
 use denote.Enum.Declared.{tagOf}
-use Rattle.text.specs.Text.{Field, number, stateOf, valueOf, greatest}
-use Rattle.text.specs.Bounds.{Bound, allows, fits, allowsAll}
-use Rattle.text.proofs.Limits.{all-largest}
-use Rattle.sheet.specs.Lines.{Kind, plain, mostBytes, mostEntries, wholeEntries, fieldsFit, tooManyEntries, lineNumber}
-use Rattle.sheet.specs.KeyLines.{at, values, undefinedExprs, definedMode, definedJoin, fitChildren}
-use Rattle.sheet.specs.Reading.{kindOf, headCount, entryWidth, undefinedBy, undefinedKey, largeBy, unfitBy, codesNumber, countsNumber, Whole}
+use Rattle.text.specs.Text.{number}
+use Rattle.sheet.specs.Lines.{wholeEntries, lineNumber}
+use Rattle.sheet.specs.KeyLines.{fitChildren}
+use Rattle.sheet.specs.Reading.{headCount, entryWidth, undefinedBy, undefinedKey, codesNumber, countsNumber}
 use Rattle.sheet.specs.declared.kind.Codes.{Codes}
 use Rattle.sheet.specs.declared.kind.Codes.the-variants.{Key, Join, Exprs, Rules, Input, Directions, Names}
 use Rattle.sheet.proofs.kind.Codes as C

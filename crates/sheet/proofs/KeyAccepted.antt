@@ -1,34 +1,37 @@
 -- K and I sheets: what is accepted, exactly; and writing what was read gives the bytes.
 use mathlib.Core.Path.{_≡_, refl, sym, ap, _∙_}
+use mathlib.Core.Logic.{_↔_}
 use Prim.Native.Nat.{ℕ}
 use native.Mathlib.Omega.{arith}
-use mathlib.Core.List.{List, [], _∷_}
-use mathlib.Core.Bool.{Bool, true, false, cond, not, _&&_}
+use mathlib.Core.List.{List}
+use mathlib.Core.Bool.{Bool, true, false, cond, not}
 use lib.Dec.{eqb}
-use lib.ListN.{length}
-use borrow.Author.Tests.{not-true}
+use lib.ListN.{length, drop}
+use borrow.Author.Tests.{not-true, eqb-false}
 use Rattle.text.specs.Text.{Field, parts}
 use Rattle.text.proofs.Exact.{both}
 use Rattle.keys.specs.Adjust.{KeySheet}
 use Rattle.keys.specs.Inputs.{JoinSheet}
-use Rattle.sheet.specs.Lines.{Kind, Stage, Run, read, refused, rowsOf}
+use Rattle.sheet.specs.Lines.{Stage, Run, read, refused, rowsOf}
 use Rattle.sheet.specs.KeyLines.{at, listLine, inputLine, keyLine, inputHead, keyStages, inputStages}
-use Rattle.sheet.specs.KeySheets.{Reading, sheet, turned, row, directionsFit, unusedKeys, keyListsFit, joinListsFit, keySheetOf, joinSheetOf, keyWhole, joinWhole, afterKey, afterInput, readKeySheet, readJoinSheet}
+use Rattle.sheet.specs.KeySheets.{sheet, turned, ended, row, directionsFit, unusedKeys, keyListsFit, joinListsFit, keySheetOf, joinSheetOf, keyWhole, joinWhole, afterKey, afterInput, readKeySheet, readJoinSheet}
 use Rattle.sheet.specs.KeyTexts.{keySheetText, joinSheetText}
-use Rattle.sheet.specs.InTurn.{Each, readable, Counted}
-use Rattle.sheet.proofs.Chained.{afterHead}
+use Rattle.sheet.specs.Sizes.{Each}
+use Rattle.sheet.proofs.InTurn.{readable, Counted, inTurn}
+use Rattle.sheet.specs.Refusals.{keyKinds, joinKinds}
+use Rattle.sheet.proofs.Chained.{afterHead, wholeRows, head-in-turn}
 use Rattle.sheet.proofs.Accepted.{Accepted, accepted, accepts}
 use Rattle.sheet.proofs.KeyRows.{key-text, join-text}
 
 -- ---- their kinds are counted
 
-list-counted : (letter width : ℕ) (undefined : List Field → Bool) → (letter ≡ 10 → ⊥) → Counted (listLine letter width undefined)
+list-counted : (letter width : ℕ) (undefined : List Field → Bool) → eqb letter 10 ≡ false → Counted (listLine letter width undefined)
 unfolding readable
-list-counted letter width undefined ne = record { letter = ne; heads = refl; stops = λ o x. refl; owes = λ o fs. refl; large = λ n fs. refl }
+list-counted letter width undefined ne = record { letter = eqb-false letter 10 ne; heads = refl; stops = λ o x. refl; owes = λ o fs. refl; large = λ n fs. refl }
 
-input-counted : (letter : ℕ) → (letter ≡ 10 → ⊥) → Counted (inputLine letter)
+input-counted : (letter : ℕ) → eqb letter 10 ≡ false → Counted (inputLine letter)
 unfolding readable
-input-counted letter ne = record { letter = ne; heads = refl; stops = λ o x. refl; owes = λ o fs. refl; large = λ n fs. refl }
+input-counted letter ne = record { letter = eqb-false letter 10 ne; heads = refl; stops = λ o x. refl; owes = λ o fs. refl; large = λ n fs. refl }
 
 key-counted : Counted keyLine
 unfolding readable
@@ -42,37 +45,16 @@ abbrev pub stagesOfKey : List Field → List Stage
 stagesOfKey fs = keyStages (at fs 6)
 
 key-stages-counted : (fs : List Field) → Each (λ c. Counted (c .kind)) (stagesOfKey fs)
-key-stages-counted fs = (
-  list-counted 82 3 _ (λ e. omega arith),
-  (
-    list-counted 76 3 _ (λ e. omega arith),
-    (
-      list-counted 71 3 _ (λ e. omega arith),
-      (
-        list-counted 83 1 _ (λ e. omega arith),
-        (list-counted 87 6 _ (λ e. omega arith), (list-counted 79 1 _ (λ e. omega arith), (list-counted 65 1 _ (λ e. omega arith), (list-counted 77 3 _ (λ e. omega arith), (list-counted 67 3 _ (λ e. omega arith), tt))))),
-      ),
-    ),
-  ),
-)
+key-stages-counted fs =
+    let lists : Each (λ c. Counted (c .kind)) (drop 5 (stagesOfKey fs)) = (list-counted 79 1 _ refl, (list-counted 65 1 _ refl, (list-counted 77 3 _ refl, (list-counted 67 3 _ refl, tt)))) in
+    (list-counted 82 3 _ refl, (list-counted 76 3 _ refl, (list-counted 71 3 _ refl, (list-counted 83 1 _ refl, (list-counted 87 6 _ refl, lists)))))
 
 abbrev pub stagesOfInput : List Field → List Stage
 stagesOfInput fs = inputStages
 
 input-stages-counted : (fs : List Field) → Each (λ c. Counted (c .kind)) (stagesOfInput fs)
-input-stages-counted fs = (
-  list-counted 76 3 _ (λ e. omega arith),
-  (
-    list-counted 71 3 _ (λ e. omega arith),
-    (
-      list-counted 83 1 _ (λ e. omega arith),
-      (
-        input-counted 72 (λ e. omega arith),
-        (input-counted 78 (λ e. omega arith), (list-counted 87 6 _ (λ e. omega arith), (list-counted 86 6 _ (λ e. omega arith), tt))),
-      ),
-    ),
-  ),
-)
+input-stages-counted fs =
+    (list-counted 76 3 _ refl, (list-counted 71 3 _ refl, (list-counted 83 1 _ refl, (input-counted 72 refl, (input-counted 78 refl, (list-counted 87 6 _ refl, (list-counted 86 6 _ refl, tt)))))))
 
 -- ---- what is accepted
 
@@ -84,6 +66,16 @@ after-input : (r : Run) → afterInput r ≡ afterHead stagesOfInput joinWhole r
 after-input (read rs ls l p) = refl
 after-input (refused n l) = refl
 
+-- line by line
+module _ (s : List ℕ) where
+  pub key-in-turn : readKeySheet s ≡ ended (wholeRows stagesOfKey keyWhole) (inTurn (keyKinds s) 1 0 (parts 10 s))
+  unfolding readKeySheet
+  key-in-turn = after-key (rowsOf keyLine 1 0 1 0 (parts 10 s)) ∙ head-in-turn stagesOfKey keyWhole keyLine key-counted key-stages-counted (parts 10 s)
+
+  pub join-in-turn : readJoinSheet s ≡ ended (wholeRows stagesOfInput joinWhole) (inTurn joinKinds 1 0 (parts 10 s))
+  unfolding readJoinSheet
+  join-in-turn = after-input (rowsOf inputHead 1 0 1 0 (parts 10 s)) ∙ head-in-turn stagesOfInput joinWhole inputHead head-counted input-stages-counted (parts 10 s)
+
 abbrev pub KeyAccepted : List ℕ → KeySheet → Type 0
 KeyAccepted s x = Accepted keyLine stagesOfKey keyWhole s x
 
@@ -91,7 +83,7 @@ abbrev pub JoinAccepted : List ℕ → JoinSheet → Type 0
 JoinAccepted s x = Accepted inputHead stagesOfInput joinWhole s x
 
 module _ (s : List ℕ) where
-  pub key-accepted : (x : KeySheet) → (readKeySheet s ≡ sheet x → KeyAccepted s x) × (KeyAccepted s x → readKeySheet s ≡ sheet x)
+  pub key-accepted : (x : KeySheet) → (readKeySheet s ≡ sheet x) ↔ KeyAccepted s x
   unfolding readKeySheet
   key-accepted x =
       let r : Run = rowsOf keyLine 1 0 1 0 (parts 10 s) in (
@@ -99,7 +91,7 @@ module _ (s : List ℕ) where
         λ a. after-key r ∙ accepts keyLine stagesOfKey keyWhole key-counted key-stages-counted s x a,
       )
 
-  pub join-accepted : (x : JoinSheet) → (readJoinSheet s ≡ sheet x → JoinAccepted s x) × (JoinAccepted s x → readJoinSheet s ≡ sheet x)
+  pub join-accepted : (x : JoinSheet) → (readJoinSheet s ≡ sheet x) ↔ JoinAccepted s x
   unfolding readJoinSheet
   join-accepted x =
       let r : Run = rowsOf inputHead 1 0 1 0 (parts 10 s) in (
@@ -109,17 +101,19 @@ module _ (s : List ℕ) where
 
 -- ---- a sheet whose lists fit
 
-whole·at : {A : Type 0} (t : Bool) (y x : A) → cond t (sheet y) (turned 5 0) ≡ sheet x → (t ≡ true) × (y ≡ x)
-whole·at true y x e = (refl, cc)
-whole·at false y x e = let z : _≡_ {A = ℕ} 0 1 = cc in absurd (omega arith)
+pub made-fits : {A : Type 0} (t : Bool) (y x : A) → cond t (sheet y) (turned 5 0) ≡ sheet x → (t ≡ true) × (y ≡ x)
+made-fits true y x e = (refl, cc)
+made-fits false y x e = let z : _≡_ {A = ℕ} 0 1 = cc in absurd (omega arith)
 
 pub key-made : (k : List Field) (rs : List (List Field)) (x : KeySheet) → keyWhole k rs ≡ sheet x → (keyListsFit (keySheetOf k rs) ≡ true) × (keySheetOf k rs ≡ x)
-key-made k rs x e = whole·at (keyListsFit (keySheetOf k rs)) (keySheetOf k rs) x e
+key-made k rs x e = made-fits (keyListsFit (keySheetOf k rs)) (keySheetOf k rs) x e
 
-pub join-made : (k : List Field) (rs : List (List Field)) (x : JoinSheet) → joinWhole k rs ≡ sheet x → (joinListsFit (joinSheetOf k rs) rs ≡ true) × (joinSheetOf k rs ≡ x)
-join-made k rs x e = whole·at (joinListsFit (joinSheetOf k rs) rs) (joinSheetOf k rs) x e
+pub join-made :
+    (k : List Field) (rs : List (List Field)) (x : JoinSheet) → joinWhole k rs ≡ sheet x →
+    (joinListsFit (joinSheetOf k rs) rs ≡ true) × (joinSheetOf k rs ≡ x)
+join-made k rs x e = made-fits (joinListsFit (joinSheetOf k rs) rs) (joinSheetOf k rs) x e
 
--- H and N have no keys after mark 0
+-- L and G are equally long, S is as long as they are or empty, and H and N have no keys after mark 0
 pub record JoinFits (y : JoinSheet) (rs : List (List Field)) : Type 0 where
   pub even : eqb (length (y .left)) (length (y .right)) ≡ true
   pub directed : directionsFit (y .op) (y .directions) (y .left) ≡ true

@@ -1,27 +1,24 @@
 -- The rows of a K or I sheet, made a sheet, are written as they stood.
 use mathlib.Core.Path.{_≡_, refl, sym, ap, _∙_}
-use Prim.Native.Nat.{ℕ, zero, suc, _+_, _*_, _%_, _≤_}
+use Prim.Native.Nat.{ℕ, zero, suc, _+_, _%_, _≤_}
 use native.Mathlib.Omega.{arith}
 use mathlib.Core.List.{List, [], _∷_, _++_, append-nil, map}
-use mathlib.Core.Bool.{Bool, true, false, cond, not, _&&_, _||_}
-use mathlib.Core.Option.{Option, none, some}
-use lib.Dec.{eqb, ltb, leb}
-use lib.ListN.{length, take, drop, getD, length-map, length-take, length-drop, replicate}
+use mathlib.Core.Bool.{Bool, true, false, _||_}
+use lib.Dec.{ltb, leb}
+use lib.ListN.{length, take, drop, length-map, length-take, length-drop, replicate}
 use borrow.Author.Tests.{eqb-true, leb-true, not-false, ltb-false}
 use Rattle.text.specs.Text.{Field, number, valueOf}
-use Rattle.text.specs.Bounds.{allowsAll, fits}
+use Rattle.text.specs.Bounds.{fits}
 use Rattle.text.specs.Write.{lineText}
 use Rattle.text.proofs.Exact.{both}
 use Rattle.text.proofs.Limits.{fits-length}
-use Rattle.keys.specs.Expressions.{Expression}
-use Rattle.keys.specs.Adjust.{KeySheet}
-use Rattle.keys.specs.Inputs.{JoinSheet}
 use Rattle.sheet.specs.Lines.{Kind, plain, wholeEntries}
-use Rattle.sheet.specs.KeyLines.{at, values, undefinedExprs, listLine, exprLine, ruleLine, directionLine, nameLine, inputLine, keyLine, inputHead, keyStages, inputStages, definedMode, definedJoin}
+use Rattle.sheet.specs.KeyLines.{at, values, undefinedExprs, listLine, exprLine, ruleLine, inputLine, keyLine, inputHead, keyStages, inputStages, definedMode, definedJoin}
 use Rattle.sheet.specs.KeySheets.{exprs, rulesOf, mark, inputOf, unusedKeys, keySheetOf, joinSheetOf, row}
-use Rattle.sheet.specs.KeyAnswers.{numbersLine, exprNumbers, exprsLine, childLines}
+use Rattle.sheet.specs.KeyAnswers.{numbersLine, exprsLine, childLines}
 use Rattle.sheet.specs.KeyTexts.{markNumber, rulesLine, inputNumbers, keySheetText, joinSheetText}
-use Rattle.sheet.specs.InTurn.{kindsOf, rowsText, Fine, FineRows, empty, more}
+use Rattle.sheet.specs.Refusals.{kindsOf}
+use Rattle.sheet.proofs.InTurn.{rowsText, Fine, FineRows, empty, more}
 use Rattle.sheet.proofs.Numbers.{filled, row-numbers, fit-heads, fit-list, spelled, spelled-out, exprs-again, rule-numbers-again, mark-again, input-again}
 
 -- ---- a line
@@ -44,7 +41,9 @@ rules-row letter fs fine =
     let w = eqb-true (length fs % 6) 0 (fit-list (ruleLine letter) fs fine .1) in
     ap (numbersLine letter) (rule-numbers-again (values fs) (rw (values-length fs) w)) ∙ numbers-row letter 6 _ fs fine
 
-children-rows : (n : ℕ) (cs : List (List Field)) → FineRows (replicate n (exprLine 67) ++ []) cs → childLines (map (λ fs. exprs (values fs)) cs) ≡ rowsText (replicate n (exprLine 67) ++ []) cs
+children-rows :
+    (n : ℕ) (cs : List (List Field)) → FineRows (replicate n (exprLine 67) ++ []) cs →
+    childLines (map (λ fs. exprs (values fs)) cs) ≡ rowsText (replicate n (exprLine 67) ++ []) cs
 children-rows zero cs empty = refl
 children-rows (suc n) (fs ∷ cs) (more f r) = λ j. exprs-row 67 fs f j ++ children-rows n cs r j
 
@@ -81,17 +80,23 @@ heads-length k fs fine w =
     let h : wholeEntries 0 (length (drop n fs)) ≡ true = rw w at (fit-list k fs fine .1) in
     omega (arith, fits-length (k .heads) (take n fs) (fit-heads k fs fine), length-take n fs, length-drop n fs, eqb-true (length (drop n fs)) 0 h)
 
-heads-row : (k : Kind) (fs : List Field) → Fine k fs → filled (k .heads) ≡ true → k .width ≡ 0 → numbersLine (k .letter) (values (spelled (number 0) 0 (length (k .heads)) fs)) ≡ lineText (k .letter) fs
+heads-row :
+    (k : Kind) (fs : List Field) → Fine k fs → filled (k .heads) ≡ true → k .width ≡ 0 →
+    numbersLine (k .letter) (values (spelled (number 0) 0 (length (k .heads)) fs)) ≡ lineText (k .letter) fs
 heads-row k fs fine o w =
     let n : length fs ≡ 0 + length (k .heads) = omega (arith, heads-length k fs fine w) in
     ap (λ (gs : List Field). numbersLine (k .letter) (values gs)) (sym (spelled-out (number 0) (length (k .heads)) 0 fs n))
     ∙ ap (lineText (k .letter)) (row-numbers k fs fine o)
 
-key-row : (fs : List Field) → Fine keyLine fs → numbersLine 75 (at fs 0 ∷ at fs 1 ∷ at fs 2 ∷ at fs 3 ∷ markNumber (mark (at fs 4)) ∷ markNumber (mark (at fs 5)) ∷ at fs 6 ∷ []) ≡ lineText 75 fs
+key-row :
+    (fs : List Field) → Fine keyLine fs →
+    numbersLine 75 (at fs 0 ∷ at fs 1 ∷ at fs 2 ∷ at fs 3 ∷ markNumber (mark (at fs 4)) ∷ markNumber (mark (at fs 5)) ∷ at fs 6 ∷ []) ≡ lineText 75 fs
 unfolding filled
 key-row fs fine = let c = key-codes fs fine in rw (mark-again (at fs 4) (c .plain), mark-again (at fs 5) (c .partial)) (heads-row keyLine fs fine refl refl)
 
-pub key-text : (k : List Field) (rs : List (List Field)) → FineRows (keyLine ∷ kindsOf (keyStages (at k 6))) (k ∷ rs) → keySheetText (keySheetOf k rs) ≡ rowsText (keyLine ∷ kindsOf (keyStages (at k 6))) (k ∷ rs)
+pub key-text :
+    (k : List Field) (rs : List (List Field)) → FineRows (keyLine ∷ kindsOf (keyStages (at k 6))) (k ∷ rs) →
+    keySheetText (keySheetOf k rs) ≡ rowsText (keyLine ∷ kindsOf (keyStages (at k 6))) (k ∷ rs)
 unfolding keySheetText filled
 key-text k rs (more fk (more {fs = r} fr (more {fs = l} fl (more {fs = g} fg (more {fs = s} fs (more {fs = w} fw (more {fs = o} fo (more {fs = a} fa (more {fs = m} {rs = cs} fm fc))))))))) =
     let n : length (map (λ fs. exprs (values fs)) cs) ≡ at k 6 = length-map cs (λ fs. exprs (values fs)) ∙ children-count (at k 6) cs fc in
@@ -104,7 +109,9 @@ pub either-false : (a b : Bool) → (a || b) ≡ false → (a ≡ false) × (b �
 either-false true b e = let z : _≡_ {A = ℕ} 0 1 = cc in absurd (omega arith)
 either-false false b e = (refl, e)
 
-input-row : (letter : ℕ) (fs : List Field) → Fine (inputLine letter) fs → unusedKeys (values fs) ≡ false → numbersLine letter (inputNumbers (inputOf (values fs))) ≡ lineText letter fs
+input-row :
+    (letter : ℕ) (fs : List Field) → Fine (inputLine letter) fs → unusedKeys (values fs) ≡ false →
+    numbersLine letter (inputNumbers (inputOf (values fs))) ≡ lineText letter fs
 unfolding fits filled
 input-row letter [] fine u = let e = fit-heads (inputLine letter) [] fine in let z : _≡_ {A = ℕ} 0 1 = cc in absurd (omega arith)
 input-row letter (f ∷ gs) fine u =

@@ -1,26 +1,28 @@
 -- The rows of legal lists are fine, and fine rows are those of legal lists.
-use mathlib.Core.Path.{_≡_, refl, sym, ap, _∙_}
-use Prim.Native.Nat.{ℕ, zero, suc, _+_, _*_, _%_, _≤_}
+use mathlib.Core.Path.{_≡_, refl, ap}
+use Prim.Native.Nat.{ℕ, zero, suc, _*_, _%_, _≤_}
 use native.Mathlib.Omega.{arith}
-use mathlib.Core.List.{List, [], _∷_, _++_, map}
+use mathlib.Core.List.{List, [], _∷_, map}
 use mathlib.Core.Bool.{Bool, true, false, cond, not, _&&_, _||_}
 use mathlib.Core.Option.{Option, none, some}
-use lib.Dec.{eqb, ltb, leb}
-use lib.ListN.{length, take, drop, getD, length-map, replicate}
-use borrow.Author.Tests.{eqb-true, eq-eqb, leb-true, le-leb, ltb-false, le-ltb, not-true, not-false}
+use lib.Dec.{eqb, ltb}
+use lib.ListN.{length, getD, length-map, replicate}
+use borrow.Author.Tests.{eqb-true, eq-eqb, leb-true, le-leb, ltb-false, le-ltb, not-false}
 use Rattle.text.specs.Text.{Field, number, empty, malformed, valueOf}
 use Rattle.text.specs.Bounds.{allows, allowsAll, fits}
 use Rattle.text.proofs.Exact.{both}
 use Rattle.keys.specs.Reorder.{Rule}
 use Rattle.keys.specs.Expressions.{Expression}
-use Rattle.sheet.specs.Lines.{Kind, plain, wholeEntries, never, mostEntries}
-use Rattle.sheet.specs.KeyLines.{at, values, definedExpr, undefinedExprs, over, listLine, exprLine, ruleLine, directionLine, nameLine, inputLine}
+use Rattle.sheet.specs.Lines.{plain, wholeEntries, never, mostEntries}
+use Rattle.sheet.specs.KeyLines.{values, definedExpr, undefinedExprs, over, listLine, exprLine, ruleLine, directionLine, nameLine, inputLine}
 use Rattle.sheet.specs.KeySheets.{exprs, rulesOf, mark, inputOf, unusedKeys}
 use Rattle.sheet.specs.KeyAnswers.{exprNumbers}
 use Rattle.sheet.specs.KeyTexts.{markNumber, ruleExprs, inputNumbers}
-use Rattle.sheet.specs.InTurn.{Each, Fine}
+use Rattle.sheet.specs.Sizes.{Each}
+use Rattle.sheet.proofs.InTurn.{Fine}
 use Rattle.sheet.specs.LegalSheets.{Small, LegalExpr, LegalRule, Listed, LegalExprs, LegalInput}
-use Rattle.sheet.proofs.Numbers.{fit-list, fit-heads, exprs-length, exprs-even, rules-length}
+use Rattle.sheet.proofs.Entries.{each-weaker}
+use Rattle.sheet.proofs.Numbers.{fit-list, exprs-length, exprs-even, rules-length}
 use Rattle.sheet.proofs.KeyRows.{either-false}
 
 -- ---- numbers
@@ -36,6 +38,11 @@ small-allowed : (ns : List ℕ) → Each Small ns → allowsAll plain (numbers n
 unfolding allowsAll
 small-allowed [] h = refl
 small-allowed (n ∷ ns) h = rw (le-leb n 65535 (h .0)) (small-allowed ns (h .1))
+
+pub small-fits : (ns : List ℕ) → Each Small ns → fits (replicate (length ns) plain) (numbers ns) ≡ true
+unfolding fits
+small-fits [] h = refl
+small-fits (n ∷ ns) h = rw (le-leb n 65535 (h .0)) (small-fits ns (h .1))
 
 allowed·at : (f : Field) → allows plain f ≡ true → Small (valueOf f)
 allowed·at (number n) e = leb-true n 65535 e
@@ -69,10 +76,6 @@ none-over : (m : ℕ) (ns : List ℕ) → over m ns ≡ false → Each (λ n. n 
 unfolding over
 none-over m [] e = tt
 none-over m (n ∷ ns) e = let p = either-false (ltb m n) (over m ns) e in (ltb-false m n (p .0), none-over m ns (p .1))
-
-pub each-weaker : {A : Type 0} (P Q : A → Type 0) → ((x : A) → P x → Q x) → (xs : List A) → Each P xs → Each Q xs
-each-weaker P Q f [] h = tt
-each-weaker P Q f (x ∷ xs) h = (f x (h .0), each-weaker P Q f xs (h .1))
 
 -- ---- expressions and rules as numbers
 
@@ -135,7 +138,8 @@ exprs-rules (e ∷ f ∷ es) h = (record { from = h .0; to = h .1 .0 }, exprs-ru
 -- ---- list lines
 
 list-fine :
-    (letter width : ℕ) (undefined : List Field → Bool) (ns : List ℕ) → Each Small ns → wholeEntries width (length ns) ≡ true → length ns ≤ mostEntries * width → undefined (numbers ns) ≡ false →
+    (letter width : ℕ) (undefined : List Field → Bool) (ns : List ℕ) →
+    Each Small ns → wholeEntries width (length ns) ≡ true → length ns ≤ mostEntries * width → undefined (numbers ns) ≡ false →
     Fine (listLine letter width undefined) (numbers ns)
 unfolding fits
 list-fine letter width undefined ns h w l u =
@@ -152,7 +156,8 @@ list-fine letter width undefined ns h w l u =
 pub exprs-fine : (letter : ℕ) (es : List Expression) → LegalExprs es → Fine (exprLine letter) (numbers (exprNumbers es))
 exprs-fine letter es l =
     let n = exprs-count es in
-    list-fine letter 3 _ (exprNumbers es) (exprs-small es (l .each)) (eq-eqb (length (exprNumbers es) % 3) 0 (omega arith)) (omega (arith, l .few)) (rw (values-numbers (exprNumbers es)) (exprs-defined es (l .each)))
+    list-fine letter 3 _ (exprNumbers es) (exprs-small es (l .each)) (eq-eqb (length (exprNumbers es) % 3) 0 (omega arith)) (omega (arith, l .few))
+    (rw (values-numbers (exprNumbers es)) (exprs-defined es (l .each)))
 
 pub rules-fine : (letter : ℕ) (rs : List (Rule Expression)) → Listed LegalRule rs → Fine (ruleLine letter) (numbers (exprNumbers (ruleExprs rs)))
 rules-fine letter rs l =
@@ -160,14 +165,16 @@ rules-fine letter rs l =
     let n = exprs-count es in
     let m = rules-count rs in
     let h = rules-exprs rs (l .each) in
-    list-fine letter 6 _ (exprNumbers es) (exprs-small es h) (eq-eqb (length (exprNumbers es) % 6) 0 (omega arith)) (omega (arith, l .few)) (rw (values-numbers (exprNumbers es)) (exprs-defined es h))
+    list-fine letter 6 _ (exprNumbers es) (exprs-small es h) (eq-eqb (length (exprNumbers es) % 6) 0 (omega arith)) (omega (arith, l .few))
+    (rw (values-numbers (exprNumbers es)) (exprs-defined es h))
 
 one-wide : (n : ℕ) → wholeEntries 1 n ≡ true
 one-wide n = eq-eqb (n % 1) 0 (omega arith)
 
 pub directions-fine : (letter : ℕ) (ns : List ℕ) → Listed (λ d. d ≤ 3) ns → Fine (directionLine letter) (numbers ns)
 directions-fine letter ns l =
-    list-fine letter 1 _ ns (each-weaker (λ d. d ≤ 3) Small (λ d h. omega arith) ns (l .each)) (one-wide (length ns)) (omega (arith, l .few)) (rw (values-numbers ns) (over-none 3 ns (l .each)))
+    list-fine letter 1 _ ns (each-weaker (λ d. d ≤ 3) Small (λ d h. omega arith) ns (l .each)) (one-wide (length ns)) (omega (arith, l .few))
+    (rw (values-numbers ns) (over-none 3 ns (l .each)))
 
 pub names-fine : (letter : ℕ) (ns : List ℕ) → Listed Small ns → Fine (nameLine letter) (numbers ns)
 names-fine letter ns l = list-fine letter 1 never ns (l .each) (one-wide (length ns)) (omega (arith, l .few)) refl

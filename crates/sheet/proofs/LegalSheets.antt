@@ -1,32 +1,34 @@
 -- Reading what was written gives the sheet, for every legal K and I sheet; and what was read is legal.
 use mathlib.Core.Path.{_≡_, refl, sym, ap, _∙_, subst}
-use Prim.Native.Nat.{ℕ, zero, suc, _+_, _≤_}
+use mathlib.Core.Logic.{_↔_}
+use Prim.Native.Nat.{ℕ, zero, suc, _≤_}
 use native.Mathlib.Omega.{arith}
 use mathlib.Core.List.{List, [], _∷_, _++_, append-nil, map}
-use mathlib.Core.Bool.{Bool, true, false, cond, not, _&&_}
-use mathlib.Core.Option.{Option, none, some}
-use lib.Dec.{eqb, ltb, leb}
-use lib.ListN.{length, take, drop, getD, length-map, replicate}
+use mathlib.Core.Bool.{Bool, true, false, cond}
+use mathlib.Core.Option.{Option}
+use lib.Dec.{eqb, leb}
+use lib.ListN.{length, take, length-map, replicate}
 use lib.Seq.{getD-take}
 use borrow.Author.Tests.{eqb-true, eq-eqb, leb-true, le-leb, le-ltb, ltb-false, not-false}
-use Rattle.text.specs.Text.{Field, number, valueOf}
-use Rattle.text.specs.Bounds.{allows, allowsAll, fits}
+use Rattle.text.specs.Text.{Field, number}
+use Rattle.text.specs.Bounds.{allowsAll, fits}
 use Rattle.text.proofs.Exact.{both}
-use Rattle.text.proofs.Limits.{fits-at}
 use Rattle.keys.specs.Reorder.{Rule}
 use Rattle.keys.specs.Expressions.{Expression}
 use Rattle.keys.specs.Adjust.{KeySheet}
 use Rattle.keys.specs.Inputs.{JoinSheet}
 use Rattle.sheet.specs.Lines.{mostBytes}
-use Rattle.sheet.specs.KeyLines.{at, values, definedMode, definedJoin, fitChildren, exprLine, keyLine, inputHead, keyStages, inputStages}
-use Rattle.sheet.specs.KeySheets.{sheet, exprs, rulesOf, inputOf, unusedKeys, keySheetOf, joinSheetOf, keyWhole, joinWhole, keyListsFit, joinListsFit, directionsFit, readKeySheet, readJoinSheet}
+use Rattle.sheet.specs.KeyLines.{at, values, definedMode, fitChildren, exprLine, keyLine, inputHead, keyStages, inputStages}
+use Rattle.sheet.specs.KeySheets.{sheet, exprs, rulesOf, inputOf, unusedKeys, keySheetOf, joinSheetOf, keyListsFit, joinListsFit, readKeySheet, readJoinSheet}
 use Rattle.sheet.specs.KeyAnswers.{exprNumbers, exprsLine, childLines}
 use Rattle.sheet.specs.KeyTexts.{markNumber, ruleExprs, rulesLine, inputNumbers, keySheetText, joinSheetText}
-use Rattle.sheet.specs.InTurn.{Each, kindsOf, rowsText, Fine, FineRows, empty, more}
-use Rattle.sheet.specs.LegalSheets.{LegalExprs, LegalKeySheet, LegalJoinSheet}
+use Rattle.sheet.specs.Sizes.{Each}
+use Rattle.sheet.specs.Refusals.{kindsOf}
+use Rattle.sheet.proofs.InTurn.{rowsText, Fine, FineRows, empty, more}
+use Rattle.sheet.specs.LegalSheets.{Small, LegalExprs, LegalKeySheet, LegalJoinSheet}
 use Rattle.sheet.proofs.Numbers.{fit-heads}
 use Rattle.sheet.proofs.KeyRows.{key-codes, children-count}
-use Rattle.sheet.proofs.LegalRows.{numbers, allowed-at, fits-plain, values-numbers, exprs-back, rules-back, input-back, mark-back, used-keys, exprs-fine, rules-fine, directions-fine, names-fine, input-fine, fine-exprs, fine-rules, fine-directions, fine-names, fine-input}
+use Rattle.sheet.proofs.LegalRows.{numbers, allowed-at, small-fits, fits-plain, values-numbers, exprs-back, rules-back, input-back, mark-back, used-keys, exprs-fine, rules-fine, directions-fine, names-fine, input-fine, fine-exprs, fine-rules, fine-directions, fine-names, fine-input}
 use Rattle.sheet.proofs.KeyAccepted.{key-accepted, join-accepted, key-made, join-made, JoinFits, join-fits, key-written-again, join-written-again}
 
 -- ---- codes are small
@@ -49,8 +51,11 @@ mark-small false = omega arith
 
 -- ---- a K sheet's rows
 
+abbrev headNumbers : KeySheet → List ℕ
+headNumbers x = x .op ∷ x .mode ∷ x .join ∷ x .columns ∷ markNumber (x .plain) ∷ markNumber (x .partial) ∷ length (x .children) ∷ []
+
 abbrev keyHead : KeySheet → List Field
-keyHead x = numbers (x .op ∷ x .mode ∷ x .join ∷ x .columns ∷ markNumber (x .plain) ∷ markNumber (x .partial) ∷ length (x .children) ∷ [])
+keyHead x = numbers (headNumbers x)
 
 abbrev keyRows : KeySheet → List (List Field)
 keyRows x =
@@ -58,13 +63,19 @@ keyRows x =
     ∷ numbers (exprNumbers (ruleExprs (x .rewriting))) ∷ numbers (x .groups) ∷ numbers (x .aggregates) ∷ numbers (exprNumbers (x .mapped))
     ∷ map (λ es. numbers (exprNumbers es)) (x .children)
 
+head-small : (x : KeySheet) → LegalKeySheet x → Each Small (headNumbers x)
+head-small x l =
+    let mode : Small (x .mode) = omega (arith, mode-small (x .op) (x .mode) (l .mode)) in
+    let join : Small (x .join) = omega (arith, join·at (eqb (x .op) 0) (x .join) (l .join)) in
+    let mark : (b : Bool) → Small (markNumber b) = λ b. omega (arith, mark-small b) in
+    (omega (arith, l .op), (mode, (join, (l .columns, (mark (x .plain), (mark (x .partial), (omega (arith, l .few), tt)))))))
+
 key-head-fine : (x : KeySheet) → LegalKeySheet x → Fine keyLine (keyHead x)
-unfolding fits allowsAll
+unfolding allowsAll
 key-head-fine x l =
-    let small : (n : ℕ) → n ≤ 65535 → leb n 65535 ≡ true = λ n h. le-leb n 65535 h in
     let mark : (b : Bool) → leb (markNumber b) 1 ≡ true = λ b. le-leb (markNumber b) 1 (mark-small b) in
     record {
-      fit = rw (small (x .op) (omega (arith, l .op)), small (x .mode) (omega (arith, mode-small (x .op) (x .mode) (l .mode))), small (x .join) (omega (arith, join·at (eqb (x .op) 0) (x .join) (l .join))), small (x .columns) (l .columns), small (markNumber (x .plain)) (omega (arith, mark-small (x .plain))), small (markNumber (x .partial)) (omega (arith, mark-small (x .partial))), small (length (x .children)) (omega (arith, l .few)));
+      fit = rw (small-fits (headNumbers x) (head-small x l));
       formed = refl;
       few = refl;
       small = le-ltb 8 (length (x .children)) (l .few);
@@ -133,7 +144,10 @@ children-legal (suc n) (fs ∷ cs) (more f r) = (fine-exprs 67 fs f, children-le
 key-legal :
     (k : List Field) (rs : List (List Field)) → FineRows (keyLine ∷ kindsOf (keyStages (at k 6))) (k ∷ rs) → keyListsFit (keySheetOf k rs) ≡ true →
     length (keySheetText (keySheetOf k rs)) ≤ mostBytes → LegalKeySheet (keySheetOf k rs)
-key-legal k rs (more fk (more {fs = r} fr (more {fs = l} fl (more {fs = g} fg (more {fs = s} fs (more {fs = w} fw (more {fs = o} fo (more {fs = a} fa (more {fs = m} {rs = cs} fm fc))))))))) fit bytes =
+key-legal
+    k rs
+    (more fk (more {fs = r} fr (more {fs = l} fl (more {fs = g} fg (more {fs = s} fs (more {fs = w} fw (more {fs = o} fo (more {fs = a} fa (more {fs = m} {rs = cs} fm fc)))))))))
+    fit bytes =
     let n : length (map (λ fs. exprs (values fs)) cs) ≡ at k 6 = length-map cs (λ fs. exprs (values fs)) ∙ children-count (at k 6) cs fc in
     let c = key-codes k fk in
     record {
@@ -176,7 +190,7 @@ joinRows x =
 join-head-fine : (x : JoinSheet) → LegalJoinSheet x → Fine inputHead (joinHead x)
 unfolding fits allowsAll
 join-head-fine x l = record {
-  fit = rw (le-leb (x .op) 65535 (omega (arith, l .op)), le-leb (x .mode) 65535 (omega (arith, mode-small (x .op) (x .mode) (l .mode))));
+  fit = rw (small-fits (x .op ∷ x .mode ∷ []) (omega (arith, l .op), (omega (arith, mode-small (x .op) (x .mode) (l .mode)), tt)));
   formed = refl;
   few = refl;
   small = refl;
@@ -248,3 +262,11 @@ join-read-legal s x e =
     let m = join-made (a .head) (a .rows) x (a .is) in
     let t : joinSheetText (joinSheetOf (a .head) (a .rows)) ≡ s = ap joinSheetText (m .1) ∙ join-written-again s x e in
     subst LegalJoinSheet (m .1) (join-legal (a .head) (a .rows) (a .fine) (join-fits (joinSheetOf (a .head) (a .rows)) (a .rows) (m .0)) (rw t (a .short)))
+
+-- ---- so a sheet is read exactly from the text of a legal one
+
+pub key-read-exactly : (s : List ℕ) (x : KeySheet) → (readKeySheet s ≡ sheet x) ↔ (LegalKeySheet x × (keySheetText x ≡ s))
+key-read-exactly s x = (λ e. (key-read-legal s x e, key-written-again s x e), λ h. ap readKeySheet (sym (h .1)) ∙ key-read-again x (h .0))
+
+pub join-read-exactly : (s : List ℕ) (x : JoinSheet) → (readJoinSheet s ≡ sheet x) ↔ (LegalJoinSheet x × (joinSheetText x ≡ s))
+join-read-exactly s x = (λ e. (join-read-legal s x e, join-written-again s x e), λ h. ap readJoinSheet (sym (h .1)) ∙ join-read-again x (h .0))

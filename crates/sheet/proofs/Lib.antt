@@ -4,7 +4,8 @@ pub mod LineNumbers
 pub mod ReadLines
 pub mod Packing
 pub mod ReadLists
-pub mod Examples
+pub mod Entries
+pub mod InTurn
 pub mod Chained
 pub mod RowsAgain
 pub mod Numbers
@@ -15,6 +16,9 @@ pub mod LegalRows
 pub mod LegalSheets
 pub mod Marked
 pub mod TriedSizes
-pub mod AnswerSizes
+pub mod KeySizes
 pub mod JoinSizes
 pub mod AnswersFit
+pub mod Refused
+pub mod Lowest
+pub mod Decided

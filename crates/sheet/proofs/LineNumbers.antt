@@ -1,9 +1,9 @@
 -- What a line's counts and numbers give it is `lineNumber` of its kind.
 -- Assumes nothing.
-use Prim.Native.Nat.{ℕ, zero, suc, _+_, _-_, _*_, _≤_, _<_}
+use Prim.Native.Nat.{ℕ, zero, suc, _+_, _-_, _*_, _≤_}
 use mathlib.Core.Path.{_≡_, refl, ap, sym, _∙_}
 use mathlib.Core.Bool.{Bool, true, false, cond, not, _&&_, _||_}
-use mathlib.Core.Option.{Option, none, some}
+use mathlib.Core.Option.{some}
 use mathlib.Core.List.{List, [], _∷_, map}
 use native.Mathlib.Omega.{arith}
 use borrow.Author.Tests.{le-leb, lt-leb, leb-true, leb-false, ltb-false, eqb-true}
@@ -12,7 +12,7 @@ use lib.ListN.{length, getD, take, drop, length-drop, List·getD-map}
 use Rattle.text.specs.Text.{Field, number, stateOf, valueOf, greatest}
 use Rattle.text.specs.Bounds.{Bound, allows, fits, allowsAll}
 use Rattle.text.proofs.Limits.{all-largest}
-use Rattle.sheet.specs.Lines.{Kind, plain, mostBytes, mostEntries, wholeEntries, fieldsFit, tooManyEntries, lineNumber}
+use Rattle.sheet.specs.Lines.{plain, mostBytes, mostEntries, wholeEntries, lineNumber}
 use Rattle.sheet.specs.KeyLines.{at, values}
 use Rattle.sheet.specs.Reading.{kindOf, headCount, entryWidth, largeBy, undefinedBy, unfitBy, codesNumber, countsNumber, Whole}
 use Rattle.sheet.specs.declared.kind.Codes.{Codes}

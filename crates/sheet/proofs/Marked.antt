@@ -13,7 +13,7 @@ use Rattle.keys.specs.Adjust.{adjustInputKeysOrdering}
 use Rattle.sheet.specs.Lines.{lineNumber, rowsOf, chain}
 use Rattle.sheet.specs.KeyLines.{undefinedExprs, over}
 use Rattle.sheet.specs.KeySheets.{exprs, rulesOf, keyListsFit, readKeySheet}
-use Rattle.sheet.specs.KeyAnswers.{Outcome, wrote, keyAnswerText, adjustDecision, decision}
+use Rattle.sheet.specs.KeyAnswers.{wrote, keyAnswerText, adjustDecision, decision}
 
 abbrev bytes : String → List ℕ
 bytes String.[] = []

@@ -2,26 +2,23 @@
 use mathlib.Core.Path.{_≡_, refl, sym, ap, _∙_}
 use Prim.Native.Nat.{ℕ, zero, suc, _+_, _*_, _/_, _%_, _≤_}
 use native.Mathlib.Omega.{arith}
-use native.Mathlib.Nat.{add-zero}
 use mathlib.Core.List.{List, [], _∷_, _++_, map}
-use mathlib.Core.Bool.{Bool, true, false, cond, not, _&&_, _||_}
-use mathlib.Core.Option.{Option, none, some}
-use lib.Dec.{eqb, ltb, leb}
-use lib.ListN.{length, take, drop, getD, length-map, take-append-drop, drop-of-length-le}
+use mathlib.Core.Bool.{Bool, true, false, cond, not, _&&_}
+use mathlib.Core.Option.{none, some}
+use lib.Dec.{eqb}
+use lib.ListN.{length, take, drop, getD, take-append-drop, drop-of-length-le}
 use lib.Seq.{drop-cons}
-use borrow.Author.Tests.{eqb-true, eqb-false, leb-true, not-true, not-false, eq-eqb}
+use borrow.Author.Tests.{eqb-true, eqb-false, not-true, not-false}
 use Rattle.text.specs.Text.{Field, number, empty, malformed, valueOf}
 use Rattle.text.specs.Bounds.{Bound, allows, allowsAll, fits}
-use Rattle.text.specs.Write.{lineText}
 use Rattle.text.proofs.Exact.{both}
-use Rattle.keys.specs.Reorder.{Rule}
 use Rattle.keys.specs.Expressions.{Expression}
 use Rattle.sheet.specs.Lines.{Kind, plain, wholeEntries}
 use Rattle.sheet.specs.KeyLines.{at, values}
 use Rattle.sheet.specs.KeySheets.{exprs, rulesOf, mark, inputOf, unusedKeys}
-use Rattle.sheet.specs.KeyAnswers.{numbersLine, exprNumbers, exprsLine}
+use Rattle.sheet.specs.KeyAnswers.{exprNumbers}
 use Rattle.sheet.specs.KeyTexts.{markNumber, ruleExprs, inputNumbers}
-use Rattle.sheet.specs.InTurn.{Fine}
+use Rattle.sheet.proofs.InTurn.{Fine}
 
 -- ---- fields that are numbers
 
@@ -126,7 +123,9 @@ mark·at false n e h = let ne : n ≡ 1 → ⊥ = eqb-false n 1 e in omega arith
 pub mark-again : (n : ℕ) → n ≤ 1 → markNumber (mark n) ≡ n
 mark-again n h = mark·at (mark n) n refl h
 
-input·at : (t : Bool) (m : ℕ) (ns : List ℕ) → mark m ≡ t → m ≤ 1 → length ns % 3 ≡ 0 → (not t && not (eqb (length ns) 0)) ≡ false → inputNumbers (cond t (some (exprs ns)) none) ≡ m ∷ ns
+input·at :
+    (t : Bool) (m : ℕ) (ns : List ℕ) → mark m ≡ t → m ≤ 1 → length ns % 3 ≡ 0 → (not t && not (eqb (length ns) 0)) ≡ false →
+    inputNumbers (cond t (some (exprs ns)) none) ≡ m ∷ ns
 input·at true m ns e h l u = rw (eqb-true m 1 e) (ap (λ (ys : List ℕ). 1 ∷ ys) (exprs-again ns l))
 input·at false m [] e h l u = ap (λ (x : ℕ). x ∷ []) (mark·at false m e h)
 input·at false m (n ∷ ns) e h l u = let z : suc (length ns) ≡ 0 = eqb-true (suc (length ns)) 0 (not-false (eqb (suc (length ns)) 0) u) in absurd (omega arith)

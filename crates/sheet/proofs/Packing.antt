@@ -1,11 +1,11 @@
 -- A turn of packing a line's numbers; and what the packed list stands for.
 -- Assumes nothing.
 use Prim.Native.Nat.{ℕ, zero, suc, _+_, _-_, _≤_, _<_}
-use mathlib.Core.Path.{_≡_, refl, ap, sym, _∙_}
-use mathlib.Core.List.{List, [], _∷_, _++_, map, append-assoc, append-nil}
+use mathlib.Core.Path.{_≡_, refl, ap}
+use mathlib.Core.List.{List, [], _∷_, _++_, append-assoc, append-nil}
 use native.Mathlib.Omega.{arith}
 use lib.ListN.{length, getD, take, drop, set, length-drop}
-use Rattle.keys.specs.Expressions.{Expression, packed, expressions}
+use Rattle.keys.specs.Expressions.{packed, expressions}
 use Rattle.keys.proofs.Lists.{first-pushed}
 use Rattle.keys.proofs.Packed.{unpacked}
 use Rattle.sheet.specs.KeySheets.{exprs}

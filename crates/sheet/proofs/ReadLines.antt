@@ -1,18 +1,16 @@
 -- What `read_line` answers, by the tests that it makes.
 -- Assumes nothing.
-use Prim.Native.Nat.{ℕ, _-_, _≤_}
+use Prim.Native.Nat.{ℕ}
 use mathlib.Core.Path.{_≡_, refl, ap, sym, _∙_}
 use mathlib.Core.Bool.{cond}
-use mathlib.Core.Option.{Option, none, some}
+use mathlib.Core.Option.{Option}
 use mathlib.Core.List.{List, [], _∷_, map}
-use native.Mathlib.Omega.{arith}
 use borrow.Author.Tests.{eq-eqb, ne-eqb}
 use lib.Dec.{eqb}
-use lib.ListN.{length, take}
-use Rattle.text.specs.Text.{Field, stateOf, valueOf, greatest, row}
+use Rattle.text.specs.Text.{Field, valueOf, row}
 use Rattle.text.specs.declared.line.Line.the-variants as L
 use Rattle.text.specs.Read.{lineRead}
-use Rattle.text.proofs.Answers.{Opened, opened, wrong-none}
+use Rattle.text.proofs.Answers.{Opened, wrong-none}
 use Rattle.sheet.specs.Lines.{lineNumber}
 use Rattle.sheet.specs.KeyLines.{values}
 use Rattle.sheet.specs.Reading.{kindOf, codesNumber, countsNumber, readBy, rowValues}

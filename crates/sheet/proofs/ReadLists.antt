@@ -1,21 +1,21 @@
 -- What `read_list` answers, from what `read_line` and `pack_line` answer.
 -- Assumes nothing.
-use Prim.Native.Nat.{ℕ, _-_, _*_, _≤_, _<_}
-use mathlib.Core.Path.{_≡_, refl, ap, sym, subst, _∙_}
+use Prim.Native.Nat.{ℕ, _-_, _≤_}
+use mathlib.Core.Path.{_≡_, refl, ap, sym, _∙_}
 use mathlib.Core.Bool.{Bool, true, false, cond, _&&_}
 use mathlib.Core.Option.{Option, none, some}
 use mathlib.Core.List.{List, [], _∷_, map}
 use native.Mathlib.Omega.{arith}
-use borrow.Author.Tests.{eq-eqb, ne-eqb, eqb-true, eqb-false, leb-true}
+use borrow.Author.Tests.{ne-eqb, eqb-true, eqb-false, leb-true}
 use lib.Dec.{eqb, leb}
 use lib.ListN.{length, take}
 use lib.Seq.{length-take-le}
 use Rattle.text.specs.Text.{Field, number, empty, malformed, stateOf, valueOf, greatest}
-use Rattle.text.specs.Bounds.{allows, allowsAll}
+use Rattle.text.specs.Bounds.{allowsAll}
 use Rattle.text.proofs.Limits.{all-largest}
 use Rattle.sheet.specs.Lines.{plain, lineNumber, fieldsOf}
 use Rattle.sheet.specs.KeyLines.{values}
-use Rattle.sheet.specs.Reading.{kindOf, headCount, entryWidth, countsNumber, packedBy, readBy, Small, Fits}
+use Rattle.sheet.specs.Reading.{kindOf, countsNumber, readBy, Small, Fits}
 use Rattle.sheet.specs.ListLines.{packedList, listedBy}
 use Rattle.sheet.specs.declared.kind.Codes.{Codes}
 use Rattle.sheet.specs.declared.kind.Codes.the-variants.{Key, Join, Exprs, Rules, Input, Directions, Names}

@@ -1,6 +1,6 @@
 -- Reading and writing lines of kinds in turn are inverse: what was read is fine and is written as it stood, and fine rows that are written are read.
 use mathlib.Core.Path.{_≡_, refl, sym, ap, _∙_}
-use Prim.Native.Nat.{ℕ, zero, suc, _+_, _≤_}
+use Prim.Native.Nat.{ℕ, suc, _+_, _≤_}
 use native.Mathlib.Omega.{arith}
 use native.Mathlib.Nat.{add-zero}
 use mathlib.Core.List.{List, [], _∷_, _++_, append-assoc, tail}
@@ -9,9 +9,9 @@ use mathlib.Core.Option.{Option, none, some}
 use lib.Dec.{eqb, ltb, leb}
 use lib.ListN.{length, take, drop, length-append, take-append-drop}
 use borrow.Author.Tests.{eqb-true, ltb-false, le-ltb, le-leb, leb-true}
-use Rattle.text.specs.Text.{Field, number, empty, malformed, most, parts, stateOf, after}
+use Rattle.text.specs.Text.{Field, number, empty, malformed, most, parts, after}
 use Rattle.text.specs.Lines.{firstOf, nextOf}
-use Rattle.text.specs.Bounds.{Bound, widest, allows, allowsAll, wellFormed, fits}
+use Rattle.text.specs.Bounds.{Bound, widest, allows, allowsAll, fits}
 use Rattle.text.specs.Write.{fieldsText, lineText}
 use Rattle.text.proofs.Exact.{both}
 use Rattle.text.proofs.Limits.{all-well}
@@ -20,7 +20,8 @@ use Rattle.text.proofs.Places.{bridge}
 use Rattle.text.proofs.RoundTrip.{parts-line, first-back}
 use Rattle.text.proofs.WrittenBack.{line-again}
 use Rattle.sheet.specs.Lines.{Kind, Run, read, refused, before, mostBytes, plain, wholeEntries, fieldsFit, tooManyEntries, lineNumber, fieldsOf}
-use Rattle.sheet.specs.InTurn.{Each, readable, Counted, inTurn, rowsText, Fine, FineRows, empty as noRows, more}
+use Rattle.sheet.specs.Sizes.{Each}
+use Rattle.sheet.proofs.InTurn.{readable, Counted, inTurn, rowsText, Fine, FineRows, empty as noRows, more}
 
 -- ---- fields that fit are within 64 bits
 
@@ -58,7 +59,9 @@ module _ (k : Kind) (c : Counted k) (fs : List Field) (fine : Fine k fs) where
 
 -- ---- one line
 
-number·at : (a b o f l d u : Bool) → _≡_ {A = ℕ} (cond a (cond b 2 (cond (o || (f || l)) 3 (cond d 4 (cond u 6 0)))) 2) 0 → (a ≡ true) × (b ≡ false) × (o ≡ false) × (f ≡ false) × (l ≡ false) × (d ≡ false) × (u ≡ false)
+number·at :
+    (a b o f l d u : Bool) → _≡_ {A = ℕ} (cond a (cond b 2 (cond (o || (f || l)) 3 (cond d 4 (cond u 6 0)))) 2) 0 →
+    (a ≡ true) × (b ≡ false) × (o ≡ false) × (f ≡ false) × (l ≡ false) × (d ≡ false) × (u ≡ false)
 number·at false b o f l d u e = absurd (omega arith)
 number·at true true o f l d u e = absurd (omega arith)
 number·at true false true f l d u e = absurd (omega arith)
@@ -120,7 +123,9 @@ record Goes (b : Bool) (fs : List Field) (r : Run) (rs : List (List Field)) (ls 
   rows : rs ≡ fs ∷ qs
   goes : r ≡ read qs ls l p
 
-goes-on : (b : Bool) (fs : List Field) (r : Run) (n line : ℕ) (rs : List (List Field)) (ls : List (List ℕ)) (l p : ℕ) → cond b (before fs r) (refused n line) ≡ read rs ls l p → Goes b fs r rs ls l p
+goes-on :
+    (b : Bool) (fs : List Field) (r : Run) (n line : ℕ) (rs : List (List Field)) (ls : List (List ℕ)) (l p : ℕ) →
+    cond b (before fs r) (refused n line) ≡ read rs ls l p → Goes b fs r rs ls l p
 goes-on true fs (read qs ms m q) n line rs ls l p e =
     let a : ms ≡ ls = cc in
     let b : m ≡ l = cc in
@@ -153,7 +158,9 @@ module _ (k : Kind) (c : Counted k) (ks : List Kind) (line at : ℕ) (s : List �
         within = λ h. omega (arith, w .within (omega (arith, t .within)), length-append one (rowsText ks (g .qs)));
       })
 
-pub rows-written : (ks : List Kind) → Each Counted ks → (line at : ℕ) (s : List ℕ) (rs : List (List Field)) (ls : List (List ℕ)) (l p : ℕ) → inTurn ks line at (parts 10 s) ≡ read rs ls l p → Written ks at s rs ls
+pub rows-written :
+    (ks : List Kind) → Each Counted ks → (line at : ℕ) (s : List ℕ) (rs : List (List Field)) (ls : List (List ℕ)) (l p : ℕ) →
+    inTurn ks line at (parts 10 s) ≡ read rs ls l p → Written ks at s rs ls
 unfolding inTurn
 rows-written [] cs line at s rs ls l p e =
     let q : [] ≡ rs = cc in

@@ -1,38 +1,22 @@
 -- An order that is tried keeps the sizes of lists and numbers: positions are places of a side, moved keys and directions are entries of the sheet.
-use mathlib.Core.Path.{_≡_, refl, sym, ap, _∙_, subst}
-use Prim.Native.Nat.{ℕ, zero, suc, _+_, _*_, _≤_, _<_, min}
+use mathlib.Core.Path.{subst}
+use Prim.Native.Nat.{ℕ, suc, _+_, _≤_}
 use native.Mathlib.Omega.{arith}
-use mathlib.Core.List.{List, [], _∷_, _++_, map}
-use mathlib.Core.Bool.{Bool, true, false, cond}
+use mathlib.Core.List.{List, [], _∷_}
+use mathlib.Core.Bool.{Bool}
 use mathlib.Core.Option.{Option, none, some}
 use lib.Dec.{eqb}
-use lib.ListN.{length, getD, take, set, length-map, length-take}
-use Rattle.keys.specs.Lists.{also, andThen, placeOf, takePlaces, expectedExprPositions, orElse, permute}
-use Rattle.keys.specs.Reorder.{Rule, Tried, met, movedBy, rewrite, eitherSide, tryReorder}
+use lib.ListN.{length, take, set, length-take}
+use Rattle.keys.specs.Lists.{also, andThen, placeOf, takePlaces, expectedExprPositions, orElse}
+use Rattle.keys.specs.Reorder.{Rule, Tried, rewrite, eitherSide, tryReorder}
 use Rattle.keys.specs.Arrange.{Below, AllBelow}
 use Rattle.keys.specs.Expressions.{Expression, placeholder}
-use Rattle.keys.specs.Adjust.{movedDirections, directionsOf}
+use Rattle.keys.specs.Adjust.{directionsOf}
 use Rattle.keys.proofs.Truths.{by-test}
-use Rattle.keys.proofs.Lists.{positions-below, orElse-below}
+use Rattle.keys.proofs.Lists.{positions-below}
 use Rattle.keys.proofs.Ways.{Way, unequal, meeting, moving, missing, way, rewrite-length, searched}
-use Rattle.sheet.specs.InTurn.{Each}
-use Rattle.sheet.specs.Sizes.{Few, Within, NumberList, ExprList}
-
-pub nothing-few : {A : Type 0} (n : ℕ) (P : A → Type 0) → Few n P []
-nothing-few n P = record { few = omega arith; each = tt }
-
-pub each-at : {A : Type 0} (P : A → Type 0) (d : A) → P d → (xs : List A) (i : ℕ) → Each P xs → P (getD xs i d)
-each-at P d h [] i e = h
-each-at P d h (x ∷ xs) zero e = e .0
-each-at P d h (x ∷ xs) (suc i) e = each-at P d h xs i (e .1)
-
-each-permuted : {A : Type 0} (P : A → Type 0) (d : A) → P d → (xs : List A) → Each P xs → (ps : List ℕ) → Each P (permute d xs ps)
-each-permuted P d h xs e [] = tt
-each-permuted P d h xs e (p ∷ ps) = (each-at P d h xs p e, each-permuted P d h xs e ps)
-
--- entries at no more places than there may be entries
-pub few-permuted : {A : Type 0} (n : ℕ) (P : A → Type 0) (d : A) → P d → (xs : List A) → Few n P xs → (ps : List ℕ) → length ps ≤ n → Few n P (permute d xs ps)
-few-permuted n P d h xs f ps l = record { few = omega (arith, length-map ps (λ p. getD xs p d)); each = each-permuted P d h xs (f .each) ps }
+use Rattle.sheet.specs.Sizes.{Each, Within, NumberList, ExprList}
+use Rattle.sheet.proofs.Entries.{nothing-few, few-permuted}
 
 -- ---- positions
 
@@ -100,12 +84,15 @@ module _ (m e : ℕ) (places : e + e ≤ m) (codes : 3 ≤ m) where
 
   module _ (same : Expression → Expression → Bool) (w : List (Rule Expression)) (r l g : List Expression) (hr : ExprList m e r) (hl : ExprList m e l) (hg : ExprList m e g) where
     either-placed : (r l g : List Expression) → length r ≤ e → length l ≤ e → length g ≤ e → Placed e (eitherSide same placeholder r l g)
-    either-placed r l g a b c = placed-either e (expectedExprPositions same placeholder l r) (expectedExprPositions same placeholder g r) (positions-placed same placeholder e l r b a) (positions-placed same placeholder e g r c a)
+    either-placed r l g a b c =
+        placed-either e (expectedExprPositions same placeholder l r) (expectedExprPositions same placeholder g r)
+        (positions-placed same placeholder e l r b a) (positions-placed same placeholder e g r c a)
 
     searched-placed : Placed e (searched same placeholder w r l g)
     searched-placed =
         let rewritten : (xs : List Expression) → length xs ≤ e → length (rewrite same w xs) ≤ e = λ xs h. omega (arith, rewrite-length same w xs) in
-        placed-either e (eitherSide same placeholder r l g) (eitherSide same placeholder (rewrite same w r) (rewrite same w l) (rewrite same w g)) (either-placed r l g (hr .few) (hl .few) (hg .few))
+        placed-either e (eitherSide same placeholder r l g) (eitherSide same placeholder (rewrite same w r) (rewrite same w l) (rewrite same w g))
+        (either-placed r l g (hr .few) (hl .few) (hg .few))
         (either-placed (rewrite same w r) (rewrite same w l) (rewrite same w g) (rewritten r (hr .few)) (rewritten l (hl .few)) (rewritten g (hg .few)))
 
     stood : (report : ℕ) → report ≤ 3 → SizedTried m e (record { report = report; positions = []; left = l; right = g })

@@ -2,10 +2,10 @@
 -- Renders document 01, "Answer: `k,changed,report`", "Answer `i,report,followed`", and refusal 10.
 use Prim.Native.Nat.{ℕ}
 use mathlib.Core.List.{List, [], _∷_, _++_, map}
-use mathlib.Core.Bool.{Bool, true, false, cond}
-use lib.Dec.{eqb, ltb}
-use lib.ListN.{length, getD}
-use Rattle.text.specs.Text.{Field, number}
+use mathlib.Core.Bool.{cond}
+use lib.Dec.{eqb}
+use lib.ListN.{getD}
+use Rattle.text.specs.Text.{number}
 use Rattle.text.specs.Write.{lineText}
 use Rattle.keys.specs.Expressions.{Expression, sameExpr}
 use Rattle.keys.specs.Adjust.{KeySheet, KeyAnswer, Projected, Adjustment, answered, nameNotFound, adjustInputKeysOrdering}

@@ -1,11 +1,11 @@
 -- The lines of K and I sheets.
 -- Renders document 01, "Key sheet", and "`I,op,mode` then L, G, S, H, N, W, V".
-use Prim.Native.Nat.{ℕ, suc}
+use Prim.Native.Nat.{ℕ}
 use mathlib.Core.List.{List, [], _∷_, map}
 use mathlib.Core.Bool.{Bool, true, false, cond, not, _&&_, _||_}
 use lib.Dec.{ltb, leb, eqb}
 use lib.ListN.{getD, drop}
-use Rattle.text.specs.Text.{Field, number, empty, malformed, valueOf}
+use Rattle.text.specs.Text.{Field, number, malformed, valueOf}
 use Rattle.sheet.specs.Lines.{Kind, Stage, plain, counted, oneLess, never, neverLarge}
 
 -- the number at a place of a line

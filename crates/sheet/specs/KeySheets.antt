@@ -2,7 +2,7 @@
 -- Renders document 01, "Key sheet", and refusals 1 to 6 of "Where a sheet is turned back".
 use Prim.Native.Nat.{ℕ}
 use mathlib.Core.List.{List, [], _∷_, map}
-use mathlib.Core.Bool.{Bool, true, false, cond, not, _&&_, _||_}
+use mathlib.Core.Bool.{Bool, false, cond, not, _&&_, _||_}
 use mathlib.Core.Option.{Option, none, some}
 use lib.Dec.{eqb}
 use lib.ListN.{length, getD, drop}
@@ -11,7 +11,7 @@ use Rattle.keys.specs.Reorder.{Rule}
 use Rattle.keys.specs.Expressions.{Expression}
 use Rattle.keys.specs.Adjust.{KeySheet}
 use Rattle.keys.specs.Inputs.{JoinSheet}
-use Rattle.sheet.specs.Lines.{Kind, Run, read, refused, rowsOf, chain, atEnd}
+use Rattle.sheet.specs.Lines.{Run, read, refused, rowsOf, chain, atEnd}
 use Rattle.sheet.specs.KeyLines.{at, values, keyLine, inputHead, keyStages, inputStages}
 
 -- every three numbers an expression
@@ -75,10 +75,6 @@ joinSheetOf k rs = record {
 pub data Reading (A : Type 0) : Type 0 where
   sheet : A → Reading A
   turned : ℕ → ℕ → Reading A
-
-isEmpty : {A : Type 0} → List A → Bool
-isEmpty [] = true
-isEmpty (x ∷ xs) = false
 
 -- L, G and W serve ops 0 (Partitioned) and 2
 abbrev pub pairsServe : ℕ → ℕ → Bool

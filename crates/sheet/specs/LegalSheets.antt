@@ -2,8 +2,8 @@
 -- Renders document 01, "A sheet is ASCII lines ended by LF", "An expression is kind,name,index" and "Key sheet".
 use mathlib.Core.Path.{_≡_}
 use Prim.Native.Nat.{ℕ, _≤_}
-use mathlib.Core.List.{List, [], _∷_}
-use mathlib.Core.Bool.{Bool, true}
+use mathlib.Core.List.{List}
+use mathlib.Core.Bool.{true}
 use mathlib.Core.Option.{Option, none, some}
 use lib.ListN.{length}
 use Rattle.keys.specs.Reorder.{Rule}
@@ -14,8 +14,7 @@ use Rattle.sheet.specs.Lines.{mostBytes, mostEntries}
 use Rattle.sheet.specs.KeyLines.{definedExpr, definedMode, definedJoin, fitChildren}
 use Rattle.sheet.specs.KeySheets.{directionsFit, keyListsFit}
 use Rattle.sheet.specs.KeyTexts.{keySheetText, joinSheetText}
-use Rattle.sheet.specs.InTurn.{Each}
-use Rattle.sheet.specs.Sizes.{Few}
+use Rattle.sheet.specs.Sizes.{Each, Few}
 
 -- "Fields are 0..65535"
 abbrev pub Small : ℕ → Type 0

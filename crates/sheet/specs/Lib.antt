@@ -4,7 +4,7 @@ pub mod KeySheets
 pub mod KeyAnswers
 pub mod KeyTexts
 pub mod Reading
-pub mod InTurn
 pub mod Sizes
 pub mod LegalSheets
 pub mod ListLines
+pub mod Refusals

@@ -1,6 +1,6 @@
 -- Runs of lines: a line kind is a value, and one recursion over lines reads a run of any kind.
 -- Renders document 01, "Where a sheet is turned back": the rows with place Line, lowest line first, then lowest number.
-use Prim.Native.Nat.{ℕ, suc, _+_, _-_, _*_, _%_}
+use Prim.Native.Nat.{ℕ, suc, _-_, _*_, _%_}
 use mathlib.Core.List.{List, [], _∷_, _++_}
 use mathlib.Core.Bool.{Bool, true, false, cond, _&&_, _||_}
 use mathlib.Core.Option.{Option, none, some}

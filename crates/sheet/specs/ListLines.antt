@@ -1,13 +1,13 @@
 -- The list lines of K and I sheets by their number, and what reading them leaves.
-use Prim.Native.Nat.{ℕ, zero, suc}
+use Prim.Native.Nat.{ℕ}
 use mathlib.Core.Path.{_≡_}
-use mathlib.Core.List.{List, [], _∷_}
+use mathlib.Core.List.{List}
 use mathlib.Core.Bool.{cond}
 use lib.Dec.{eqb}
 use mathlib.Core.Option.{Option}
-use lib.ListN.{length, getD, take}
+use lib.ListN.{length, take}
 use Rattle.text.specs.Text.{Field, lineAt, after}
-use Rattle.sheet.specs.Lines.{Kind, Run, read, refused, lineNumber, fieldsOf}
+use Rattle.sheet.specs.Lines.{Kind, lineNumber, fieldsOf}
 use Rattle.sheet.specs.KeyLines.{values}
 use Rattle.sheet.specs.Reading.{kindOf, packedBy}
 use Rattle.sheet.specs.declared.kind.Codes.{Codes}
@@ -18,8 +18,6 @@ use Rattle.sheet.specs.declared.lists.SheetKind.{SheetKind}
 use Rattle.sheet.specs.declared.lists.SheetKind.the-variants.{Key, Join}
 use Rattle.sheet.specs.declared.lists.Listed.{Listed}
 use Rattle.sheet.specs.declared.lists.Listed.the-variants.{Packed, Turned}
-use Rattle.sheet.specs.declared.lists.Lists.{Lists}
-use Rattle.sheet.specs.declared.lists.Lists.the-variants.{Read, Refused}
 
 -- after a K line R, L, G, S, W, O, A, M, then C; after an I line L, G, S, H, N, W, V
 abbrev pub listLetter : SheetKind → ℕ → ℕ
@@ -33,26 +31,6 @@ listCodes Join i = cond (eqb i 2) Directions (cond (eqb i 3) Input (cond (eqb i 
 
 abbrev pub listKind : SheetKind → ℕ → Kind
 listKind k i = kindOf (listCodes k i) (listLetter k i)
-
--- n of them from the i-th on
-abbrev pub listKinds : SheetKind → ℕ → ℕ → List Kind
-listKinds k i zero = []
-listKinds k i (suc n) = listKind k i ∷ listKinds k (suc i) n
-
-abbrev pub listsBy : Run → Lists
-listsBy (read rs ls l p) = Read p l
-listsBy (refused n l) = Refused n l
-
--- the lists of the rows from the i-th on stand, packed, in the rooms lent
-abbrev pub Held : SheetKind → ℕ → List (List Field) → List (List ℕ) → List ℕ → Type 0
-Held k i [] lists counts = Unit {0}
-Held k i (r ∷ rs) lists counts =
-    (take (getD counts i 0) (getD lists i []) ≡ packedBy (listCodes k i) (values r)) × Held k (suc i) rs lists counts
-
--- where all was read
-abbrev pub HeldBy : SheetKind → Run → List (List ℕ) → List ℕ → Type 0
-HeldBy k (read rs ls l p) lists counts = Held k 0 rs lists counts
-HeldBy k (refused n l) lists counts = Unit {0}
 
 -- a line's list, as long as it is packed, with the place after it; or the lowest number that turns it back
 abbrev pub listedBy : ℕ → ℕ → Codes → Option (List Field) → Listed
@@ -74,7 +52,3 @@ pub record ListRead (s : List ℕ) (at : ℕ) (k : SheetKind) (i : ℕ) (r : Lis
   pub held :
       lineNumber (listKind k i) 0 (after s at) (lineAt (listLetter k i) s at) ≡ 0 →
       take (length (packedList (listCodes k i) (lineAt (listLetter k i) s at))) list ≡ packedList (listCodes k i) (lineAt (listLetter k i) s at)
-
-abbrev pub turnedNumber : Listed → ℕ
-turnedNumber (Packed count next) = 0
-turnedNumber (Turned n) = n

@@ -3,12 +3,12 @@ use Prim.Native.Nat.{ℕ, _≤_, _<_, _-_, _*_}
 use mathlib.Core.List.{List, [], _∷_, _++_, map}
 use mathlib.Core.Path.{_≡_}
 use mathlib.Core.Bool.{Bool, false, cond, not, _&&_, _||_}
-use mathlib.Core.Option.{Option, none, some}
+use mathlib.Core.Option.{Option}
 use lib.Dec.{eqb, leb, ltb}
 use lib.ListN.{length, getD, take, drop}
 use Rattle.text.specs.Text.{Field}
 use Rattle.keys.specs.Expressions.{packed}
-use Rattle.sheet.specs.Lines.{Kind, mostBytes, mostEntries, wholeEntries, lineNumber, fieldsOf}
+use Rattle.sheet.specs.Lines.{Kind, mostBytes, mostEntries, wholeEntries, fieldsOf}
 use Rattle.sheet.specs.KeyLines.{undefinedExprs, over, definedMode, definedJoin, fitChildren, keyLine, inputHead, exprLine, ruleLine, inputLine, directionLine, nameLine}
 use Rattle.sheet.specs.declared.kind.Codes.{Codes}
 use Rattle.sheet.specs.declared.kind.Codes.the-variants.{Key, Join, Exprs, Rules, Input, Directions, Names}

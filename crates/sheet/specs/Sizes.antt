@@ -1,13 +1,17 @@
 -- How large sheets and answers can be: by the largest number m, the entries e of a list, the children c, and the bytes w of a number with its comma.
 -- Renders document 01, "At most 65,536 bytes, 32 entries a list but Y and J, 8 children a node", and "An output of 65,536 bytes always suffices".
 use Prim.Native.Nat.{ℕ, _+_, _*_, _≤_}
-use mathlib.Core.List.{List}
+use mathlib.Core.List.{List, [], _∷_}
 use mathlib.Core.Option.{Option, none, some}
 use lib.ListN.{length}
 use Rattle.keys.specs.Expressions.{Expression}
 use Rattle.keys.specs.Adjust.{KeySheet, KeyAnswer, Projected}
 use Rattle.keys.specs.Inputs.{JoinSheet, JoinAnswer}
-use Rattle.sheet.specs.InTurn.{Each}
+
+-- what holds of every entry
+abbrev pub Each : {A : Type 0} → (A → Type 0) → List A → Type 0
+Each P [] = Unit {0}
+Each P (x ∷ xs) = P x × Each P xs
 
 -- at most n entries, and what holds of each
 pub record Few {A : Type 0} (n : ℕ) (P : A → Type 0) (xs : List A) : Type 0 where

@@ -6,11 +6,11 @@ ghost use Rattle.text.specs.Text.{line, lineFields, lineAt, after};
 ghost use Rattle.text.specs.Read.{storedIn};
 ghost use Rattle.sheet.specs.Lines.{lineNumber};
 ghost use Rattle.sheet.specs.Reading.{kindOf, readBy};
+use crate::kind::Codes;
+use crate::kind::judge_codes;
+use crate::kind::judge_counts;
 use text::line::Line;
 use text::line::line_at;
-use crate::kind::Codes;
-use crate::kind::judge_counts;
-use crate::kind::judge_codes;
 
 // A line with its count of fields and the place after it, or the lowest number that turns it back.
 pub enum Read {

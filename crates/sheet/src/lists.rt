@@ -1,10 +1,8 @@
 // Reads the list lines that follow a K line or an I line.
 ghost use mathlib.Core.Path.{_≡_};
-ghost use Prim.Native.Nat.{_+_, _≤_};
-ghost use lib.ListN.{length, drop};
-ghost use Rattle.text.specs.Text.{parts};
-ghost use Rattle.sheet.specs.InTurn.{inTurn};
-ghost use Rattle.sheet.specs.ListLines.{listLetter, listCodes, numberOf, ListRead, turnedNumber, listKinds, listsBy, HeldBy};
+ghost use Prim.Native.Nat.{_≤_};
+ghost use lib.ListN.{length};
+ghost use Rattle.sheet.specs.ListLines.{listLetter, listCodes, numberOf, ListRead};
 use crate::kind::Codes;
 use crate::line::Read;
 use crate::line::read_line;
@@ -19,11 +17,6 @@ pub enum SheetKind {
 pub enum Listed {
     Packed { count: usize, next: usize },
     Turned(u64),
-}
-
-pub enum Lists {
-    Read { next: usize, line: u64 },
-    Refused { number: u64, line: u64 },
 }
 
 fn list_letter(k: SheetKind, i: usize) -> u8
@@ -109,7 +102,7 @@ fn number_of(r: Read) -> u64
 }
 
 // The i-th list line of a sheet: its list goes into the room lent.
-fn read_list(
+pub fn read_list(
     s: &[u8],
     at: usize,
     k: SheetKind,
@@ -131,49 +124,4 @@ fn read_list(
         count: packed,
         next: next,
     }
-}
-
-fn turned_number(r: Listed) -> u64
-    ensures { λ x. ⌜ x ≡ turnedNumber r ⌝ }
-{
-    match r {
-        Listed::Packed { count: _, next: _ } => 0,
-        Listed::Turned(n) => n,
-    }
-}
-
-// The n list lines that begin at a place, the first of which has the number `line`: their lists go into the rooms lent.
-pub fn read_lists(
-    s: &[u8],
-    at: usize,
-    line: u64,
-    k: SheetKind,
-    n: usize,
-    rows: &mut [[u64; 2]],
-    lists: &mut [[u64; 64]],
-    counts: &mut [usize],
-) -> Lists
-    requires { ⌜ (192 ≤ length (now rows)) × (n ≤ length (now lists)) × (n ≤ length (now counts)) × (line + n ≤ 4294967295) ⌝ }
-    ensures answer { λ r. ⌜ r ≡ listsBy (inTurn (listKinds k 0 n) line at (parts 10 (drop at (now (s .entry))))) ⌝ }
-    ensures held { λ _. ⌜ HeldBy k (inTurn (listKinds k 0 n) line at (parts 10 (drop at (now (s .entry))))) (now (lists .exit)) (now (counts .exit)) ⌝ }
-{
-    let mut i: usize = 0;
-    let mut p = at;
-    let mut l = line;
-    while i < n {
-        let mut list = [0u64; 64];
-        let r = read_list(s, p, k, i, rows, &mut list);
-        let Listed::Packed { count, next } = r else {
-            return Lists::Refused {
-                number: turned_number(r),
-                line: l,
-            };
-        };
-        lists[i] = list;
-        counts[i] = count;
-        i += 1;
-        p = next;
-        l += 1;
-    }
-    Lists::Read { next: p, line: l }
 }

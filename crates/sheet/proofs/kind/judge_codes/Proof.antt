@@ -1,8 +1,7 @@
 -- `sheet::kind::judge_codes` meets its contract. The K line by its own law, any other by its codes alone (`Judges`).
 -- Assumes nothing.
-use mathlib.Core.Path.{_≡_, sym, ap, subst, _∙_}
-use mathlib.Core.List.{[]}
-use lib.ListN.{length, getD}
+use mathlib.Core.Path.{sym, ap, subst, _∙_}
+use lib.ListN.{length}
 use Rattle.sheet.specs.Reading.{rowValues}
 use Rattle.sheet.specs.Reading.{codesNumber, Whole}
 use Rattle.sheet.specs.declared.kind.Codes.{Codes}

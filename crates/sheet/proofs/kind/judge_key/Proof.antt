@@ -1,8 +1,6 @@
 -- `sheet::kind::judge_key` meets its contract. One law for each test (`Judges`).
 -- Assumes nothing.
-use mathlib.Core.Path.{_≡_, sym, ap, subst, _∙_}
-use mathlib.Core.List.{[]}
-use lib.ListN.{length, getD}
+use mathlib.Core.Path.{sym, _∙_}
 use Rattle.sheet.specs.Reading.{rowValues}
 use borrow.Author.Tests.{not-true, not-false}
 use Rattle.sheet.proofs.Defined.{row-value}

@@ -1,10 +1,9 @@
 -- `sheet::kind::over` meets its contract. The numbers from i on are over the largest exactly where all of them are.
 -- Assumes nothing.
 use mathlib.Core.Path.{_≡_, sym, _∙_}
-use Prim.Native.Nat.{ℕ, _+_, _≤_, _<_, _-_}
-use mathlib.Core.List.{List, []}
-use native.Mathlib.Omega.{arith}
-use lib.ListN.{length, getD, drop, length-map, List·getD-map}
+use Prim.Native.Nat.{_≤_, _-_}
+use mathlib.Core.List.{[]}
+use lib.ListN.{length, drop, length-map, List·getD-map}
 use Rattle.sheet.specs.Reading.{rowValue, rowValues}
 use Rattle.sheet.specs.KeyLines.{over}
 use Rattle.sheet.proofs.Defined.{over-here, over-later, over-end}

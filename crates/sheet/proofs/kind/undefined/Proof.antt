@@ -1,6 +1,6 @@
 -- `sheet::kind::undefined` meets its contract. What is asked by the code of the line.
 -- Assumes nothing.
-use mathlib.Core.Path.{_≡_, sym, ap, subst, _∙_}
+use mathlib.Core.Path.{sym, ap, subst, _∙_}
 use lib.ListN.{length}
 use Rattle.sheet.specs.Reading.{rowValues, undefinedBy, Whole}
 use Rattle.sheet.specs.declared.kind.Codes.{Codes}

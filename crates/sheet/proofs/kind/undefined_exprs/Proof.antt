@@ -1,8 +1,8 @@
 -- `sheet::kind::undefined_exprs` meets its contract. The numbers from i on are expressions exactly where all from the start on are.
 -- Assumes nothing.
 use mathlib.Core.Path.{_≡_, sym, _∙_}
-use Prim.Native.Nat.{ℕ, _+_, _≤_, _<_, _-_}
-use mathlib.Core.List.{List, []}
+use Prim.Native.Nat.{_+_, _≤_, _-_}
+use mathlib.Core.List.{[]}
 use native.Mathlib.Omega.{arith}
 use lib.ListN.{length, getD, drop, length-map, List·getD-map}
 use Rattle.sheet.specs.Reading.{rowValue, rowValues}

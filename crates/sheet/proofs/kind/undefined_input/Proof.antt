@@ -1,10 +1,7 @@
 -- `sheet::kind::undefined_input` meets its contract. By the mark, then by the expressions after it.
 -- Assumes nothing.
-use mathlib.Core.Path.{_≡_, sym, ap, _∙_}
-use Prim.Native.Nat.{ℕ}
-use mathlib.Core.List.{List, []}
+use mathlib.Core.List.{[]}
 use lib.ListN.{getD}
-use Rattle.sheet.specs.Reading.{rowValues}
 use borrow.Author.Tests.{lt-ltb, le-ltb}
 use Rattle.sheet.proofs.Defined.{row-value}
 use borrow.Author.Needs.{needs}

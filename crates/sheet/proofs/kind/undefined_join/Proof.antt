@@ -1,10 +1,8 @@
 -- `sheet::kind::undefined_join` meets its contract. By the op, then by the mode.
 -- Assumes nothing.
-use mathlib.Core.Path.{_≡_, sym, ap, _∙_}
-use Prim.Native.Nat.{ℕ}
-use mathlib.Core.List.{List, []}
+use mathlib.Core.Path.{ap}
+use mathlib.Core.List.{[]}
 use lib.ListN.{getD}
-use Rattle.sheet.specs.Reading.{rowValues}
 use mathlib.Core.Bool.{not}
 use borrow.Author.Tests.{le-leb, lt-leb}
 use Rattle.sheet.proofs.Defined.{row-value}

@@ -1,10 +1,8 @@
 -- `sheet::kind::undefined_key` meets its contract. One law for each test (`Defined`).
 -- Assumes nothing.
-use mathlib.Core.Path.{_≡_, sym, ap, _∙_}
-use Prim.Native.Nat.{ℕ}
-use mathlib.Core.List.{List, []}
+use mathlib.Core.Path.{sym, _∙_}
+use mathlib.Core.List.{[]}
 use lib.ListN.{getD}
-use Rattle.sheet.specs.Reading.{rowValues}
 use borrow.Author.Tests.{not-true, not-false}
 use Rattle.sheet.proofs.Defined.{row-value, op-undefined, mode-undefined, join-undefined, plain-undefined, partial-decides}
 use borrow.Author.Needs.{needs}

@@ -80,8 +80,7 @@ returns-2 : tie.Need-returns-2
 returns-2 c =
     let d = c .before .before .before in
     let s = d .before .before .before .before .before .before in
-    let m = c .before .judge-counts in
-    (
+    let m = c .before .judge-counts in (
       (λ seen. ap Refused (m .ensures) ∙ read-counts (s .args .c) (s .args .letter) seen (after (T s) (s .args .at)) (X s) _ _ _ _ (read d) (λ z. c .if1 .taken (m .ensures ∙ z))),
       d .before .before .before .line-at .ensures .1,
     )

@@ -1,6 +1,6 @@
 -- `sheet::lists::list_codes` meets its contract. By the kind of sheet.
 -- Assumes nothing.
-use mathlib.Core.Path.{_≡_, sym, ap, _∙_}
+use mathlib.Core.Path.{sym, ap, _∙_}
 use Rattle.sheet.specs.ListLines.{listCodes}
 use Rattle.sheet.specs.declared.lists.SheetKind.{SheetKind}
 use borrow.Author.Needs.{needs}

@@ -126,10 +126,9 @@ pack-line-requires : tie.Need-pack-line-requires
 pack-line-requires c κs =
     let d = c .before .before .before .before in
     let s = d .before .before .before .before .before .before .before .before in
-    let e = d .before .before .before .before .before .before .list-codes .ensures in
-    (
+    let e = d .before .before .before .before .before .before .list-codes .ensures in (
       subst (λ (m : ℕ). Fits (d .before .before .before .before .before .before .list-codes .result) m) (sym (ap length (rows-are d) ∙ length-map (good d .fs) row))
-      (subst (λ (x : Codes). Fits x (length (good d .fs))) (sym e) (fits-count d)),
+          (subst (λ (x : Codes). Fits x (length (good d .fs))) (sym e) (fits-count d)),
       s .pre .1,
       rw (values-are d) (good-small (listCodes (s .args .k) (s .args .i)) (listLetter (s .args .k) (s .args .i)) 0 (after (T s) (s .args .at)) (good d .fs) (zero-is d)),
     )

@@ -1,8 +1,8 @@
 -- `sheet::pack::copy_numbers` meets its contract. The array filled so far, with what is left, is all the numbers.
 -- Assumes nothing.
 use mathlib.Core.Path.{_≡_, refl, sym}
-use mathlib.Core.List.{List, [], _++_}
-use Prim.Native.Nat.{ℕ, _-_, _≤_}
+use mathlib.Core.List.{[], _++_}
+use Prim.Native.Nat.{_-_, _≤_}
 use native.Mathlib.Omega.{arith}
 use lib.ListN.{length, getD, take, drop, length-map, length-set}
 use Rattle.keys.proofs.Turns.{fill-turn, fill-end}
@@ -50,8 +50,7 @@ loop-again c =
     let s = l .before in
     let rs = s .args .rows .now in
     let i = l .loop .i in
-    let t = c .before .loop-test .taken in
-    (
+    let t = c .before .loop-test .taken in (
       search needs,
       simp length-set (l .loop .inv .1),
       fill-turn (rowValues rs) (l .loop .out) i (l .loop .inv .2) (getD (getD rs i []) 1 0) 0 (rw (length-map rs rowValue) t) (omega (arith, t, l .loop .inv .1, s .pre .0)) (sym (row-value rs i)),

@@ -90,8 +90,7 @@ pack-requires c κs =
     let l = c .before .before .before .before in
     let s = l .before in
     let rs = s .args .rows .now in
-    let r = room (c .before .before .before) in
-    (
+    let r = room (c .before .before .before) in (
       rw (row-value rs (l .loop .i)) at (small-at (Vs s) (l .loop .i) (s .pre .4) (omega (arith, r))),
       rw (row-value rs (l .loop .i + 1)) at (small-at (Vs s) (l .loop .i + 1) (s .pre .4) (omega (arith, r))),
       rw (row-value rs (l .loop .i + 2)) at (small-at (Vs s) (l .loop .i + 2) (s .pre .4) (omega (arith, r))),
@@ -117,8 +116,7 @@ loop-again c =
     let l = c .before .before .before .before .before in
     let s = l .before in
     let v = l .loop .inv in
-    let t = c .before .before .before .before in
-    (
+    let t = c .before .before .before .before in (
       omega (arith, room t, long s),
       omega (arith, v .1, v .2),
       omega (arith, v .2),

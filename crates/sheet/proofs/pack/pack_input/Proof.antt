@@ -1,10 +1,10 @@
 -- `sheet::pack::pack_input` meets its contract. The mark, and what packing the rest gives behind it.
 -- Assumes nothing.
-use mathlib.Core.Path.{_≡_, sym, ap, _∙_}
+use mathlib.Core.Path.{sym, ap, _∙_}
 use mathlib.Core.List.{List, [], _++_}
 use Prim.Native.Nat.{ℕ}
 use native.Mathlib.Omega.{arith}
-use lib.ListN.{length, getD, drop, length-map}
+use lib.ListN.{getD, drop, length-map}
 use Rattle.sheet.specs.Reading.{rowValue, rowValues, packs}
 use Rattle.sheet.proofs.Defined.{row-value}
 use Rattle.sheet.proofs.Packing.{first-put}
@@ -31,12 +31,11 @@ returns : tie.Need-returns
 returns c =
     let s = c .before .before .before in
     let rs = s .args .rows .now in
-    let e = c .pack-exprs .ensures in
-    (
+    let e = c .pack-exprs .ensures in (
       e .0,
       e .1,
       e .2 ∙ ap (λ (xs : List ℕ). xs ++ packs (drop 1 (rowValues rs)))
-      (first-put (s .args .out .now) (rowValues rs) (getD (getD rs 0 []) 1 0) (omega (arith, s .pre .2)) (rw (length-map rs rowValue) (s .pre .0)) (sym (row-value rs 0))),
+          (first-put (s .args .out .now) (rowValues rs) (getD (getD rs 0 []) 1 0) (omega (arith, s .pre .2)) (rw (length-map rs rowValue) (s .pre .0)) (sym (row-value rs 0))),
     )
 
 pub pack-input-spec : {M : Type 1} → statement M

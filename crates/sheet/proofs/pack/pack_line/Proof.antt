@@ -1,6 +1,6 @@
 -- `sheet::pack::pack_line` meets its contract. What each code packs.
 -- Assumes nothing.
-use mathlib.Core.Path.{_≡_, sym, ap, subst, _∙_}
+use mathlib.Core.Path.{sym, ap, subst, _∙_}
 use native.Mathlib.Omega.{arith}
 use lib.ListN.{length}
 use Rattle.sheet.specs.Reading.{rowValues, packedBy, Fits}

@@ -1,25 +1,23 @@
--- Answers of K and I sheets are no larger than the sheets: no longer lists (but J, of both lists of names), no larger numbers.
-use mathlib.Core.Path.{_≡_, refl, sym, ap, _∙_, subst}
-use Prim.Native.Nat.{ℕ, zero, suc, _+_, _-_, _*_, _≤_, _<_}
+-- The answer of a K sheet is no larger than the sheet: no longer lists (J as long as both lists of names), no larger numbers.
+use mathlib.Core.Path.{_≡_, refl, ap, subst}
+use Prim.Native.Nat.{ℕ, suc, _+_, _-_, _≤_, _<_}
 use native.Mathlib.Omega.{arith}
 use mathlib.Core.List.{List, [], _∷_, _++_, map}
-use mathlib.Core.Bool.{Bool, true, false, cond, not, _&&_, _||_}
+use mathlib.Core.Bool.{Bool, not, _&&_, _||_}
 use mathlib.Core.Option.{Option, none, some}
 use lib.Dec.{eqb, leb}
 use lib.ListN.{length, getD, length-map, length-append}
 use Rattle.keys.specs.Lists.{also, andThen, placeOf, sameList, expectedExprPositions, permute}
 use Rattle.keys.specs.Reorder.{Tried, tryReorder}
-use Rattle.keys.specs.Arrange.{Below}
+use Rattle.keys.specs.Arrange.{Below, AllBelow}
 use Rattle.keys.specs.Expressions.{Expression, column, placeholder}
-use Rattle.keys.specs.Adjust.{KeySheet, KeyAnswer, Projected, Adjustment, answered, nameNotFound, handOver, kept, given, passed, unchanged, cleared, onto, shifted, orEmpty, shiftRightRequired, columnsFrom, namePlaces, placedNames, namesFrom, reorderPartitionedJoinKeys, pushedRight, collectLeft, hashJoin, crossJoin, notRegrouped, regrouped, regroupedBy, reorderAggregateKeys, aggregate, projection, other, adjustInputKeysOrdering}
-use Rattle.keys.specs.Inputs.{JoinSheet, JoinAnswer, asStood, following, trySide, tryRight, reorderCurrentJoinKeys, reorderJoinKeysToInputs}
+use Rattle.keys.specs.Adjust.{KeySheet, KeyAnswer, Projected, Adjustment, answered, nameNotFound, handOver, kept, given, passed, unchanged, cleared, onto, shifted, orEmpty, shiftRightRequired, columnsFrom, namePlaces, placedNames, namesFrom, reorderPartitionedJoinKeys, pushedRight, hashJoin, notRegrouped, regrouped, regroupedBy, aggregate, projection, other, adjustInputKeysOrdering}
 use Rattle.keys.proofs.Truths.{by-test}
 use Rattle.keys.proofs.Lists.{place-below}
 use Rattle.keys.proofs.Names.{columns-length}
-use Rattle.sheet.specs.InTurn.{Each}
-use Rattle.sheet.specs.Sizes.{Few, Within, PlacedWithin, NumberList, ExprList, InputList, SizedKeySheet, SizedKeyAnswer, SizedJoinSheet, SizedJoinAnswer}
-use Rattle.sheet.proofs.Accepted.{each-append}
-use Rattle.sheet.proofs.TriedSizes.{nothing-few, few-permuted, Placed, positions-placed, SizedTried, placed-list, tried-sized, directions-sized}
+use Rattle.sheet.specs.Sizes.{Each, Few, Within, PlacedWithin, ExprList, SizedKeySheet, SizedKeyAnswer}
+use Rattle.sheet.proofs.Entries.{each-append, nothing-few}
+use Rattle.sheet.proofs.TriedSizes.{Placed, positions-placed, SizedTried, placed-list, tried-sized, directions-sized}
 
 -- ---- lists that are made
 
@@ -32,7 +30,8 @@ module _ (m e : ℕ) where
   shifted-each columns [] h = tt
   shifted-each columns (x ∷ es) h =
       by-test (λ o. Each (Within m) (orEmpty o)) (eqb (x .kind) 0 && leb columns (x .index))
-      (λ t. onto-sized (column (x .name) (x .index - columns)) (shifted columns es) (record { kind = omega arith; name = h .0 .name; index = omega (arith, h .0 .index) }) (shifted-each columns es (h .1)))
+      (λ t. onto-sized (column (x .name) (x .index - columns)) (shifted columns es)
+      (record { kind = omega arith; name = h .0 .name; index = omega (arith, h .0 .index) }) (shifted-each columns es (h .1)))
       (λ t. tt)
 
   onto-length : (x : Expression) (o : Option (List Expression)) → length (orEmpty (onto x o)) ≤ suc (length (orEmpty o))
@@ -50,12 +49,15 @@ module _ (m e : ℕ) where
   shifted-sized columns es h = record { few = omega (arith, shifted-length columns es, h .few); each = shifted-each columns es (h .each) }
 
   -- what the children are handed
-  each-mapped : (g : List Expression → List Expression) → ((c : List Expression) → ExprList m e c → ExprList m e (g c)) → (cs : List (List Expression)) → Each (ExprList m e) cs → Each (ExprList m e) (map g cs)
+  each-mapped :
+      (g : List Expression → List Expression) → ((c : List Expression) → ExprList m e c → ExprList m e (g c)) → (cs : List (List Expression)) →
+      Each (ExprList m e) cs → Each (ExprList m e) (map g cs)
   each-mapped g k [] h = tt
   each-mapped g k (c ∷ cs) h = (k c (h .0), each-mapped g k cs (h .1))
 
   handed-sized :
-      (n : ℕ) (f g : List Expression → List Expression) → ((c : List Expression) → ExprList m e c → ExprList m e (f c)) → ((c : List Expression) → ExprList m e c → ExprList m e (g c)) →
+      (n : ℕ) (f g : List Expression → List Expression) →
+      ((c : List Expression) → ExprList m e c → ExprList m e (f c)) → ((c : List Expression) → ExprList m e c → ExprList m e (g c)) →
       (cs : List (List Expression)) → Few n (ExprList m e) cs → Few n (ExprList m e) (handOver f g cs)
   handed-sized n f g hf hg [] h = h
   handed-sized n f g hf hg (c ∷ cs) h =
@@ -63,20 +65,17 @@ module _ (m e : ℕ) where
 
 -- ---- the names of an aggregate
 
--- places below n
-abbrev FoundBelow : ℕ → Option (List ℕ) → Type 0
-FoundBelow n none = Unit {0}
-FoundBelow n (some ps) = Below n ps
-
-also-found : (n p : ℕ) (o : Option (List ℕ)) → p < n → FoundBelow n o → FoundBelow n (also p o)
+also-found : (n p : ℕ) (o : Option (List ℕ)) → p < n → AllBelow n o → AllBelow n (also p o)
 also-found n p none h b = tt
 also-found n p (some ps) h b = (h, b)
 
-names-below : (fields ns : List ℕ) → FoundBelow (length fields) (namePlaces fields ns)
+names-below : (fields ns : List ℕ) → AllBelow (length fields) (namePlaces fields ns)
 names-below fields [] = tt
 names-below fields (n ∷ ns) = go (placeOf eqb n fields) (place-below eqb n fields) (names-below fields ns)
   where
-    go : (o : Option ℕ) → ((p : ℕ) → o ≡ some p → p < length fields) → FoundBelow (length fields) (namePlaces fields ns) → FoundBelow (length fields) (andThen o (λ p. namePlaces fields ns))
+    go :
+        (o : Option ℕ) → ((p : ℕ) → o ≡ some p → p < length fields) → AllBelow (length fields) (namePlaces fields ns) →
+        AllBelow (length fields) (andThen o (λ p. namePlaces fields ns))
     go none h k = tt
     go (some p) h k = also-found (length fields) p (namePlaces fields ns) (h p refl) k
 
@@ -113,7 +112,9 @@ module _ (m e c : ℕ) (places : e + e ≤ m) (codes : 3 ≤ m) where
     abbrev Keeps : (List Expression → List Expression) → Type 0
     Keeps f = (xs : List Expression) → ExprList m e xs → ExprList m e (f xs)
 
-    passed-sized : (changed : ℕ) (r : List Expression) (f g : List Expression → List Expression) → changed ≤ 1 → ExprList m e r → Keeps f → Keeps g → Sized (passed s changed r f g)
+    passed-sized :
+        (changed : ℕ) (r : List Expression) (f g : List Expression → List Expression) → changed ≤ 1 → ExprList m e r → Keeps f → Keeps g →
+        Sized (passed s changed r f g)
     passed-sized changed r f g l hr hf hg = record {
       changed = omega arith;
       report = omega arith;
@@ -170,7 +171,9 @@ module _ (m e c : ℕ) (places : e + e ≤ m) (codes : 3 ≤ m) where
         by-test Sized (eqb (s .mode) 0) (λ t. partitioned-sized)
         (λ t. by-test Sized (eqb (s .mode) 1) (λ u. second-sized (pushedRight same s) pushed-sized) (λ u. cleared-sized))
 
-    regrouped-sized : (ps : List ℕ) → Placed e (some ps) → (o : Option (List ℕ)) → FoundBelow (length (permute 0 (s .groups) ps ++ s .aggregates)) o → Sized (regrouped same s ps o)
+    regrouped-sized :
+        (ps : List ℕ) → Placed e (some ps) → (o : Option (List ℕ)) → AllBelow (length (permute 0 (s .groups) ps ++ s .aggregates)) o →
+        Sized (regrouped same s ps o)
     regrouped-sized ps p none b = tt
     regrouped-sized ps p (some qs) b =
         let n : ℕ = length (permute 0 (s .groups) ps ++ s .aggregates) in
@@ -188,7 +191,7 @@ module _ (m e c : ℕ) (places : e + e ≤ m) (codes : 3 ≤ m) where
           projection = record {
             few = omega (arith, length-append own others, placed-length (s .groups) qs, named-length (length (s .groups)) (s .aggregates), h .groups .few, h .aggregates .few);
             each = each-append (PlacedWithin m) own others (placed-each m n (omega arith) (s .groups) qs (h .groups .each) b)
-            (named-each m (length (s .groups)) (s .aggregates) (omega (arith, h .groups .few, h .aggregates .few)) (h .aggregates .each));
+                (named-each m (length (s .groups)) (s .aggregates) (omega (arith, h .groups .few, h .aggregates .few)) (h .aggregates .each));
           };
           children = handed-sized m e c (given []) kept (gives [] (nothing-few e _)) keeps (s .children) (h .children);
         }
@@ -205,7 +208,8 @@ module _ (m e c : ℕ) (places : e + e ≤ m) (codes : 3 ≤ m) where
         by-test Sized (eqb (length (s .required)) 0) (λ t. unchanged-sized)
         (λ t. by-test Sized (eqb (s .mode) 0)
         (λ u. by-test Sized (eqb (length (s .required)) (length columns) && (s .plain && not (sameList same columns (s .required))))
-        (λ v. acting-sized (expectedExprPositions same placeholder columns (s .required)) (positions-placed same placeholder e columns (s .required) (omega (arith, columns-length 0 (s .groups), h .groups .few)) (h .required .few)))
+        (λ v. acting-sized (expectedExprPositions same placeholder columns (s .required))
+        (positions-placed same placeholder e columns (s .required) (omega (arith, columns-length 0 (s .groups), h .groups .few)) (h .required .few)))
         (λ v. stays-sized))
         (λ u. cleared-sized))
 

@@ -1,22 +1,15 @@
--- A sheet as a list of kinds, a line of each in turn; the text of such lines, and what is asked of them.
--- Renders document 01, "A sheet is ASCII lines ended by LF", and the rows with place Line of "Where a sheet is turned back".
+-- Lines of kinds in turn: how they are read, how they are written, and what is asked of them.
 use mathlib.Core.Path.{_≡_}
-use Prim.Native.Nat.{ℕ, suc, _-_, _≤_}
+use Prim.Native.Nat.{ℕ, suc, _-_}
 use mathlib.Core.List.{List, [], _∷_, _++_, tail}
 use mathlib.Core.Bool.{Bool, true, false, cond, _&&_}
-use mathlib.Core.Option.{Option, none, some}
+use mathlib.Core.Option.{Option}
 use lib.Dec.{eqb, leb}
-use lib.ListN.{length, replicate}
 use Rattle.text.specs.Text.{Field, most}
 use Rattle.text.specs.Lines.{firstOf, nextOf}
 use Rattle.text.specs.Bounds.{Bound}
 use Rattle.text.specs.Write.{lineText}
-use Rattle.sheet.specs.Lines.{Kind, Stage, Run, read, refused, before, lineNumber, fieldsOf, fieldsFit, tooManyEntries}
-
--- what holds of every entry
-abbrev pub Each : {A : Type 0} → (A → Type 0) → List A → Type 0
-Each P [] = Unit {0}
-Each P (x ∷ xs) = P x × Each P xs
+use Rattle.sheet.specs.Lines.{Kind, Run, read, refused, before, lineNumber, fieldsOf, fieldsFit, tooManyEntries}
 
 -- bounds up to which fields are read
 unfoldable pub readable : List Bound → Bool
@@ -30,11 +23,6 @@ pub record Counted (k : Kind) : Type 0 where
   pub stops : (owed : ℕ) (x : Option (List Field)) → k .stops owed x ≡ eqb owed 0
   pub owes : (owed : ℕ) (fs : List Field) → k .owes owed fs ≡ owed - 1
   pub large : (seen : ℕ) (fs : List Field) → k .large seen fs ≡ k .large 0 fs
-
--- the kind of each line of a chain
-abbrev pub kindsOf : List Stage → List Kind
-kindsOf [] = []
-kindsOf (c ∷ cs) = replicate (c .count) (c .kind) ++ kindsOf cs
 
 -- a line of each kind, the first with the number `line` and at the place `at`
 unfoldable pub inTurn : List Kind → ℕ → ℕ → List (List ℕ) → Run
