@@ -1,0 +1,10 @@
+pub mod Lines
+pub mod KeyLines
+pub mod KeySheets
+pub mod KeyAnswers
+pub mod KeyTexts
+pub mod Reading
+pub mod Sizes
+pub mod LegalSheets
+pub mod ListLines
+pub mod Refusals
