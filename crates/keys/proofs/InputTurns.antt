@@ -4,18 +4,18 @@
 --     left-marked, right-marked        the list followed has a mark, so the part handed back starts at 1
 --     moved-below, moved-left, ..      for a caller of `reorder_join_keys_to_inputs`: the answer's lists, by what stands in the lent places
 -- Assumes nothing.
-use Prim.Native.Nat.{ℕ, suc, _≤_, _+_, _*_, _-_}
+use Prim.Native.Nat.{ℕ, _≤_, _+_, _*_, _-_}
 use mathlib.Core.Path.{_≡_, refl, ap, sym, _∙_, subst}
 use mathlib.Core.Bool.{Bool, true, false, cond}
 use mathlib.Core.Option.{Option, none, some}
 use mathlib.Core.List.{List, [], _∷_}
 use native.Mathlib.Omega.{arith}
 use lib.Dec.{eqb}
-use lib.ListN.{length, take, drop, getD, set, length-map, length-drop}
+use lib.ListN.{length, take, drop, getD, length-map, length-drop}
 use denote.Ref.{RefT}
 use lib.Seq.{take-all, length-take-le}
-use Rattle.keys.specs.Lists.{also, andThen, orElse, takePlaces, placeOf, expectedExprPositions, permute}
-use Rattle.keys.specs.Reorder.{Rule, Tried, rewrite, eitherSide, tryReorder}
+use Rattle.keys.specs.Lists.{permute}
+use Rattle.keys.specs.Reorder.{Rule, Tried, tryReorder}
 use Rattle.keys.specs.Expressions.{Expression, sameExpr, placeholder, goneNumber, expression, expressions, rules}
 use Rattle.keys.specs.Arrange.{Below}
 use Rattle.keys.specs.Inputs.{JoinSheet, JoinAnswer, asStood, following, trySide, tryRight, reorderCurrentJoinKeys, reorderJoinKeysToInputs, followedKeys}
@@ -31,12 +31,12 @@ use Rattle.keys.specs.declared.inputs.Side.the-variants.{Neither, Left, 
 use Rattle.keys.specs.declared.inputs.Attempt.{Attempt}
 use Rattle.keys.specs.declared.inputs.Attempt.the-variants.{Untried, Followed, Failed}
 use Rattle.keys.specs.declared.inputs.Current.{Current}
-use Rattle.keys.proofs.Lists.{orElse-below, found-below}
+use Rattle.keys.proofs.Lists.{found-below}
 use Rattle.keys.proofs.Outcomes.{no-entry}
-use Rattle.keys.proofs.Tries.{either-below}
+use Rattle.keys.proofs.Placement.{AllLong, searched-long, searched-below}
 use Rattle.keys.proofs.Truths.{true-false, none-some}
 use Rattle.keys.proofs.Packed.{mapTried, permute-expressions, try-expressions}
-use Rattle.keys.proofs.Ways.{Way, unequal, meeting, moving, missing, way, searched, rewrite-length}
+use Rattle.keys.proofs.Ways.{Way, unequal, meeting, moving, missing, way, searched}
 use Rattle.keys.proofs.InputGuarantee.{InputWay, unasked, allImpossible, followed, input-way}
 
 -- all after the mark
@@ -223,55 +223,12 @@ pub order-untried : (s : JoinSheet) (c : Current) → orderTried (s .op) (s .mod
 unfolding reorderJoinKeysToInputs
 order-untried s c e o = rw (e, o)
 
--- every list that is found has n places
-abbrev AllLong : ℕ → Option (List ℕ) → Type 0
-AllLong n none = Unit {0}
-AllLong n (some ps) = length ps ≡ n
+module _ {A : Type 0} (same : A → A → Bool) (gone : A) (w : List (Rule A)) (r l g : List A) (even : length l ≡ length g) (ps : List ℕ) (e : searched same gone w r l g ≡ some ps) where
+  found-long : length l ≡ length r → length ps ≡ length l
+  found-long z = subst (AllLong (length r)) e (searched-long same gone w r l g (sym even)) ∙ sym z
 
-also-long : (n p : ℕ) (o : Option (List ℕ)) → AllLong n o → AllLong (suc n) (also p o)
-also-long n p none k = tt
-also-long n p (some ps) k = ap suc k
-
-orElse-long : (n : ℕ) (a b : Option (List ℕ)) → AllLong n a → AllLong n b → AllLong n (orElse a b)
-orElse-long n none b h k = k
-orElse-long n (some ps) b h k = h
-
-module _ {A : Type 0} (same : A → A → Bool) (gone : A) where
-  take-long : (expected current : List A) → AllLong (length expected) (takePlaces same gone current expected)
-  take-long [] current = refl
-  take-long (x ∷ xs) current = go (placeOf same x current) (λ p. take-long xs (set current p gone))
-    where
-      go :
-          (o : Option ℕ) → ((p : ℕ) → AllLong (length xs) (takePlaces same gone (set current p gone) xs)) →
-          AllLong (suc (length xs)) (andThen o (λ p. takePlaces same gone (set current p gone) xs))
-      go none k = tt
-      go (some p) k = also-long (length xs) p (takePlaces same gone (set current p gone) xs) (k p)
-
-  positions-long : (current expected : List A) → AllLong (length expected) (expectedExprPositions same gone current expected)
-  positions-long [] ys = tt
-  positions-long (x ∷ xs) [] = tt
-  positions-long (x ∷ xs) (y ∷ ys) = take-long (y ∷ ys) (x ∷ xs)
-
-  either-long : (n : ℕ) (r l g : List A) → length r ≡ n → AllLong n (eitherSide same gone r l g)
-  either-long n r l g e =
-      orElse-long n (expectedExprPositions same gone l r) (expectedExprPositions same gone g r)
-      (rw e at (positions-long l r)) (rw e at (positions-long g r))
-
-  module _ (w : List (Rule A)) (r l g : List A) (even : length l ≡ length g) (ps : List ℕ) (e : searched same gone w r l g ≡ some ps) where
-    found-long : length l ≡ length r → length ps ≡ length l
-    found-long z =
-        subst (AllLong (length l)) e
-        (orElse-long (length l) (eitherSide same gone r l g) (eitherSide same gone (rewrite same w r) (rewrite same w l) (rewrite same w g))
-        (either-long (length l) r l g (sym z))
-        (either-long (length l) (rewrite same w r) (rewrite same w l) (rewrite same w g) (rewrite-length same w r ∙ sym z)))
-
-    found-within : Below (length l) ps
-    found-within =
-        found-below (length l) (searched same gone w r l g) ps
-        (orElse-below (length l) (eitherSide same gone r l g) (eitherSide same gone (rewrite same w r) (rewrite same w l) (rewrite same w g))
-        (either-below same gone (length l) r l g refl (sym even))
-        (either-below same gone (length l) (rewrite same w r) (rewrite same w l) (rewrite same w g) (rewrite-length same w l) (rewrite-length same w g ∙ sym even)))
-        e
+  found-within : Below (length l) ps
+  found-within = found-below (length l) (searched same gone w r l g) ps (searched-below same gone w r l g (sym even)) e
 
 -- an answer on the pairs l, g: how many positions, and below what
 pub record Counted (l : List ℕ) (a : JoinAnswer) : Type 0 where

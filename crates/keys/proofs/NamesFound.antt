@@ -1,5 +1,5 @@
 -- Refusal 10 needs a placeholder: where the required list lacks it, every group name stands among the moved names.
-use Prim.Native.Nat.{ℕ, suc, _≤_}
+use Prim.Native.Nat.{ℕ, _≤_}
 use mathlib.Core.Path.{_≡_, refl, ap, sym}
 use mathlib.Core.Bool.{Bool}
 use mathlib.Core.Option.{Option, none, some}
@@ -15,12 +15,9 @@ use Rattle.keys.specs.Arrange.{Arrangement, Lacks}
 use Rattle.keys.proofs.Truths.{none-some, also-none}
 use Rattle.keys.proofs.Sums.{one}
 use Rattle.keys.proofs.Counts.{occ, occ-none, occ-append, occ-arranged}
+use Rattle.keys.proofs.Names.{columns-length}
 use Rattle.keys.proofs.Exact.{positions-fit}
 use Rattle.keys.proofs.KeyWays.{KeyWay, passing, joining, regrouping, key-way}
-
-columns-length : (i : ℕ) (ns : List ℕ) → length (columnsFrom i ns) ≡ length ns
-columns-length i [] = refl
-columns-length i (n ∷ ns) = ap suc (columns-length (suc i) ns)
 
 -- names that all stand among the fields have places there
 places-found : (fields names : List ℕ) → ((y : ℕ) → occ eqb y names ≤ occ eqb y fields) → namePlaces fields names ≡ none → ⊥

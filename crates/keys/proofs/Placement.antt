@@ -15,7 +15,7 @@ use Rattle.keys.proofs.Tries.{either-below}
 use Rattle.keys.proofs.Ways.{rewrite-length, searched, Way, unequal, meeting, moving, missing, way}
 
 -- as many places as are expected, where they are found
-abbrev AllLong : ℕ → Option (List ℕ) → Type 0
+abbrev pub AllLong : ℕ → Option (List ℕ) → Type 0
 AllLong n none = Unit {0}
 AllLong n (some ps) = length ps ≡ n
 
@@ -50,12 +50,12 @@ module _ {A : Type 0} (same : A → A → Bool) (gone : A) where
   either-long r l g = orElse-long (length r) (expectedExprPositions same gone l r) (expectedExprPositions same gone g r) (positions-long l r) (positions-long g r)
 
   module _ (w : List (Rule A)) (r l g : List A) (n : length g ≡ length l) where
-    searched-long : AllLong (length r) (searched same gone w r l g)
+    pub searched-long : AllLong (length r) (searched same gone w r l g)
     searched-long =
         orElse-long (length r) (eitherSide same gone r l g) (eitherSide same gone (rewrite same w r) (rewrite same w l) (rewrite same w g))
         (either-long r l g) (rw (rewrite-length same w r) at (either-long (rewrite same w r) (rewrite same w l) (rewrite same w g)))
 
-    searched-below : AllBelow (length l) (searched same gone w r l g)
+    pub searched-below : AllBelow (length l) (searched same gone w r l g)
     searched-below =
         orElse-below (length l) (eitherSide same gone r l g) (eitherSide same gone (rewrite same w r) (rewrite same w l) (rewrite same w g))
         (either-below same gone (length l) r l g refl n)

@@ -2,7 +2,7 @@
 -- Assumes nothing.
 use Prim.Native.Nat.{ℕ, _-_, _*_, _%_, _≤_, _<_}
 use mathlib.Core.Path.{_≡_, refl}
-use mathlib.Core.Bool.{Bool, true, false, cond, _&&_}
+use mathlib.Core.Bool.{true, false, cond}
 use mathlib.Core.List.{List, [], _∷_}
 use mathlib.Core.Logic.{⊎-elim}
 use native.Mathlib.Omega.{arith}
@@ -51,10 +51,6 @@ entries-none width n e = rw e
 
 pub entries-some : (width n : ℕ) → (width ≡ 0 → ⊥) → eqb (n % width) 0 ≡ wholeEntries width n
 entries-some width n h = rw (ne-eqb width 0 h)
-
-and-false : (a : Bool) → a && false ≡ false
-and-false true = refl
-and-false false = refl
 
 module _ (c : Codes) (count worst largest next : ℕ) where
   abbrev N : ℕ

@@ -12,6 +12,7 @@ use lib.ListN.{length, getD, take, drop, length-drop, List·getD-map}
 use Rattle.text.specs.Text.{Field, number, stateOf, valueOf, greatest}
 use Rattle.text.specs.Bounds.{Bound, allows, fits, allowsAll}
 use Rattle.text.proofs.Limits.{all-largest}
+use Rattle.keys.proofs.Truths.{and-first, and-second}
 use Rattle.sheet.specs.Lines.{plain, mostBytes, mostEntries, wholeEntries, lineNumber}
 use Rattle.sheet.specs.KeyLines.{at, values}
 use Rattle.sheet.specs.Reading.{kindOf, headCount, entryWidth, largeBy, undefinedBy, unfitBy, codesNumber, countsNumber, Whole}
@@ -123,14 +124,6 @@ parts-of true true t e = absurd (omega arith)
 parts-of true false true e = absurd (omega arith)
 parts-of true false false e = (refl, refl)
 parts-of false a t e = absurd (omega arith)
-
-and-first : (a b : Bool) → a && b ≡ true → a ≡ true
-and-first true b e = refl
-and-first false b e = e
-
-and-second : (a b : Bool) → a && b ≡ true → b ≡ true
-and-second true b e = e
-and-second false b e = let z : _≡_ {A = Bool} false true = e in cc
 
 module _ (c : Codes) (count worst largest next : ℕ) (e : countsNumber c count worst largest next ≡ 0) where
   tests : (leb (headCount c) count && ((leb worst 0 && leb largest 65535) && wholeEntries (entryWidth c) (count - headCount c)) ≡ true) × (ltb (mostEntries * entryWidth c) (count - headCount c) ≡ false)

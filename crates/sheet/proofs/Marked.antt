@@ -1,12 +1,11 @@
 -- The printed sheet and marked sheets 1 to 4 of document 01, with their answers, as rows of one table, by computation.
 use mathlib.Core.Path.{_≡_, refl}
 use mathlib.Core.List.{List, [], _∷_, map}
-use Prim.Native.Nat.{ℕ}
 use Prim.Native.String.{String}
-use Prim.Native.Char.{code}
 use Rattle.text.specs.Text.{until, onto, parts, run, field, fields, line, lineFields}
 use Rattle.text.specs.Lines.{firstOf}
 use Rattle.text.specs.Bounds.{fits, allowsAll}
+use Rattle.text.proofs.Examples.{bytes}
 use Rattle.text.specs.Write.{digits, decimal, fieldText, fieldsText, lineText}
 use Rattle.keys.specs.Reorder.{tryReorder}
 use Rattle.keys.specs.Adjust.{adjustInputKeysOrdering}
@@ -14,10 +13,6 @@ use Rattle.sheet.specs.Lines.{lineNumber, rowsOf, chain}
 use Rattle.sheet.specs.KeyLines.{undefinedExprs, over}
 use Rattle.sheet.specs.KeySheets.{exprs, rulesOf, keyListsFit, readKeySheet}
 use Rattle.sheet.specs.KeyAnswers.{wrote, keyAnswerText, adjustDecision, decision}
-
-abbrev bytes : String → List ℕ
-bytes String.[] = []
-bytes (String._∷_ c cs) = code c ∷ bytes cs
 
 pub record Row : Type 0 where
   pub sheet : String

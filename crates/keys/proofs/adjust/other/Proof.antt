@@ -10,7 +10,6 @@ use Rattle.keys.specs.declared.answer.Outcome.the-variants.{Unchanged, P
 use Rattle.keys.specs.declared.answer.Handed.the-variants.{Kept, Required}
 use Rattle.keys.proofs.Outcomes.{adjusted-by}
 use Rattle.keys.proofs.Rules.{other-unchanged, other-pushed}
-use borrow.Author.Needs.{needs}
 use Rattle.keys.proofs.adjust.other.Statement.{statement}
 use Rattle.keys.proofs.adjust.other.Tie as tie
 

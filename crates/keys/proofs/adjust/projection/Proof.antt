@@ -10,7 +10,6 @@ use Rattle.keys.specs.declared.answer.Outcome.the-variants.{Passed}
 use Rattle.keys.specs.declared.answer.Handed.the-variants.{Kept, Mapped}
 use Rattle.keys.proofs.Outcomes.{adjusted-by}
 use Rattle.keys.proofs.Rules.{projection-mapped, projection-cleared}
-use borrow.Author.Needs.{needs}
 use Rattle.keys.proofs.adjust.projection.Statement.{statement}
 use Rattle.keys.proofs.adjust.projection.Tie as tie
 

@@ -6,7 +6,6 @@ use mathlib.Core.List.{[]}
 use Rattle.keys.specs.declared.answer.Outcome.the-variants.{Passed}
 use Rattle.keys.specs.declared.answer.Handed.the-variants.{Kept, Built}
 use Rattle.keys.proofs.Outcomes.{adjusted-by}
-use borrow.Author.Needs.{needs}
 use Rattle.keys.proofs.adjust.pushed_right.Statement.{statement}
 use Rattle.keys.proofs.adjust.pushed_right.Tie as tie
 

@@ -4,7 +4,6 @@ use mathlib.Core.Path.{sym, _∙_}
 use lib.Dec.{eqb}
 use Rattle.keys.specs.Lists.{sameList}
 use Rattle.keys.proofs.Tries.{or-left, or-right}
-use borrow.Author.Needs.{needs}
 use Rattle.keys.proofs.reorder.meets.Statement.{statement}
 use Rattle.keys.proofs.reorder.meets.Tie as tie
 
