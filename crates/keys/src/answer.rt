@@ -2,7 +2,7 @@
 ghost use mathlib.Core.Path.{_≡_};
 ghost use mathlib.Core.List.{[]};
 ghost use Rattle.keys.specs.Values.{numbers};
-ghost use Rattle.keys.specs.Answers.{WholeAdjusted};
+ghost use Rattle.keys.specs.Answers.{WholeAdjusted, changedBy, reportedBy};
 use crate::list::KeyList;
 use crate::list::NumberList;
 use crate::reorder::Reordered;
@@ -66,5 +66,29 @@ pub fn passed(outcome: Outcome, cleared: bool, first: Handed, others: Handed) ->
         right: right,
         directions: directions,
         places: places,
+    }
+}
+
+pub fn changed_number(o: Outcome) -> u64
+    ensures { λ r. ⌜ r ≡ changedBy o ⌝ }
+{
+    match o {
+        Outcome::Unchanged => 0,
+        Outcome::Passed => 1,
+        Outcome::Tried(_) => 1,
+        Outcome::Regrouped => 1,
+        Outcome::NameNotFound => 1,
+    }
+}
+
+pub fn report_number(o: Outcome) -> u64
+    ensures { λ r. ⌜ r ≡ reportedBy o ⌝ }
+{
+    match o {
+        Outcome::Unchanged => 0,
+        Outcome::Passed => 0,
+        Outcome::Tried(t) => crate::reorder::report_number(t),
+        Outcome::Regrouped => 2,
+        Outcome::NameNotFound => 0,
     }
 }

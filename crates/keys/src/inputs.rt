@@ -171,11 +171,7 @@ pub fn report_number(o: Attempt) -> u64
 {
     match o {
         Attempt::Untried => 0,
-        Attempt::Followed(_, t) => match t {
-            Reordered::Met => 1,
-            Reordered::Moved => 2,
-            Reordered::Impossible => 3,
-        },
+        Attempt::Followed(_, t) => crate::reorder::report_number(t),
         Attempt::Failed => 3,
     }
 }

@@ -11,7 +11,7 @@ ghost use Rattle.keys.specs.Lists.{sameList, takePlaces, expectedExprPos
 ghost use Rattle.keys.specs.Reorder.{rewriteOne, rewrite, meets, eitherSide, movedBy, tryReorder};
 ghost use Rattle.keys.specs.Searched.{searched, searchedBy};
 ghost use Rattle.keys.specs.Arrange.{AllBelow};
-ghost use Rattle.keys.specs.Values.{numbers, numberRules, WholeNumbers, WholeReorder, positionsOf, triedOf};
+ghost use Rattle.keys.specs.Values.{numbers, numberRules, WholeNumbers, WholeReorder, positionsOf, triedOf, reportOf};
 use crate::expr::Expr;
 use crate::list::KeyList;
 use crate::list::NumberList;
@@ -243,4 +243,14 @@ pub fn try_reorder(w: &[[u64; 2]], r: &[u64], l: &[u64], g: &[u64]) -> Reorder
         return moved_by(l, g, raw);
     }
     try_rewritten(w, r, l, g)
+}
+
+pub fn report_number(o: Reordered) -> u64
+    ensures { λ r. ⌜ r ≡ reportOf o ⌝ }
+{
+    match o {
+        Reordered::Met => 1,
+        Reordered::Moved => 2,
+        Reordered::Impossible => 3,
+    }
 }

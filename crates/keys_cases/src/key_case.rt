@@ -127,25 +127,6 @@ fn operator(k: &[u64]) -> Operator {
     }
 }
 
-fn changed(o: Outcome) -> u64 {
-    match o {
-        Outcome::Unchanged => 0,
-        _ => 1,
-    }
-}
-
-fn report(o: Outcome) -> u64 {
-    match o {
-        Outcome::Tried(t) => match t {
-            Reordered::Met => 1,
-            Reordered::Moved => 2,
-            Reordered::Impossible => 3,
-        },
-        Outcome::Regrouped => 2,
-        _ => 0,
-    }
-}
-
 // Names, each with its place.
 fn put_placed(out: &mut [u8], at: usize, names: &[u64], places: &[u64]) -> usize {
     let mut p = at;
@@ -277,7 +258,7 @@ fn put_answer(x: Adjusted, all: &[u64], ends: &[usize], out: &mut [u8], at: usiz
     if let Outcome::NameNotFound = o {
         return put_bytes(out, at, b"e,10,0\n");
     }
-    let heading = [changed(o), report(o)];
+    let heading = [keys::answer::changed_number(o), keys::answer::report_number(o)];
     let a = put_numbers(out, at, b'k', &heading);
     let positions = x.at;
     let b = put_number_list(out, a, b'P', positions);
