@@ -258,7 +258,10 @@ fn put_answer(x: Adjusted, all: &[u64], ends: &[usize], out: &mut [u8], at: usiz
     if let Outcome::NameNotFound = o {
         return put_bytes(out, at, b"e,10,0\n");
     }
-    let heading = [keys::answer::changed_number(o), keys::answer::report_number(o)];
+    let heading = [
+        keys::answer::changed_number(o),
+        keys::answer::report_number(o),
+    ];
     let a = put_numbers(out, at, b'k', &heading);
     let positions = x.at;
     let b = put_number_list(out, a, b'P', positions);
