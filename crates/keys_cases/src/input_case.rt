@@ -17,7 +17,7 @@ use crate::sheet::list;
 use crate::sheet::read_lines;
 
 // The lists of the sheet: 0 the I line, then L, G, S, H, N, W, V.
-pub fn read(
+pub(crate) fn read(
     s: &[u8],
     at: usize,
     rows: &mut [[u64; 2]],
@@ -165,7 +165,7 @@ fn put_tried(
     Place::Wrong
 }
 
-pub fn answer(
+pub(crate) fn answer(
     all: &[u64],
     ends: &[usize],
     left_rules: &mut [[u64; 2]],

@@ -23,7 +23,7 @@ use keys::answer::Outcome;
 use keys::list::KeyList;
 use keys::reorder::Reordered;
 
-pub fn place(n: u64) -> usize {
+pub(crate) fn place(n: u64) -> usize {
     n as usize
 }
 
@@ -36,7 +36,7 @@ fn children(all: &[u64]) -> usize {
 }
 
 // The lists of a key sheet: 0 the K line, then R, L, G, S, W, O, A, M, and the children's.
-pub fn read(
+pub(crate) fn read(
     s: &[u8],
     at: usize,
     rows: &mut [[u64; 2]],
@@ -55,7 +55,7 @@ pub fn read(
 }
 
 // A direction for each pair, or none.
-pub fn directed(s: &[u64], l: &[u64]) -> bool
+pub(crate) fn directed(s: &[u64], l: &[u64]) -> bool
     ensures { λ r. ⌜ (r ≡ true → Directed (now (s .entry)) (now (l .entry))) ⌝ }
 {
     if s.len() == 0 {
@@ -85,7 +85,7 @@ fn store_pair(rules: &mut [[u64; 2]], n: usize, from: u64, to: u64) {
 }
 
 // The pairs of a flat list, and how many.
-pub fn pair_up(flat: &[u64], rules: &mut [[u64; 2]]) -> usize {
+pub(crate) fn pair_up(flat: &[u64], rules: &mut [[u64; 2]]) -> usize {
     let mut i: usize = 0;
     let mut n: usize = 0;
     while i < flat.len() {
@@ -99,7 +99,7 @@ pub fn pair_up(flat: &[u64], rules: &mut [[u64; 2]]) -> usize {
     n
 }
 
-pub fn first_rules<'a>(rules: &'a [[u64; 2]], n: usize) -> &'a [[u64; 2]] {
+pub(crate) fn first_rules<'a>(rules: &'a [[u64; 2]], n: usize) -> &'a [[u64; 2]] {
     if rules.len() < n {
         return rules;
     }
@@ -295,7 +295,7 @@ fn fits(r: &[u64], l: &[u64], g: &[u64], s: &[u64], o: &[u64], a: &[u64]) -> boo
     false
 }
 
-pub fn answer(
+pub(crate) fn answer(
     all: &[u64],
     ends: &[usize],
     rules: &mut [[u64; 2]],

@@ -5,7 +5,7 @@ use keys::list::NumberList;
 use text::write::number_length;
 use text::write::put_number;
 
-pub fn put(out: &mut [u8], at: usize, b: u8) -> usize {
+pub(crate) fn put(out: &mut [u8], at: usize, b: u8) -> usize {
     if out.len() <= at {
         return at;
     }
@@ -13,7 +13,7 @@ pub fn put(out: &mut [u8], at: usize, b: u8) -> usize {
     at + 1
 }
 
-pub fn put_bytes(out: &mut [u8], at: usize, bytes: &[u8]) -> usize {
+pub(crate) fn put_bytes(out: &mut [u8], at: usize, bytes: &[u8]) -> usize {
     let mut p = at;
     let mut i: usize = 0;
     while i < bytes.len() {
@@ -24,7 +24,7 @@ pub fn put_bytes(out: &mut [u8], at: usize, bytes: &[u8]) -> usize {
 }
 
 // A comma and the number.
-pub fn put_field(out: &mut [u8], at: usize, n: u64) -> usize {
+pub(crate) fn put_field(out: &mut [u8], at: usize, n: u64) -> usize {
     let p = put(out, at, 44);
     if out.len() < p {
         return p;
@@ -42,7 +42,7 @@ fn put_key(out: &mut [u8], at: usize, e: u64) -> usize {
 }
 
 // A packed expression's three fields, or a number's one.
-pub fn put_entry(out: &mut [u8], at: usize, packed: bool, e: u64) -> usize {
+pub(crate) fn put_entry(out: &mut [u8], at: usize, packed: bool, e: u64) -> usize {
     if packed {
         return put_key(out, at, e);
     }
@@ -59,15 +59,15 @@ fn put_list(out: &mut [u8], at: usize, letter: u8, packed: bool, entries: &[u64]
     put(out, p, 10)
 }
 
-pub fn put_numbers(out: &mut [u8], at: usize, letter: u8, numbers: &[u64]) -> usize {
+pub(crate) fn put_numbers(out: &mut [u8], at: usize, letter: u8, numbers: &[u64]) -> usize {
     put_list(out, at, letter, false, numbers)
 }
 
-pub fn put_keys(out: &mut [u8], at: usize, letter: u8, keys: &[u64]) -> usize {
+pub(crate) fn put_keys(out: &mut [u8], at: usize, letter: u8, keys: &[u64]) -> usize {
     put_list(out, at, letter, true, keys)
 }
 
-pub fn put_number_list(out: &mut [u8], at: usize, letter: u8, numbers: NumberList) -> usize
+pub(crate) fn put_number_list(out: &mut [u8], at: usize, letter: u8, numbers: NumberList) -> usize
     requires { ⌜ WholeNumbers numbers ⌝ }
 {
     let n = numbers.count;
@@ -75,7 +75,7 @@ pub fn put_number_list(out: &mut [u8], at: usize, letter: u8, numbers: NumberLis
     put_numbers(out, at, letter, &items[0..n])
 }
 
-pub fn put_key_list(out: &mut [u8], at: usize, letter: u8, keys: KeyList) -> usize
+pub(crate) fn put_key_list(out: &mut [u8], at: usize, letter: u8, keys: KeyList) -> usize
     requires { ⌜ Whole keys ⌝ }
 {
     let mut p = put(out, at, letter);

@@ -159,7 +159,7 @@ fn read_line(
 }
 
 // The lines of the letters become the lists from `first` on.
-pub fn read_lines(
+pub(crate) fn read_lines(
     s: &[u8],
     at: usize,
     letters: &[u8],
@@ -185,7 +185,7 @@ pub fn read_lines(
     Place::At(next)
 }
 
-pub fn list<'a>(all: &'a [u64], ends: &[usize], i: usize) -> &'a [u64] {
+pub(crate) fn list<'a>(all: &'a [u64], ends: &[usize], i: usize) -> &'a [u64] {
     if i >= NONE {
         return &all[0..0];
     }
