@@ -137,7 +137,7 @@ pub(crate) fn field_at(s: &[u8], at: usize) -> Scanned
 
 // A digit stands at `at`, and a comma after it: the most frequent field.
 pub(crate) fn digit_and_comma(s: &[u8], at: usize) -> bool
-    ensures { λ r. ⌜ (r ≡ true → DigitAndComma (now (s .entry)) at) ⌝ }
+    ensures { λ r. ⌜ (r ≡ true → DigitAndComma (now (s .entry)) at) × (DigitAndComma (now (s .entry)) at → r ≡ true) ⌝ }
 {
     if s.len() <= at {
         return false;

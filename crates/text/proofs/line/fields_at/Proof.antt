@@ -23,13 +23,13 @@ digit-and-comma-requires : tie.Need-digit-and-comma-requires Inv-loop μ-loop
 digit-and-comma-requires c κs = search needs
 
 shared-slice-read-widened : tie.Need-shared-slice-read-widened Inv-loop μ-loop
-shared-slice-read-widened c = omega (arith, c .before .before .digit-and-comma .ensures (c .before .if1 .taken))
+shared-slice-read-widened c = omega (arith, c .before .before .digit-and-comma .ensures .0 (c .before .if1 .taken))
 
 widened-requires : tie.Need-widened-requires Inv-loop μ-loop
 widened-requires c κs = search needs
 
 sub-d : tie.Need-sub-d Inv-loop μ-loop
-sub-d c = omega (arith, c .before .before .before .digit-and-comma .ensures (c .before .before .if1 .taken))
+sub-d c = omega (arith, c .before .before .before .digit-and-comma .ensures .0 (c .before .before .if1 .taken))
 
 store-row-requires : tie.Need-store-row-requires Inv-loop μ-loop
 store-row-requires c κs = search needs
@@ -41,13 +41,13 @@ add-n : tie.Need-add-n Inv-loop μ-loop
 add-n c = omega arith
 
 add-i : tie.Need-add-i Inv-loop μ-loop
-add-i c = omega (arith, c .before .before .before .before .before .before .before .digit-and-comma .ensures (c .before .before .before .before .before .before .if1 .taken))
+add-i c = omega (arith, c .before .before .before .before .before .before .before .digit-and-comma .ensures .0 (c .before .before .before .before .before .before .if1 .taken))
 
 loop-less : tie.Need-loop-less Inv-loop μ-loop
-loop-less c = omega (arith, c .before .before .before .before .before .before .before .digit-and-comma .ensures (c .before .before .before .before .before .before .if1 .taken))
+loop-less c = omega (arith, c .before .before .before .before .before .before .before .digit-and-comma .ensures .0 (c .before .before .before .before .before .before .if1 .taken))
 
 loop-again : tie.Need-loop-again Inv-loop μ-loop
-loop-again c = head-digit _ _ (c .before .before .before .before .before .before .before .digit-and-comma .ensures (c .before .before .before .before .before .before .if1 .taken)) _ (c .before .before .before .before .widened .ensures) _ _ _ _ _ _ (c .before .before .before .before .before .before .before .before .loop .inv) _ (c .before .before .store-row .ensures) _ (c .greater .ensures)
+loop-again c = head-digit _ _ (c .before .before .before .before .before .before .before .digit-and-comma .ensures .0 (c .before .before .before .before .before .before .if1 .taken)) _ (c .before .before .before .before .widened .ensures) _ _ _ _ _ _ (c .before .before .before .before .before .before .before .before .loop .inv) _ (c .before .before .store-row .ensures) _ (c .greater .ensures)
 
 field-at-requires : tie.Need-field-at-requires Inv-loop μ-loop
 field-at-requires c κs = search needs
