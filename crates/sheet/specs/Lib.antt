@@ -8,3 +8,5 @@ pub mod Sizes
 pub mod LegalSheets
 pub mod ListLines
 pub mod Refusals
+pub mod Held
+pub mod Outcomes

@@ -1,8 +1,8 @@
-// Reads the list lines that follow a K line or an I line.
+// Reads a line of a K or I sheet, whose lines are numbered from 0 on.
 ghost use mathlib.Core.Path.{_≡_};
 ghost use Prim.Native.Nat.{_≤_};
 ghost use lib.ListN.{length};
-ghost use Rattle.sheet.specs.ListLines.{listLetter, listCodes, numberOf, ListRead};
+ghost use Rattle.sheet.specs.ListLines.{lineLetter, lineCodes, numberOf, ListRead};
 use crate::kind::Codes;
 use crate::line::Read;
 use crate::line::read_line;
@@ -19,8 +19,8 @@ pub enum Listed {
     Turned(u64),
 }
 
-fn list_letter(k: SheetKind, i: usize) -> u8
-    ensures { λ r. ⌜ r ≡ listLetter k i ⌝ }
+pub fn line_letter(k: SheetKind, i: usize) -> u8
+    ensures { λ r. ⌜ r ≡ lineLetter k i ⌝ }
 {
     match k {
         SheetKind::Key => return key_letter(i),
@@ -29,37 +29,39 @@ fn list_letter(k: SheetKind, i: usize) -> u8
 }
 
 fn key_letter(i: usize) -> u8
-    ensures { λ r. ⌜ r ≡ listLetter SheetKind.Key i ⌝ }
+    ensures { λ r. ⌜ r ≡ lineLetter SheetKind.Key i ⌝ }
 {
     match i {
-        0 => 82,
-        1 => 76,
-        2 => 71,
-        3 => 83,
-        4 => 87,
-        5 => 79,
-        6 => 65,
-        7 => 77,
+        0 => 75,
+        1 => 82,
+        2 => 76,
+        3 => 71,
+        4 => 83,
+        5 => 87,
+        6 => 79,
+        7 => 65,
+        8 => 77,
         _ => 67,
     }
 }
 
 fn join_letter(i: usize) -> u8
-    ensures { λ r. ⌜ r ≡ listLetter SheetKind.Join i ⌝ }
+    ensures { λ r. ⌜ r ≡ lineLetter SheetKind.Join i ⌝ }
 {
     match i {
-        0 => 76,
-        1 => 71,
-        2 => 83,
-        3 => 72,
-        4 => 78,
-        5 => 87,
+        0 => 73,
+        1 => 76,
+        2 => 71,
+        3 => 83,
+        4 => 72,
+        5 => 78,
+        6 => 87,
         _ => 86,
     }
 }
 
-fn list_codes(k: SheetKind, i: usize) -> Codes
-    ensures { λ r. ⌜ r ≡ listCodes k i ⌝ }
+pub fn line_codes(k: SheetKind, i: usize) -> Codes
+    ensures { λ r. ⌜ r ≡ lineCodes k i ⌝ }
 {
     match k {
         SheetKind::Key => return key_codes(i),
@@ -68,26 +70,28 @@ fn list_codes(k: SheetKind, i: usize) -> Codes
 }
 
 fn key_codes(i: usize) -> Codes
-    ensures { λ r. ⌜ r ≡ listCodes SheetKind.Key i ⌝ }
+    ensures { λ r. ⌜ r ≡ lineCodes SheetKind.Key i ⌝ }
 {
     match i {
-        3 => Codes::Directions,
-        4 => Codes::Rules,
-        5 => Codes::Names,
+        0 => Codes::Key,
+        4 => Codes::Directions,
+        5 => Codes::Rules,
         6 => Codes::Names,
+        7 => Codes::Names,
         _ => Codes::Exprs,
     }
 }
 
 fn join_codes(i: usize) -> Codes
-    ensures { λ r. ⌜ r ≡ listCodes SheetKind.Join i ⌝ }
+    ensures { λ r. ⌜ r ≡ lineCodes SheetKind.Join i ⌝ }
 {
     match i {
-        2 => Codes::Directions,
-        3 => Codes::Input,
+        0 => Codes::Join,
+        3 => Codes::Directions,
         4 => Codes::Input,
-        5 => Codes::Rules,
+        5 => Codes::Input,
         6 => Codes::Rules,
+        7 => Codes::Rules,
         _ => Codes::Exprs,
     }
 }
@@ -101,7 +105,7 @@ fn number_of(r: Read) -> u64
     }
 }
 
-// The i-th list line of a sheet: its list goes into the room lent.
+// Line i of a sheet: its list goes into the room lent.
 pub fn read_list(
     s: &[u8],
     at: usize,
@@ -113,8 +117,8 @@ pub fn read_list(
     requires { ⌜ (192 ≤ length (now rows)) × (length (now list) ≡ 64) ⌝ }
     ensures { λ r. ⌜ ListRead (now (s .entry)) at k i r (now (list .exit)) ⌝ }
 {
-    let c = list_codes(k, i);
-    let letter = list_letter(k, i);
+    let c = line_codes(k, i);
+    let letter = line_letter(k, i);
     let r = read_line(s, at, letter, c, rows);
     let Read::Line { count, next } = r else {
         return Listed::Turned(number_of(r));

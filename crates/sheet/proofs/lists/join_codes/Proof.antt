@@ -20,7 +20,10 @@ returns-5 : tie.Need-returns-5
 returns-5 c = rw (c .match .keys5)
 
 returns-6 : tie.Need-returns-6
-returns-6 c = rw (ne-eqb (c .before .args .i) 2 (c .match .rest .0 .0 .0 .0 .1), ne-eqb (c .before .args .i) 3 (c .match .rest .0 .0 .0 .1), ne-eqb (c .before .args .i) 4 (c .match .rest .0 .0 .1), ne-eqb (c .before .args .i) 5 (c .match .rest .0 .1), ne-eqb (c .before .args .i) 6 (c .match .rest .1))
+returns-6 c = rw (c .match .keys6)
+
+returns-7 : tie.Need-returns-7
+returns-7 c = rw (ne-eqb (c .before .args .i) 0 (c .match .rest .0 .0 .0 .0 .0 .1), ne-eqb (c .before .args .i) 3 (c .match .rest .0 .0 .0 .0 .1), ne-eqb (c .before .args .i) 4 (c .match .rest .0 .0 .0 .1), ne-eqb (c .before .args .i) 5 (c .match .rest .0 .0 .1), ne-eqb (c .before .args .i) 6 (c .match .rest .0 .1), ne-eqb (c .before .args .i) 7 (c .match .rest .1))
 
 pub join-codes-spec : {M : Type 1} → statement M
-join-codes-spec = tie.close (tie.spec returns returns-2 returns-3 returns-4 returns-5 returns-6)
+join-codes-spec = tie.close (tie.spec returns returns-2 returns-3 returns-4 returns-5 returns-6 returns-7)

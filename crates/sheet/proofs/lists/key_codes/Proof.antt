@@ -17,7 +17,10 @@ returns-4 : tie.Need-returns-4
 returns-4 c = rw (c .match .keys4)
 
 returns-5 : tie.Need-returns-5
-returns-5 c = rw (ne-eqb (c .before .args .i) 3 (c .match .rest .0 .0 .0 .1), ne-eqb (c .before .args .i) 4 (c .match .rest .0 .0 .1), ne-eqb (c .before .args .i) 5 (c .match .rest .0 .1), ne-eqb (c .before .args .i) 6 (c .match .rest .1))
+returns-5 c = rw (c .match .keys5)
+
+returns-6 : tie.Need-returns-6
+returns-6 c = rw (ne-eqb (c .before .args .i) 0 (c .match .rest .0 .0 .0 .0 .1), ne-eqb (c .before .args .i) 4 (c .match .rest .0 .0 .0 .1), ne-eqb (c .before .args .i) 5 (c .match .rest .0 .0 .1), ne-eqb (c .before .args .i) 6 (c .match .rest .0 .1), ne-eqb (c .before .args .i) 7 (c .match .rest .1))
 
 pub key-codes-spec : {M : Type 1} → statement M
-key-codes-spec = tie.close (tie.spec returns returns-2 returns-3 returns-4 returns-5)
+key-codes-spec = tie.close (tie.spec returns returns-2 returns-3 returns-4 returns-5 returns-6)

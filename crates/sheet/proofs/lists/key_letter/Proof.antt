@@ -29,18 +29,10 @@ returns-8 : tie.Need-returns-8
 returns-8 c = rw (c .match .keys8)
 
 returns-9 : tie.Need-returns-9
-returns-9 c = rw (ne-eqb (c .before .args .i) 0 (c .match .rest .0 .0 .0 .0 .0 .0 .0 .1), ne-eqb (c .before .args .i) 1 (c .match .rest .0 .0 .0 .0 .0 .0 .1), ne-eqb (c .before .args .i) 2 (c .match .rest .0 .0 .0 .0 .0 .1), ne-eqb (c .before .args .i) 3 (c .match .rest .0 .0 .0 .0 .1), ne-eqb (c .before .args .i) 4 (c .match .rest .0 .0 .0 .1), ne-eqb (c .before .args .i) 5 (c .match .rest .0 .0 .1), ne-eqb (c .before .args .i) 6 (c .match .rest .0 .1), ne-eqb (c .before .args .i) 7 (c .match .rest .1))
+returns-9 c = rw (c .match .keys9)
+
+returns-10 : tie.Need-returns-10
+returns-10 c = rw (ne-eqb (c .before .args .i) 0 (c .match .rest .0 .0 .0 .0 .0 .0 .0 .0 .1), ne-eqb (c .before .args .i) 1 (c .match .rest .0 .0 .0 .0 .0 .0 .0 .1), ne-eqb (c .before .args .i) 2 (c .match .rest .0 .0 .0 .0 .0 .0 .1), ne-eqb (c .before .args .i) 3 (c .match .rest .0 .0 .0 .0 .0 .1), ne-eqb (c .before .args .i) 4 (c .match .rest .0 .0 .0 .0 .1), ne-eqb (c .before .args .i) 5 (c .match .rest .0 .0 .0 .1), ne-eqb (c .before .args .i) 6 (c .match .rest .0 .0 .1), ne-eqb (c .before .args .i) 7 (c .match .rest .0 .1), ne-eqb (c .before .args .i) 8 (c .match .rest .1))
 
 pub key-letter-spec : {M : Type 1} → statement M
-key-letter-spec =
-    tie.close
-    (tie.spec
-    returns
-    returns-2
-    returns-3
-    returns-4
-    returns-5
-    returns-6
-    returns-7
-    returns-8
-    returns-9)
+key-letter-spec = tie.close (tie.spec returns returns-2 returns-3 returns-4 returns-5 returns-6 returns-7 returns-8 returns-9 returns-10)

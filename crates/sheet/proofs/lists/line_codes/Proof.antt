@@ -1,11 +1,11 @@
--- `sheet::lists::list_codes` meets its contract. By the kind of sheet.
+-- `sheet::lists::line_codes` meets its contract. By the kind of sheet.
 -- Assumes nothing.
 use mathlib.Core.Path.{sym, ap, _∙_}
-use Rattle.sheet.specs.ListLines.{listCodes}
+use Rattle.sheet.specs.ListLines.{lineCodes}
 use Rattle.sheet.specs.declared.lists.SheetKind.{SheetKind}
 use borrow.Author.Needs.{needs}
-use Rattle.sheet.proofs.lists.list_codes.Statement.{statement}
-use Rattle.sheet.proofs.lists.list_codes.Tie as tie
+use Rattle.sheet.proofs.lists.line_codes.Statement.{statement}
+use Rattle.sheet.proofs.lists.line_codes.Tie as tie
 
 enum-told : tie.Need-enum-told
 enum-told c = search needs
@@ -14,7 +14,7 @@ key-codes-requires : tie.Need-key-codes-requires
 key-codes-requires c κs = search needs
 
 returns : tie.Need-returns
-returns c = c .key-codes .ensures ∙ ap (λ (k : SheetKind). listCodes k (c .before .before .before .args .i)) (sym (c .before .enum-told .given .1))
+returns c = c .key-codes .ensures ∙ ap (λ (k : SheetKind). lineCodes k (c .before .before .before .args .i)) (sym (c .before .enum-told .given .1))
 
 enum-told-2 : tie.Need-enum-told-2
 enum-told-2 c = search needs
@@ -23,9 +23,9 @@ join-codes-requires : tie.Need-join-codes-requires
 join-codes-requires c κs = search needs
 
 returns-2 : tie.Need-returns-2
-returns-2 c = c .join-codes .ensures ∙ ap (λ (k : SheetKind). listCodes k (c .before .before .before .args .i)) (sym (c .before .enum-told2 .given .1))
+returns-2 c = c .join-codes .ensures ∙ ap (λ (k : SheetKind). lineCodes k (c .before .before .before .args .i)) (sym (c .before .enum-told2 .given .1))
 
-pub list-codes-spec : {M : Type 1} → statement M
-list-codes-spec =
+pub line-codes-spec : {M : Type 1} → statement M
+line-codes-spec =
     tie.close
     (tie.spec enum-told key-codes-requires returns enum-told-2 join-codes-requires returns-2)
