@@ -13,7 +13,8 @@ use Rattle.sheet.specs.Lines.{Kind, Stage, Run, read, refused, mostBytes
 use Rattle.sheet.specs.KeySheets.{Reading, sheet, turned, ended}
 use Rattle.sheet.specs.Sizes.{Each}
 use Rattle.sheet.specs.Refusals.{kindsOf}
-use Rattle.sheet.proofs.InTurn.{Counted, inTurn, rowsText, Fine, FineRows, more}
+use Rattle.sheet.specs.SheetLines.{inTurn}
+use Rattle.sheet.proofs.InTurn.{Counted, rowsText, Fine, FineRows, more}
 use Rattle.sheet.proofs.Entries.{each-append, each-same}
 use Rattle.sheet.proofs.Chained.{afterHead, wholeRows, head-in-turn}
 use Rattle.sheet.proofs.RowsAgain.{fine-wide, rows-written, rows-read}

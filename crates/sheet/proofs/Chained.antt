@@ -14,7 +14,8 @@ use Rattle.sheet.specs.Lines.{Kind, Stage, Run, read, refused, before, b
 use Rattle.sheet.specs.KeySheets.{Reading, turned, ended, headOf}
 use Rattle.sheet.specs.Sizes.{Each}
 use Rattle.sheet.specs.Refusals.{kindsOf}
-use Rattle.sheet.proofs.InTurn.{Counted, inTurn}
+use Rattle.sheet.specs.SheetLines.{inTurn}
+use Rattle.sheet.proofs.InTurn.{Counted}
 
 number-seen : (k : Kind) → Counted k → (seen next : ℕ) (x : Option (List Field)) → lineNumber k seen next x ≡ lineNumber k 0 next x
 unfolding lineNumber

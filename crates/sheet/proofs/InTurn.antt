@@ -24,16 +24,6 @@ pub record Counted (k : Kind) : Type 0 where
   pub owes : (owed : ℕ) (fs : List Field) → k .owes owed fs ≡ owed - 1
   pub large : (seen : ℕ) (fs : List Field) → k .large seen fs ≡ k .large 0 fs
 
--- a line of each kind, the first with the number `line` and at the place `at`
-unfoldable pub inTurn : List Kind → ℕ → ℕ → List (List ℕ) → Run
-inTurn [] line at ls = read [] ls line at
-inTurn (k ∷ ks) line at ls =
-    let x : Option (List Field) = firstOf (k .letter) ls in
-    let next : ℕ = nextOf at ls in
-    let n : ℕ = lineNumber k 0 next x in
-    let rest : Run = inTurn ks (suc line) next (tail ls) in
-    cond (eqb n 0) (before (fieldsOf x) rest) (refused n line)
-
 -- rows, written, each with the letter of its kind
 abbrev pub rowsText : List Kind → List (List Field) → List ℕ
 rowsText [] rs = []

@@ -17,7 +17,8 @@ use Rattle.sheet.specs.KeyLines.{at, listLine, inputLine, keyLine, input
 use Rattle.sheet.specs.KeySheets.{sheet, turned, ended, row, directionsFit, unusedKeys, keyListsFit, joinListsFit, keySheetOf, joinSheetOf, keyWhole, joinWhole, afterKey, afterInput, readKeySheet, readJoinSheet}
 use Rattle.sheet.specs.KeyTexts.{keySheetText, joinSheetText}
 use Rattle.sheet.specs.Sizes.{Each}
-use Rattle.sheet.proofs.InTurn.{readable, Counted, inTurn}
+use Rattle.sheet.specs.SheetLines.{inTurn}
+use Rattle.sheet.proofs.InTurn.{readable, Counted}
 use Rattle.sheet.specs.Refusals.{keyKinds, joinKinds}
 use Rattle.sheet.proofs.Chained.{afterHead, wholeRows, head-in-turn}
 use Rattle.sheet.proofs.Accepted.{Accepted, accepted, accepts}

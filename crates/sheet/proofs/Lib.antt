@@ -22,3 +22,4 @@ pub mod AnswersFit
 pub mod Refused
 pub mod Lowest
 pub mod Decided
+pub mod SheetTurns

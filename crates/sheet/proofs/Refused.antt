@@ -15,7 +15,7 @@ use Rattle.keys.specs.Adjust.{KeySheet}
 use Rattle.keys.specs.Inputs.{JoinSheet}
 use Rattle.sheet.specs.Lines.{Kind, Run, refused, before, lineNumber, fieldsOf, atEnd}
 use Rattle.sheet.specs.KeySheets.{Reading, sheet, turned, ended, keyListsFit, keyWhole, joinWhole, readKeySheet, readJoinSheet}
-use Rattle.sheet.proofs.InTurn.{inTurn}
+use Rattle.sheet.specs.SheetLines.{inTurn}
 use Rattle.sheet.proofs.Chained.{wholeRows, ended-before}
 use Rattle.sheet.proofs.KeyAccepted.{made-fits, stagesOfKey, stagesOfInput, key-in-turn, join-in-turn}
 use Rattle.sheet.specs.Refusals.{lineNumbers, lineRows, NoLine, FirstLine, TurnedBack, keyKinds, keyNumbers, keySheetIn, joinKinds, joinNumbers, joinSheetIn, joinFits}

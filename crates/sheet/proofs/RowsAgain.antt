@@ -21,7 +21,8 @@ use Rattle.text.proofs.RoundTrip.{parts-line, first-back}
 use Rattle.text.proofs.WrittenBack.{line-again}
 use Rattle.sheet.specs.Lines.{Kind, Run, read, refused, before, mostBytes, plain, wholeEntries, fieldsFit, tooManyEntries, lineNumber, fieldsOf}
 use Rattle.sheet.specs.Sizes.{Each}
-use Rattle.sheet.proofs.InTurn.{readable, Counted, inTurn, rowsText, Fine, FineRows, empty as noRows, more}
+use Rattle.sheet.specs.SheetLines.{inTurn}
+use Rattle.sheet.proofs.InTurn.{readable, Counted, rowsText, Fine, FineRows, empty as noRows, more}
 
 -- ---- fields that fit are within 64 bits
 

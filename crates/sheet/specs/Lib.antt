@@ -10,3 +10,4 @@ pub mod ListLines
 pub mod Refusals
 pub mod Held
 pub mod Outcomes
+pub mod SheetLines

@@ -3,3 +3,4 @@ pub mod kind;
 pub mod line;
 pub mod lists;
 pub mod pack;
+pub mod read;
