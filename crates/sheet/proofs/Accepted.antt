@@ -34,7 +34,7 @@ nothing·at xs ([] ∷ []) e h = cc
 nothing·at xs ([] ∷ m ∷ ms) e h = let z : _≡_ {A = ℕ} 0 1 = cc in absurd (omega arith)
 nothing·at xs ((b ∷ bs) ∷ ms) e h = let z : _≡_ {A = ℕ} 0 1 = cc in absurd (omega arith)
 
-nothing-follows : (xs : List ℕ) → atEnd (parts 10 xs) ≡ true → xs ≡ []
+pub nothing-follows : (xs : List ℕ) → atEnd (parts 10 xs) ≡ true → xs ≡ []
 nothing-follows xs h = nothing·at xs (parts 10 xs) (led-parts 10 xs) h
 
 module _ {A : Type 0} (whole : List (List Field) → Reading A) where

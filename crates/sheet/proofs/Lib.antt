@@ -23,3 +23,4 @@ pub mod Refused
 pub mod Lowest
 pub mod Decided
 pub mod SheetTurns
+pub mod SheetWhole

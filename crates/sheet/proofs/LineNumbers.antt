@@ -75,7 +75,7 @@ grouped true false false l u w = refl
 grouped false a t l u w = refl
 
 -- a field's number, from the list of the numbers
-at-value : (fs : List Field) (i : ℕ) → at fs i ≡ getD (values fs) i 0
+pub at-value : (fs : List Field) (i : ℕ) → at fs i ≡ getD (values fs) i 0
 at-value fs i = sym (List·getD-map valueOf fs i (number 0))
 
 drop-values : (n : ℕ) (fs : List Field) → values (drop n fs) ≡ drop n (values fs)

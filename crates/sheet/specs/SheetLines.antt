@@ -11,7 +11,7 @@ use Rattle.text.specs.Text.{Field, parts}
 use Rattle.text.specs.Lines.{firstOf, nextOf}
 use Rattle.sheet.specs.Lines.{Kind, Run, read, refused, before, lineNumber, fieldsOf, atEnd}
 use Rattle.sheet.specs.KeyLines.{at, values}
-use Rattle.sheet.specs.Reading.{packedBy, Small}
+use Rattle.sheet.specs.Reading.{packedBy, Small, Fits}
 use Rattle.sheet.specs.ListLines.{lineCodes, lineKind, lineLetter}
 use Rattle.sheet.specs.Held.{heldAt}
 use Rattle.sheet.specs.declared.lists.SheetKind.{SheetKind}
@@ -41,6 +41,16 @@ abbrev pub lineCount : SheetKind → List Field → ℕ
 lineCount Key fs = 9 + at fs 6
 lineCount Join fs = 8
 
+-- the same, by the head's seventh number
+abbrev pub countBy : SheetKind → ℕ → ℕ
+countBy Key n = 9 + n
+countBy Join n = 8
+
+-- a K line has at most 8 children
+abbrev pub FewChildren : SheetKind → ℕ → Type 0
+FewChildren Key n = n ≤ 8
+FewChildren Join n = Unit {0}
+
 -- the number of a line that was turned back, or 0
 abbrev pub turnedNumber : Listed → ℕ
 turnedNumber (Packed count next) = 0
@@ -57,6 +67,7 @@ linesBy (refused n l) = L.Refused n l
 
 -- the list of line i is held
 pub record HeldLine (k : SheetKind) (lists : List (List ℕ)) (counts : List ℕ) (i : ℕ) (fs : List Field) : Type 0 where
+  pub fits : Fits (lineCodes k i) (length fs)
   pub small : Small (values fs)
   pub room : getD counts i 0 ≤ 64
   pub long : getD counts i 0 ≡ length (heldAt lists counts i)
@@ -66,6 +77,15 @@ pub record HeldLine (k : SheetKind) (lists : List (List ℕ)) (counts : List ℕ
 abbrev pub HeldLines : List ℕ → SheetKind → ℕ → Run → List (List ℕ) → List ℕ → Type 0
 HeldLines s k i (read rs ls l p) lists counts = (ls ≡ parts 10 (drop p s)) × ((j : ℕ) → j < length rs → HeldLine k lists counts (i + j) (getD rs j []))
 HeldLines s k i (refused n l) lists counts = Unit {0}
+
+-- all lines of a sheet
+unfoldable pub wholeLines : SheetKind → List ℕ → Run
+wholeLines k s = inTurn (lineKinds k 0 (lineCount k (fieldsOf (firstOf (lineLetter k 0) (parts 10 s))))) 1 0 (parts 10 s)
+
+-- and nothing after them
+abbrev pub endedBy : Run → Lines
+endedBy (read rs ls l p) = cond (atEnd ls) (L.Read p l) (L.Refused 1 l)
+endedBy (refused n l) = L.Refused n l
 
 -- every list has room for 64 numbers
 abbrev pub Full : List (List ℕ) → Type 0

@@ -2,7 +2,7 @@
 ghost use mathlib.Core.Path.{_≡_};
 ghost use Prim.Native.Nat.{_-_, _≤_};
 ghost use lib.ListN.{length};
-ghost use Rattle.sheet.specs.SheetLines.{turnedNumber, linesFrom, linesBy, HeldLines, Full, HeadKept};
+ghost use Rattle.sheet.specs.SheetLines.{countBy, FewChildren, turnedNumber, linesFrom, linesBy, wholeLines, endedBy, HeldLines, Full, HeadKept};
 use crate::lists::Listed;
 use crate::lists::SheetKind;
 use crate::lists::read_list;
@@ -54,4 +54,61 @@ fn read_lists(
         l += 1;
     }
     Lines::Read { next: p, line: l }
+}
+
+// How many lines a sheet has; of a K sheet by its children.
+fn line_count(k: SheetKind, children: u64) -> usize
+    requires { ⌜ FewChildren k children ⌝ }
+    ensures { λ r. ⌜ r ≡ countBy k children ⌝ }
+{
+    match k {
+        SheetKind::Key => return 9 + children as usize,
+        SheetKind::Join => return 8,
+    }
+}
+
+// All lines of a sheet: line i goes into list i.
+fn read_lines(
+    s: &[u8],
+    k: SheetKind,
+    rows: &mut [[u64; 2]],
+    lists: &mut [[u64; 64]],
+    counts: &mut [usize],
+) -> Lines
+    requires { ⌜ (192 ≤ length (now rows)) × (17 ≤ length (now lists)) × (17 ≤ length (now counts)) × Full (now lists) ⌝ }
+    ensures answer { λ r. ⌜ r ≡ linesBy (wholeLines k (now (s .entry))) ⌝ }
+    ensures held { λ _. ⌜ HeldLines (now (s .entry)) k 0 (wholeLines k (now (s .entry))) (now (lists .exit)) (now (counts .exit)) ⌝ }
+{
+    let r = read_list(s, 0, k, 0, rows, &mut lists[0]);
+    let Listed::Packed { count, next } = r else {
+        return Lines::Refused {
+            number: turned_number(r),
+            line: 1,
+        };
+    };
+    counts[0] = count;
+    let n = line_count(k, lists[0][6]);
+    read_lists(s, next, k, n, rows, lists, counts)
+}
+
+// All lines of a sheet, and nothing after them.
+pub fn read_whole(
+    s: &[u8],
+    k: SheetKind,
+    rows: &mut [[u64; 2]],
+    lists: &mut [[u64; 64]],
+    counts: &mut [usize],
+) -> Lines
+    requires { ⌜ (192 ≤ length (now rows)) × (17 ≤ length (now lists)) × (17 ≤ length (now counts)) × Full (now lists) ⌝ }
+    ensures answer { λ r. ⌜ r ≡ endedBy (wholeLines k (now (s .entry))) ⌝ }
+    ensures held { λ _. ⌜ HeldLines (now (s .entry)) k 0 (wholeLines k (now (s .entry))) (now (lists .exit)) (now (counts .exit)) ⌝ }
+{
+    let t = read_lines(s, k, rows, lists, counts);
+    let Lines::Read { next, line } = t else {
+        return t;
+    };
+    if next < s.len() {
+        return Lines::Refused { number: 1, line };
+    }
+    t
 }
