@@ -22,5 +22,9 @@ pub mod AnswersFit
 pub mod Refused
 pub mod Lowest
 pub mod Decided
+pub mod Tests
 pub mod SheetTurns
 pub mod SheetWhole
+pub mod HeldRows
+pub mod HeldSheets
+pub mod SheetsRead

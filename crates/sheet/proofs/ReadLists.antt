@@ -13,15 +13,15 @@ use lib.Seq.{length-take-le}
 use Rattle.text.specs.Text.{Field, number, empty, malformed, stateOf, valueOf, greatest}
 use Rattle.text.specs.Bounds.{allowsAll}
 use Rattle.text.proofs.Limits.{all-largest}
-use Rattle.sheet.specs.Lines.{plain, lineNumber, fieldsOf}
+use Rattle.sheet.specs.Lines.{plain, wholeEntries, lineNumber, fieldsOf}
 use Rattle.sheet.specs.KeyLines.{values}
-use Rattle.sheet.specs.Reading.{kindOf, countsNumber, readBy, Small, Fits}
+use Rattle.sheet.specs.Reading.{kindOf, headCount, entryWidth, countsNumber, readBy, Small, Fits}
 use Rattle.sheet.specs.ListLines.{packedList, listedBy}
 use Rattle.sheet.specs.declared.kind.Codes.{Codes}
 use Rattle.sheet.specs.declared.kind.Codes.the-variants.{Key, Join, Exprs, Rules, Input, Directions, Names}
 use Rattle.sheet.specs.declared.line.Read.the-variants as R
 use Rattle.sheet.specs.declared.lists.Listed.the-variants.{Packed, Turned}
-use Rattle.sheet.proofs.LineNumbers.{counts-enough, counts-few, counts-whole, counts-fields, counts-room, not-turned-counts}
+use Rattle.sheet.proofs.LineNumbers.{counts-enough, counts-few, counts-entries, counts-whole, counts-fields, counts-room, not-turned-counts}
 
 -- ---- a line that was read
 
@@ -89,6 +89,9 @@ good-small c letter seen next fs e =
 module _ (c : Codes) (letter seen next : ℕ) (fs : List Field) (e : lineNumber (kindOf c letter) seen next (some fs) ≡ 0) where
   pub good-fit : Fits c (length fs)
   good-fit = counts-fit c (length fs) (greatest 0 (map stateOf fs)) (greatest 0 (map valueOf fs)) next (not-turned-counts c letter seen next fs e)
+
+  pub good-entries : wholeEntries (entryWidth c) (length fs - headCount c) ≡ true
+  good-entries = counts-entries c (length fs) (greatest 0 (map stateOf fs)) (greatest 0 (map valueOf fs)) next (not-turned-counts c letter seen next fs e)
 
   pub good-room : length fs ≤ 192
   good-room = counts-room c (length fs) (greatest 0 (map stateOf fs)) (greatest 0 (map valueOf fs)) next (not-turned-counts c letter seen next fs e)

@@ -26,7 +26,7 @@ use Rattle.sheet.specs.declared.lists.SheetKind.the-variants.{Key, Join}
 use Rattle.sheet.specs.declared.lists.Listed.{Listed}
 use Rattle.sheet.specs.declared.lists.Listed.the-variants.{Packed, Turned}
 use Rattle.sheet.specs.declared.read.Lines.the-variants as L
-use Rattle.sheet.proofs.ReadLists.{good-small, good-fit}
+use Rattle.sheet.proofs.ReadLists.{good-small, good-fit, good-entries}
 
 -- ---- the letter of a line's kind
 
@@ -133,7 +133,7 @@ module _ (k : SheetKind) (lists : List (List ℕ)) (counts : List ℕ) (i : ℕ)
   held-other j fs ne h =
       let a = getD-set-other lists i j list [] ne in
       let b = getD-set-other counts i j count 0 ne in
-      record { fits = h .fits; small = h .small; room = rw b (h .room); long = rw (a, b) (h .long); is = rw (a, b) (h .is) }
+      record { fits = h .fits; entries = h .entries; small = h .small; room = rw b (h .room); long = rw (a, b) (h .long); is = rw (a, b) (h .is) }
 
   pub held-here :
       (s : List ℕ) (p next : ℕ) (t : Taken s k i p count next list) → i < length lists → i < length counts →
@@ -144,6 +144,7 @@ module _ (k : SheetKind) (lists : List (List ℕ)) (counts : List ℕ) (i : ℕ)
       let b = getD-set-same counts i count 0 h in
       record {
         fits = good-fit (lineCodes k i) (lineLetter k i) 0 (after s p) (t .fs) (t .zero);
+        entries = good-entries (lineCodes k i) (lineLetter k i) 0 (after s p) (t .fs) (t .zero);
         small = good-small (lineCodes k i) (lineLetter k i) 0 (after s p) (t .fs) (t .zero);
         room = rw b (t .room);
         long = rw (a, b) (t .counts ∙ sym (ap length (t .held)));

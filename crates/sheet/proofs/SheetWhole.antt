@@ -90,7 +90,7 @@ pub head-still :
     HeldLine k lists₀ counts₀ 0 fs → HeldLine k lists counts 0 fs
 unfolding heldAt
 head-still k lists₀ counts₀ lists counts fs e h =
-    record { fits = h .fits; small = h .small; room = rw (e .count) (h .room); long = rw (e .list, e .count) (h .long); is = rw (e .list, e .count) (h .is) }
+    record { fits = h .fits; entries = h .entries; small = h .small; room = rw (e .count) (h .room); long = rw (e .list, e .count) (h .long); is = rw (e .list, e .count) (h .is) }
 
 pub held-whole :
     (s : List ℕ) (k : SheetKind) (fs : List Field) (rest : Run) (lists : List (List ℕ)) (counts : List ℕ) → HeldLines s k 1 rest lists counts →

@@ -11,3 +11,4 @@ pub mod Refusals
 pub mod Held
 pub mod Outcomes
 pub mod SheetLines
+pub mod ListFits

@@ -3,15 +3,15 @@
 use mathlib.Core.Path.{_≡_}
 use Prim.Native.Nat.{ℕ, zero, suc, _+_, _-_, _≤_, _<_}
 use mathlib.Core.List.{List, [], _∷_, tail}
-use mathlib.Core.Bool.{cond}
+use mathlib.Core.Bool.{true, cond}
 use mathlib.Core.Option.{Option}
 use lib.Dec.{eqb}
 use lib.ListN.{length, getD, drop}
 use Rattle.text.specs.Text.{Field, parts}
 use Rattle.text.specs.Lines.{firstOf, nextOf}
-use Rattle.sheet.specs.Lines.{Kind, Run, read, refused, before, lineNumber, fieldsOf, atEnd}
+use Rattle.sheet.specs.Lines.{Kind, Run, read, refused, before, wholeEntries, lineNumber, fieldsOf, atEnd}
 use Rattle.sheet.specs.KeyLines.{at, values}
-use Rattle.sheet.specs.Reading.{packedBy, Small, Fits}
+use Rattle.sheet.specs.Reading.{headCount, entryWidth, packedBy, Small, Fits}
 use Rattle.sheet.specs.ListLines.{lineCodes, lineKind, lineLetter}
 use Rattle.sheet.specs.Held.{heldAt}
 use Rattle.sheet.specs.declared.lists.SheetKind.{SheetKind}
@@ -68,6 +68,7 @@ linesBy (refused n l) = L.Refused n l
 -- the list of line i is held
 pub record HeldLine (k : SheetKind) (lists : List (List ℕ)) (counts : List ℕ) (i : ℕ) (fs : List Field) : Type 0 where
   pub fits : Fits (lineCodes k i) (length fs)
+  pub entries : wholeEntries (entryWidth (lineCodes k i)) (length fs - headCount (lineCodes k i)) ≡ true
   pub small : Small (values fs)
   pub room : getD counts i 0 ≤ 64
   pub long : getD counts i 0 ≡ length (heldAt lists counts i)
