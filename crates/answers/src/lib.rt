@@ -1,0 +1,2 @@
+// Answers and sheets as text, written from lists.
+pub mod held;
