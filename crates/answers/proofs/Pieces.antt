@@ -40,6 +40,14 @@ module _ {out₀ : List ℕ} {at : ℕ} {whole out : List ℕ} {p : ℕ} where
   pub owed-last : {ys out₁ : List ℕ} {p₁ : ℕ} → Owed out₀ at whole out p ys → Wrote out p ys out₁ p₁ → Wrote out₀ at whole out₁ p₁
   owed-last {ys} o w = record { place = omega (arith, o .left .place, w .place); stored = w .stored ∙ o .left .stored }
 
+  pub owed-none : Owed out₀ at whole out p [] → Wrote out₀ at whole out p
+  owed-none o = left-none (o .left)
+
+-- texts one after another
+abbrev pub joined : List (List ℕ) → List ℕ
+joined [] = []
+joined (x ∷ xs) = x ++ joined xs
+
 -- ---- pieces in turn
 
 -- the pieces from i + 1 on are those of the later function from i on

@@ -1,4 +1,6 @@
 // Answers and sheets as text, written from lists.
 pub mod children;
 pub mod held;
+pub mod join_text;
+pub mod key_text;
 pub mod line;
