@@ -2,3 +2,4 @@ pub mod Pieces
 pub mod Lines
 pub mod ChildPieces
 pub mod AnswerParts
+pub mod HeldLines

@@ -4,3 +4,4 @@ pub mod held;
 pub mod join_text;
 pub mod key_text;
 pub mod line;
+pub mod sheet_text;
