@@ -1,14 +1,13 @@
 -- The C lines of a K answer as pieces, one for each child.
 -- Assumes nothing.
-use mathlib.Core.Path.{_≡_, refl, sym, ap, _∙_}
-use mathlib.Core.List.{List, [], _∷_, _++_, map}
+use mathlib.Core.Path.{_≡_, refl, ap, _∙_}
+use mathlib.Core.List.{List, [], _++_, map}
 use mathlib.Core.Bool.{Bool, true, false, cond}
-use Prim.Native.Nat.{ℕ, zero, suc, _+_, _≤_, _<_}
+use Prim.Native.Nat.{ℕ, zero, suc, _+_, _≤_}
 use native.Mathlib.Omega.{arith}
-use lib.Dec.{eqb}
-use lib.ListN.{length, getD, take, length-take}
+use lib.ListN.{length, getD, length-take}
 use borrow.Author.Tests.{eq-eqb, ne-eqb}
-use Rattle.keys.specs.Expressions.{Expression, expressions}
+use Rattle.keys.specs.Expressions.{expressions}
 use Rattle.keys.specs.Adjust.{handOver}
 use Rattle.sheet.specs.Held.{heldAt, exprLists}
 use Rattle.sheet.specs.KeyAnswers.{exprsLine, childLines}
@@ -43,6 +42,12 @@ module _ (firstKept : Bool) (first : List ℕ) (kept : Bool) (others : List ℕ)
     later-other ne t = rw (ne-eqb i 0 ne, t)
 
   module _ (lists : List (List ℕ)) (counts : List ℕ) where
+    -- the text, as the answer has it
+    pub children-text :
+        (n : ℕ) → childrenText firstKept first kept others lists counts n ≡ childLines (handOver (chosen firstKept first) (chosen kept others) (exprLists lists counts 9 n))
+    unfolding childrenText
+    children-text n = refl
+
     -- the line of child i
     abbrev pub childPiece : ℕ → List ℕ
     childPiece i = exprsLine 67 (expressions (childList i firstKept first kept others (heldAt lists counts (9 + i))))

@@ -6,10 +6,11 @@ use Prim.Native.Nat.{ℕ, zero, suc, _-_}
 use native.Mathlib.Omega.{arith}
 use lib.ListN.{length, take, drop, length-drop}
 use lib.Seq.{take-all}
-use Rattle.text.specs.Text.{Field, number}
+use Rattle.text.specs.Text.{number}
 use Rattle.text.specs.Write.{fieldsText, lineText}
 use Rattle.text.proofs.Lengths.{fields-append}
 use Rattle.keys.specs.Expressions.{expressions}
+use Rattle.keys.proofs.Shifts.{map-append}
 use Rattle.sheet.specs.KeyAnswers.{numbersLine, exprNumbers}
 use Rattle.sheet.specs.Held.{heldAt, fieldNumbers, heldText}
 use Rattle.sheet.specs.ListLines.{lineLetter, lineCodes}
@@ -17,10 +18,6 @@ use Rattle.sheet.specs.declared.kind.Codes.the-variants as C
 use Rattle.sheet.specs.declared.lists.SheetKind.{SheetKind}
 use Rattle.answers.specs.Pieces.{pieces}
 use Rattle.answers.proofs.Pieces.{joined}
-
-numbers-append : (ms ns : List ℕ) → map number (ms ++ ns) ≡ map number ms ++ map number ns
-numbers-append [] ns = refl
-numbers-append (m ∷ ms) ns = ap (λ (fs : List Field). number m ∷ fs) (numbers-append ms ns)
 
 -- the letter, the mark, the expressions, the LF
 pub input-parts :
@@ -31,7 +28,7 @@ unfolding lineText
 input-parts letter ns =
     let a = take 1 ns in
     let b = exprNumbers (expressions (drop 1 ns)) in
-    ap (λ (t : List ℕ). letter ∷ (t ++ (10 ∷ []))) (ap fieldsText (numbers-append a b) ∙ fields-append (map number a) (map number b))
+    ap (λ (t : List ℕ). letter ∷ (t ++ (10 ∷ []))) (ap fieldsText (map-append number a b) ∙ fields-append (map number a) (map number b))
     ∙ ap (λ (t : List ℕ). letter ∷ t) (append-assoc (fieldsText (map number a)) (fieldsText (map number b)) (10 ∷ []))
 
 -- where there is no mark there is nothing

@@ -2,16 +2,16 @@
 -- Assumes nothing.
 use mathlib.Core.Path.{_≡_, refl, sym, ap, _∙_}
 use mathlib.Core.List.{List, [], _∷_, _++_, map, append-assoc, append-nil}
-use Prim.Native.Nat.{ℕ, suc, _+_, _≤_}
+use Prim.Native.Nat.{ℕ, _+_}
 use native.Mathlib.Omega.{arith}
 use lib.ListN.{length, getD, length-append}
 use Rattle.text.specs.Text.{Field, number}
 use Rattle.text.specs.Write.{decimal, fieldText, fieldsText, lineText}
 use Rattle.text.proofs.Lengths.{line-length}
 use Rattle.keys.specs.Expressions.{expression, expressions}
-use Rattle.sheet.specs.KeyAnswers.{numbersLine, exprNumbers, exprsLine}
+use Rattle.sheet.specs.KeyAnswers.{numbersLine, exprNumbers}
 use Rattle.answers.specs.Pieces.{numberField, exprFields, pieces}
-use Rattle.answers.proofs.Pieces.{pieces-later}
+use Rattle.answers.proofs.Pieces.{joined, pieces-later}
 
 -- a piece for each entry
 abbrev pub listed : (ℕ → List ℕ) → List ℕ → List ℕ
@@ -33,12 +33,9 @@ expr-fields (n ∷ ns) =
     let e = expression n in
     rw (expr-fields ns, listed-cons exprFields n ns, append-assoc) (ap (λ (t : List ℕ). numberField (e .kind) ++ t) (sym (append-assoc (numberField (e .name)) (numberField (e .index)) (listed exprFields ns))))
 
--- the length of a line, from that of its fields
-pub numbers-long : (ns : List ℕ) (m : ℕ) → m ≡ 2 + length (listed numberField ns) → (letter : ℕ) → m ≡ length (numbersLine letter ns)
-numbers-long ns m e letter = omega (arith, line-length letter (map number ns), ap length (number-fields ns))
-
-pub exprs-long : (ns : List ℕ) (m : ℕ) → m ≡ 2 + length (listed exprFields ns) → (letter : ℕ) → m ≡ length (exprsLine letter (expressions ns))
-exprs-long ns m e letter = omega (arith, line-length letter (map number (exprNumbers (expressions ns))), ap length (expr-fields ns))
+-- the length of a line, whatever its letter, from that of its fields
+pub line-long : (fs : List Field) {text : List ℕ} → fieldsText fs ≡ text → (m : ℕ) → m ≡ 2 + length text → (letter : ℕ) → m ≡ length (lineText letter fs)
+line-long fs e m h letter = omega (arith, line-length letter fs, ap length e)
 
 module _ (a b : ℕ) where
   pub pair-long : (letter : ℕ) → 4 + length (decimal a) + length (decimal b) ≡ length (numbersLine letter (a ∷ b ∷ []))
@@ -54,14 +51,18 @@ expr-long e =
     let i = numberField (expression e .index) in
     omega (arith, length-append k (n ++ i), length-append n i)
 
--- the parts of a line of two numbers
-pub pair-text : (letter a b : ℕ) → numbersLine letter (a ∷ b ∷ []) ≡ (letter ∷ []) ++ (numberField a ++ (numberField b ++ (10 ∷ [])))
+-- ---- what lines and fields are made of
+
+pub line-parts : (letter : ℕ) (fs : List Field) → lineText letter fs ≡ joined ((letter ∷ []) ∷ fieldsText fs ∷ (10 ∷ []) ∷ [])
+unfolding lineText
+line-parts letter fs = refl
+
+pub pair-parts : (letter a b : ℕ) → numbersLine letter (a ∷ b ∷ []) ≡ joined ((letter ∷ []) ∷ numberField a ∷ numberField b ∷ (10 ∷ []) ∷ [])
 unfolding lineText fieldsText fieldText numberField
-pair-text letter a b =
+pair-parts letter a b =
     ap (λ (t : List ℕ). letter ∷ 44 ∷ t)
     (append-assoc (decimal a) (44 ∷ (decimal b ++ [])) (10 ∷ []) ∙ ap (λ (t : List ℕ). decimal a ++ (44 ∷ (t ++ (10 ∷ [])))) (append-nil (decimal b)))
 
--- the parts of any line
-pub line-parts : (letter : ℕ) (fs : List Field) → lineText letter fs ≡ (letter ∷ []) ++ (fieldsText fs ++ (10 ∷ []))
-unfolding lineText
-line-parts letter fs = refl
+pub expr-parts : (e : ℕ) → exprFields e ≡ joined (numberField (expression e .kind) ∷ numberField (expression e .name) ∷ numberField (expression e .index) ∷ [])
+unfolding exprFields
+expr-parts e = rw (append-nil (numberField (expression e .index)))

@@ -6,7 +6,7 @@ use Prim.Native.Nat.{ℕ, zero, suc, _+_, _-_, _*_, _≤_, _<_}
 use native.Mathlib.Nat.{suc-mul}
 use native.Mathlib.Numerals.{add-one}
 use native.Mathlib.Omega.{arith}
-use lib.ListN.{length, getD, length-append}
+use lib.ListN.{length, length-append}
 use Rattle.text.specs.Write.{Wrote}
 use Rattle.text.proofs.Stores.{Left, left-all, left-then, left-none, wrote-length}
 use Rattle.answers.specs.Pieces.{pieces}
@@ -22,10 +22,6 @@ pub record Owed (out₀ : List ℕ) (at : ℕ) (whole out : List ℕ) (p : ℕ) 
 pub owed-all : (out : List ℕ) (at : ℕ) (whole : List ℕ) → at + length whole ≤ length out → Owed out at whole out at whole
 owed-all out at whole h = record { room = refl; enough = h; left = left-all out at whole }
 
--- the same, in parts
-pub owed-parts : (out : List ℕ) (at : ℕ) {whole parts : List ℕ} → whole ≡ parts → at + length whole ≤ length out → Owed out at whole out at parts
-owed-parts out at {whole} e h = subst (λ (t : List ℕ). Owed out at whole out at t) e (owed-all out at whole h)
-
 module _ {out₀ : List ℕ} {at : ℕ} {whole out : List ℕ} {p : ℕ} where
   pub owed-room : (ys zs : List ℕ) → Owed out₀ at whole out p (ys ++ zs) → p + length ys ≤ length out
   owed-room ys zs o = omega (arith, o .enough, length-append ys zs)
@@ -37,16 +33,31 @@ module _ {out₀ : List ℕ} {at : ℕ} {whole out : List ℕ} {p : ℕ} where
     left = left-then (o .left) w;
   }
 
-  pub owed-last : {ys out₁ : List ℕ} {p₁ : ℕ} → Owed out₀ at whole out p ys → Wrote out p ys out₁ p₁ → Wrote out₀ at whole out₁ p₁
-  owed-last {ys} o w = record { place = omega (arith, o .left .place, w .place); stored = w .stored ∙ o .left .stored }
-
   pub owed-none : Owed out₀ at whole out p [] → Wrote out₀ at whole out p
   owed-none o = left-none (o .left)
 
--- texts one after another
+-- ---- parts one after another
+
 abbrev pub joined : List (List ℕ) → List ℕ
 joined [] = []
 joined (x ∷ xs) = x ++ joined xs
+
+-- the parts are what is left
+pub record Due (out₀ : List ℕ) (at : ℕ) (whole out : List ℕ) (p : ℕ) (parts : List (List ℕ)) : Type 0 where
+  pub owed : Owed out₀ at whole out p (joined parts)
+
+pub due-all : (out : List ℕ) (at : ℕ) {whole : List ℕ} {parts : List (List ℕ)} → whole ≡ joined parts → at + length whole ≤ length out → Due out at whole out at parts
+due-all out at {whole} e h = record { owed = subst (λ (t : List ℕ). Owed out at whole out at t) e (owed-all out at whole h) }
+
+module _ {out₀ : List ℕ} {at : ℕ} {whole out : List ℕ} {p : ℕ} where
+  pub due-room : {x : List ℕ} {xs : List (List ℕ)} → Due out₀ at whole out p (x ∷ xs) → p + length x ≤ length out
+  due-room {x} {xs} d = owed-room x (joined xs) (d .owed)
+
+  pub due-then : {x : List ℕ} {xs : List (List ℕ)} {out₁ : List ℕ} {p₁ : ℕ} → Due out₀ at whole out p (x ∷ xs) → Wrote out p x out₁ p₁ → Due out₀ at whole out₁ p₁ xs
+  due-then d w = record { owed = owed-then (d .owed) w }
+
+  pub due-none : Due out₀ at whole out p [] → Wrote out₀ at whole out p
+  due-none d = owed-none (d .owed)
 
 -- ---- pieces in turn
 
@@ -83,7 +94,7 @@ module _ (f : ℕ → List ℕ) (n : ℕ) where
     writing-more h out₁ p₁ x = record { within = omega arith; owed = owed-then (rw (pieces-turn i h) at (w .owed)) x }
 
     pub writing-done : n ≤ i → Wrote out₀ at (pieces f 0 n) out p
-    writing-done h = left-none (rw (pieces-end i h) at (w .owed .left))
+    writing-done h = owed-none (rw (pieces-end i h) at (w .owed))
 
   -- m with the length of the pieces from i on is base with the length of all; each piece has at most k bytes
   pub record Adding (base k m i : ℕ) : Type 0 where

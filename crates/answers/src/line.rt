@@ -5,7 +5,7 @@ ghost use Prim.Native.Nat.{ℕ, _+_, _≤_};
 ghost use lib.ListN.{length};
 ghost use Rattle.text.specs.Text.{number};
 ghost use Rattle.text.specs.Write.{fieldsText, Wrote};
-ghost use Rattle.keys.specs.Expressions.{expression, expressions};
+ghost use Rattle.keys.specs.Expressions.{expressions};
 ghost use Rattle.sheet.specs.KeyAnswers.{numbersLine, exprNumbers, exprsLine};
 ghost use Rattle.answers.specs.Pieces.{numberField, exprFields};
 use keys::expr::index_of;

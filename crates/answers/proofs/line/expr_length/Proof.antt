@@ -1,6 +1,5 @@
 -- `expr_length` meets its contract: three numbers and three commas.
 -- Assumes nothing.
-use mathlib.Core.Path.{ap}
 use native.Mathlib.Omega.{arith}
 use Rattle.answers.proofs.Lines.{expr-long}
 use borrow.Author.Needs.{needs}

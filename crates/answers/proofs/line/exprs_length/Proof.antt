@@ -2,10 +2,14 @@
 -- Assumes nothing.
 use Prim.Native.Nat.{_-_}
 use native.Mathlib.Omega.{arith}
+use mathlib.Core.List.{map}
 use lib.ListN.{length, getD}
+use Rattle.text.specs.Text.{number}
+use Rattle.keys.specs.Expressions.{expressions}
+use Rattle.sheet.specs.KeyAnswers.{exprNumbers}
 use Rattle.answers.specs.Pieces.{exprFields}
 use Rattle.answers.proofs.Pieces.{Adding, adding-first, adding-more, adding-done}
-use Rattle.answers.proofs.Lines.{exprs-long}
+use Rattle.answers.proofs.Lines.{expr-fields, line-long}
 use borrow.Author.Needs.{needs}
 use Rattle.answers.proofs.line.exprs_length.Statement.{statement}
 use Rattle.answers.proofs.line.exprs_length.Tie as tie
@@ -41,7 +45,10 @@ loop-again : tie.Need-loop-again Inv-loop μ-loop
 loop-again c = adding-more _ _ 2 63 _ _ (c .before .before .before .loop .inv) (c .before .before .loop-test .taken) _ (c .expr-length .ensures .0) (c .expr-length .ensures .1)
 
 returns : tie.Need-returns Inv-loop μ-loop
-returns c = (exprs-long (c .before .before .before .args .list .now) _ (adding-done _ _ 2 63 _ _ (c .before .loop .inv) (c .loop-test .left)), omega (arith, c .before .loop .inv .near, c .before .loop .inv .within, c .before .before .before .pre))
+returns c =
+    let s = c .before .before .before in
+    let v = c .before .loop .inv in
+    (line-long (map number (exprNumbers (expressions (s .args .list .now)))) (expr-fields (s .args .list .now)) _ (adding-done _ _ 2 63 _ _ v (c .loop-test .left)), omega (arith, v .near, v .within, s .pre))
 
 pub exprs-length-spec : {M : Type 1} → statement M
 exprs-length-spec =

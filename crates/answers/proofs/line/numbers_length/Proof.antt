@@ -2,10 +2,12 @@
 -- Assumes nothing.
 use Prim.Native.Nat.{_-_}
 use native.Mathlib.Omega.{arith}
+use mathlib.Core.List.{map}
 use lib.ListN.{length, getD}
+use Rattle.text.specs.Text.{number}
 use Rattle.answers.specs.Pieces.{numberField}
 use Rattle.answers.proofs.Pieces.{Adding, adding-first, adding-more, adding-done}
-use Rattle.answers.proofs.Lines.{numbers-long}
+use Rattle.answers.proofs.Lines.{number-fields, line-long}
 use borrow.Author.Needs.{needs}
 use Rattle.answers.proofs.line.numbers_length.Statement.{statement}
 use Rattle.answers.proofs.line.numbers_length.Tie as tie
@@ -45,7 +47,10 @@ unfolding numberField
 loop-again c = adding-more _ _ 2 21 _ _ (c .before .before .before .loop .inv) (c .before .before .loop-test .taken) _ (omega (arith, c .number-length .ensures .0)) (omega (arith, c .number-length .ensures .1))
 
 returns : tie.Need-returns Inv-loop μ-loop
-returns c = (numbers-long (c .before .before .before .args .list .now) _ (adding-done _ _ 2 21 _ _ (c .before .loop .inv) (c .loop-test .left)), omega (arith, c .before .loop .inv .near, c .before .loop .inv .within, c .before .before .before .pre))
+returns c =
+    let s = c .before .before .before in
+    let v = c .before .loop .inv in
+    (line-long (map number (s .args .list .now)) (number-fields (s .args .list .now)) _ (adding-done _ _ 2 21 _ _ v (c .loop-test .left)), omega (arith, v .near, v .within, s .pre))
 
 pub numbers-length-spec : {M : Type 1} → statement M
 numbers-length-spec =

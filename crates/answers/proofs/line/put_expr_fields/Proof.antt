@@ -1,7 +1,6 @@
 -- `put_expr_fields` meets its contract: the expressions from `i` on are left to write.
 -- Assumes nothing.
 use Prim.Native.Nat.{_-_}
-use native.Mathlib.Omega.{arith}
 use lib.ListN.{length, getD}
 use Rattle.answers.specs.Pieces.{exprFields}
 use Rattle.answers.proofs.Pieces.{Writing, writing-first, writing-room, writing-more, writing-done}
