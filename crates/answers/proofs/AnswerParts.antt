@@ -1,15 +1,19 @@
 -- The text of an answer in parts: its lists, and the children's.
 -- Assumes nothing.
-use mathlib.Core.Path.{_≡_}
+use mathlib.Core.Path.{_≡_, ap, _∙_}
 use mathlib.Core.List.{List, [], _∷_, _++_, append-assoc, append-nil}
+use mathlib.Core.Bool.{Bool}
 use Prim.Native.Nat.{ℕ, _+_}
 use lib.ListN.{length, length-append}
-use Rattle.keys.specs.Expressions.{expressions}
-use Rattle.keys.specs.Adjust.{KeyAnswer}
+use Rattle.keys.specs.Expressions.{Expression, expressions}
+use Rattle.keys.specs.Adjust.{KeyAnswer, handOver}
 use Rattle.keys.specs.Inputs.{JoinAnswer}
 use Rattle.sheet.specs.KeyAnswers.{numbersLine, exprsLine, projectedNumbers, childLines, keyAnswerText, joinAnswerText}
+use Rattle.sheet.specs.Held.{exprLists}
+use Rattle.answers.specs.Children.{chosen, childrenText}
 use Rattle.answers.specs.Texts.{keyListsText, joinListsText}
 use Rattle.answers.proofs.Pieces.{joined}
+use Rattle.answers.proofs.ChildPieces.{children-text}
 
 -- ---- K answers
 
@@ -30,6 +34,16 @@ pub key-answer-text :
 unfolding keyAnswerText keyListsText
 key-answer-text a changed report p r l g s j h =
     rw (h .changed, h .report, h .positions, h .required, h .left, h .right, h .directions, h .projection) (simp append-assoc)
+
+-- where each child's list is kept or replaced, the lines of the children are those that are written from what is held
+pub key-answer-held :
+    (a : KeyAnswer) (changed report : ℕ) (p r l g s j : List ℕ) → KeyLists a changed report p r l g s j →
+    (firstKept : Bool) (first : List ℕ) (kept : Bool) (others : List ℕ) (lists : List (List ℕ)) (counts : List ℕ) (n : ℕ) →
+    a .children ≡ handOver (chosen firstKept first) (chosen kept others) (exprLists lists counts 9 n) →
+    keyAnswerText a ≡ keyListsText changed report p r l g s j ++ childrenText firstKept first kept others lists counts n
+key-answer-held a changed report p r l g s j h firstKept first kept others lists counts n e =
+    rw (children-text firstKept first kept others lists counts n)
+    (key-answer-text a changed report p r l g s j h ∙ ap (λ (cs : List (List Expression)). keyListsText changed report p r l g s j ++ childLines cs) e)
 
 module _ (changed report : ℕ) (p r l g s j : List ℕ) where
   pub key-parts :

@@ -11,8 +11,8 @@ use Rattle.keys.specs.Expressions.{expressions}
 use Rattle.keys.specs.Adjust.{handOver}
 use Rattle.sheet.specs.Held.{heldAt, exprLists}
 use Rattle.sheet.specs.KeyAnswers.{exprsLine, childLines}
-use Rattle.answers.specs.Pieces.{pieces}
 use Rattle.answers.specs.Children.{chosen, childrenText, childList}
+use Rattle.answers.proofs.Pieces.{pieces}
 
 -- no more than the count says
 pub held-few : (lists : List (List ℕ)) (counts : List ℕ) (i k : ℕ) → getD counts i 0 ≤ k → length (heldAt lists counts i) ≤ k

@@ -16,8 +16,7 @@ use Rattle.sheet.specs.Held.{heldAt, fieldNumbers, heldText}
 use Rattle.sheet.specs.ListLines.{lineLetter, lineCodes}
 use Rattle.sheet.specs.declared.kind.Codes.the-variants as C
 use Rattle.sheet.specs.declared.lists.SheetKind.{SheetKind}
-use Rattle.answers.specs.Pieces.{pieces}
-use Rattle.answers.proofs.Pieces.{joined}
+use Rattle.answers.proofs.Pieces.{pieces, joined}
 
 -- the letter, the mark, the expressions, the LF
 pub input-parts :

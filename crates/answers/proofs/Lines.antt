@@ -10,8 +10,8 @@ use Rattle.text.specs.Write.{decimal, fieldText, fieldsText, lineText}
 use Rattle.text.proofs.Lengths.{line-length}
 use Rattle.keys.specs.Expressions.{expression, expressions}
 use Rattle.sheet.specs.KeyAnswers.{numbersLine, exprNumbers}
-use Rattle.answers.specs.Pieces.{numberField, exprFields, pieces}
-use Rattle.answers.proofs.Pieces.{joined, pieces-later}
+use Rattle.answers.specs.Fields.{numberField, exprFields}
+use Rattle.answers.proofs.Pieces.{pieces, joined, pieces-later}
 
 -- a piece for each entry
 abbrev pub listed : (ℕ → List ℕ) → List ℕ → List ℕ

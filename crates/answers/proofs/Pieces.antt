@@ -9,7 +9,6 @@ use native.Mathlib.Omega.{arith}
 use lib.ListN.{length, length-append}
 use Rattle.text.specs.Write.{Wrote}
 use Rattle.text.proofs.Stores.{Left, left-all, left-then, left-none, wrote-length}
-use Rattle.answers.specs.Pieces.{pieces}
 
 -- ---- what is left to write
 
@@ -60,6 +59,11 @@ module _ {out₀ : List ℕ} {at : ℕ} {whole out : List ℕ} {p : ℕ} where
   due-none d = owed-none (d .owed)
 
 -- ---- pieces in turn
+
+-- n pieces from piece i on
+unfoldable pub pieces : (ℕ → List ℕ) → ℕ → ℕ → List ℕ
+pieces f i zero = []
+pieces f i (suc n) = f i ++ pieces f (suc i) n
 
 -- the pieces from i + 1 on are those of the later function from i on
 pub pieces-later : (f : ℕ → List ℕ) (i n : ℕ) → pieces f (suc i) n ≡ pieces (λ k. f (suc k)) i n

@@ -1,4 +1,5 @@
 -- The C lines of a K answer: each child's list is kept, or another stands in its place.
+-- Renders document 01, "Answer: `k,changed,report`".
 use Prim.Native.Nat.{ℕ}
 use mathlib.Core.List.{List}
 use mathlib.Core.Bool.{Bool, cond}

@@ -1,3 +1,3 @@
-pub mod Pieces
+pub mod Fields
 pub mod Texts
 pub mod Children

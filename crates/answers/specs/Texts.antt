@@ -1,4 +1,5 @@
--- The first lines of K and I answers from lists of numbers, expressions packed.
+-- The lines of K answers before the children's, and those of I answers, from lists of numbers, expressions packed.
+-- Renders document 01, "Answer: `k,changed,report`", and "Answer `i,report,followed`".
 use Prim.Native.Nat.{ℕ}
 use mathlib.Core.List.{List, [], _∷_, _++_}
 use Rattle.keys.specs.Expressions.{expressions}

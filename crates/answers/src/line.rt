@@ -7,7 +7,7 @@ ghost use Rattle.text.specs.Text.{number};
 ghost use Rattle.text.specs.Write.{fieldsText, Wrote};
 ghost use Rattle.keys.specs.Expressions.{expressions};
 ghost use Rattle.sheet.specs.KeyAnswers.{numbersLine, exprNumbers, exprsLine};
-ghost use Rattle.answers.specs.Pieces.{numberField, exprFields};
+ghost use Rattle.answers.specs.Fields.{numberField, exprFields};
 use keys::expr::index_of;
 use keys::expr::kind_of;
 use keys::expr::name_of;
@@ -33,7 +33,7 @@ pub fn numbers_length(list: &[u64]) -> usize
 // The length of a line of two numbers.
 pub fn pair_length(a: u64, b: u64) -> usize
     ensures exact { λ r. ⌜ ((letter : ℕ) → r ≡ length (numbersLine letter (a ∷ b ∷ []))) ⌝ }
-    ensures few { λ r. ⌜ r ≤ 4096 ⌝ }
+    ensures few { λ r. ⌜ r ≤ 44 ⌝ }
 {
     4 + number_length(a) + number_length(b)
 }

@@ -7,7 +7,7 @@ use lib.ListN.{length, getD}
 use Rattle.text.specs.Text.{number}
 use Rattle.keys.specs.Expressions.{expressions}
 use Rattle.sheet.specs.KeyAnswers.{exprNumbers}
-use Rattle.answers.specs.Pieces.{exprFields}
+use Rattle.answers.specs.Fields.{exprFields}
 use Rattle.answers.proofs.Pieces.{Adding, adding-first, adding-more, adding-done}
 use Rattle.answers.proofs.Lines.{expr-fields, line-long}
 use borrow.Author.Needs.{needs}

@@ -5,7 +5,7 @@ use native.Mathlib.Omega.{arith}
 use mathlib.Core.List.{map}
 use lib.ListN.{length, getD}
 use Rattle.text.specs.Text.{number}
-use Rattle.answers.specs.Pieces.{numberField}
+use Rattle.answers.specs.Fields.{numberField}
 use Rattle.answers.proofs.Pieces.{Adding, adding-first, adding-more, adding-done}
 use Rattle.answers.proofs.Lines.{number-fields, line-long}
 use borrow.Author.Needs.{needs}

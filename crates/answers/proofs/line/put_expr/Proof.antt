@@ -2,7 +2,7 @@
 -- Assumes nothing.
 use mathlib.Core.List.{[], _∷_}
 use Rattle.keys.specs.Expressions.{expression}
-use Rattle.answers.specs.Pieces.{numberField, exprFields}
+use Rattle.answers.specs.Fields.{numberField, exprFields}
 use Rattle.answers.proofs.Pieces.{Due, due-all, due-room, due-then, due-none}
 use Rattle.answers.proofs.Lines.{expr-parts}
 use borrow.Author.Needs.{needs}

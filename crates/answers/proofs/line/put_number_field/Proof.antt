@@ -2,7 +2,7 @@
 -- Assumes nothing.
 use native.Mathlib.Omega.{arith}
 use Rattle.text.proofs.Stores.{wrote-then, wrote-length}
-use Rattle.answers.specs.Pieces.{numberField}
+use Rattle.answers.specs.Fields.{numberField}
 use borrow.Author.Needs.{needs}
 use Rattle.answers.proofs.line.put_number_field.Statement.{statement}
 use Rattle.answers.proofs.line.put_number_field.Tie as tie

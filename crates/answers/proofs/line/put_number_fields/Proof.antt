@@ -2,7 +2,7 @@
 -- Assumes nothing.
 use Prim.Native.Nat.{_-_}
 use lib.ListN.{length, getD}
-use Rattle.answers.specs.Pieces.{numberField}
+use Rattle.answers.specs.Fields.{numberField}
 use Rattle.answers.proofs.Pieces.{Writing, writing-first, writing-room, writing-more, writing-done}
 use Rattle.answers.proofs.Lines.{number-fields}
 use borrow.Author.Needs.{needs}

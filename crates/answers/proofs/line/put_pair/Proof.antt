@@ -2,7 +2,7 @@
 -- Assumes nothing.
 use mathlib.Core.List.{[], _∷_}
 use Rattle.sheet.specs.KeyAnswers.{numbersLine}
-use Rattle.answers.specs.Pieces.{numberField}
+use Rattle.answers.specs.Fields.{numberField}
 use Rattle.answers.proofs.Lines.{pair-parts}
 use Rattle.answers.proofs.Pieces.{Due, due-all, due-room, due-then, due-none}
 use borrow.Author.Needs.{needs}
