@@ -34,7 +34,16 @@ add-result-3 : tie.Need-add-result-3
 add-result-3 c = search needs
 
 returns : tie.Need-returns
-returns c = let s = c .before .before .before .before .before .before .before .before .before in (omega (arith, join-long (s .args .report) (s .args .followed) (s .args .p .now) (s .args .l .now) (s .args .g .now) (s .args .s .now), c .before .before .before .before .pair-length .ensures .0 105, c .before .before .before .numbers-length .ensures .0 80, c .before .before .exprs-length .ensures .0 76, c .before .exprs-length2 .ensures .0 71, c .numbers-length2 .ensures .0 83), omega (arith, c .before .before .before .before .pair-length .ensures .1, c .before .before .before .numbers-length .ensures .1, c .before .before .exprs-length .ensures .1, c .before .exprs-length2 .ensures .1, c .numbers-length2 .ensures .1))
+returns c =
+    let c4 = c .before in
+    let c3 = c4 .before in
+    let c2 = c3 .before in
+    let c1 = c2 .before in
+    let s = c1 .before .before .before .before .before in
+    let long = join-long (s .args .report) (s .args .followed) (s .args .p .now) (s .args .l .now) (s .args .g .now) (s .args .s .now) in (
+      omega (arith, long, c1 .pair-length .ensures .0 105, c2 .numbers-length .ensures .0 80, c3 .exprs-length .ensures .0 76, c4 .exprs-length2 .ensures .0 71, c .numbers-length2 .ensures .0 83),
+      omega (arith, c1 .pair-length .ensures .1, c2 .numbers-length .ensures .1, c3 .exprs-length .ensures .1, c4 .exprs-length2 .ensures .1, c .numbers-length2 .ensures .1),
+    )
 
 pub join-lists-length-spec : {M : Type 1} → statement M
 join-lists-length-spec =

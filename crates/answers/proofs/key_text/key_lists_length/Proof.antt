@@ -46,7 +46,18 @@ add-result-3 : tie.Need-add-result-3
 add-result-3 c = search needs
 
 returns : tie.Need-returns
-returns c = let s = c .before .before .before .before .before .before .before .before .before .before .before .before .before in (omega (arith, key-long (s .args .changed) (s .args .report) (s .args .p .now) (s .args .r .now) (s .args .l .now) (s .args .g .now) (s .args .s .now) (s .args .j .now), c .before .before .before .before .before .before .pair-length .ensures .0 107, c .before .before .before .before .before .numbers-length .ensures .0 80, c .before .before .before .before .exprs-length .ensures .0 82, c .before .before .before .exprs-length2 .ensures .0 76, c .before .before .exprs-length3 .ensures .0 71, c .before .numbers-length2 .ensures .0 83, c .numbers-length3 .ensures .0 74), omega (arith, c .before .before .before .before .before .before .pair-length .ensures .1, c .before .before .before .before .before .numbers-length .ensures .1, c .before .before .before .before .exprs-length .ensures .1, c .before .before .before .exprs-length2 .ensures .1, c .before .before .exprs-length3 .ensures .1, c .before .numbers-length2 .ensures .1, c .numbers-length3 .ensures .1))
+returns c =
+    let c6 = c .before in
+    let c5 = c6 .before in
+    let c4 = c5 .before in
+    let c3 = c4 .before in
+    let c2 = c3 .before in
+    let c1 = c2 .before in
+    let s = c1 .before .before .before .before .before .before .before in
+    let long = key-long (s .args .changed) (s .args .report) (s .args .p .now) (s .args .r .now) (s .args .l .now) (s .args .g .now) (s .args .s .now) (s .args .j .now) in (
+      omega (arith, long, c1 .pair-length .ensures .0 107, c2 .numbers-length .ensures .0 80, c3 .exprs-length .ensures .0 82, c4 .exprs-length2 .ensures .0 76, c5 .exprs-length3 .ensures .0 71, c6 .numbers-length2 .ensures .0 83, c .numbers-length3 .ensures .0 74),
+      omega (arith, c1 .pair-length .ensures .1, c2 .numbers-length .ensures .1, c3 .exprs-length .ensures .1, c4 .exprs-length2 .ensures .1, c5 .exprs-length3 .ensures .1, c6 .numbers-length2 .ensures .1, c .numbers-length3 .ensures .1),
+    )
 
 pub key-lists-length-spec : {M : Type 1} → statement M
 key-lists-length-spec =

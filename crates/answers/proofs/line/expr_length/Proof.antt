@@ -34,7 +34,20 @@ add-result-3 : tie.Need-add-result-3
 add-result-3 c = search needs
 
 returns : tie.Need-returns
-returns c = (omega (arith, expr-long (c .before .before .before .before .before .before .args .e), rw (c .before .before .before .before .before .kind-of .ensures) at (c .before .before .before .before .number-length .ensures .0), rw (c .before .before .before .name-of .ensures) at (c .before .before .number-length2 .ensures .0), rw (c .before .index-of .ensures) at (c .number-length3 .ensures .0)), omega (arith, c .before .before .before .before .number-length .ensures .1, c .before .before .number-length2 .ensures .1, c .number-length3 .ensures .1))
+returns c =
+    let i = c .before in
+    let n = i .before .before in
+    let k = n .before .before in
+    let s = k .before in (
+      omega (
+        arith,
+        expr-long (s .args .e),
+        rw (k .kind-of .ensures) at (n .before .number-length .ensures .0),
+        rw (n .name-of .ensures) at (i .before .number-length2 .ensures .0),
+        rw (i .index-of .ensures) at (c .number-length3 .ensures .0),
+      ),
+      omega (arith, n .before .number-length .ensures .1, i .before .number-length2 .ensures .1, c .number-length3 .ensures .1),
+    )
 
 pub expr-length-spec : {M : Type 1} → statement M
 expr-length-spec =
