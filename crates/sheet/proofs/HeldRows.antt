@@ -80,7 +80,7 @@ turn-head k ks line at ls rs ms l p e =
     let n : ℕ = lineNumber k 0 (nextOf at ls) x in
     turn·at (eqb n 0) (inTurn ks (suc line) (nextOf at ls) (tail ls)) (fieldsOf x) (length ks) n line rs ms l p (turn-many ks (suc line) (nextOf at ls) (tail ls)) e .1
 
-kinds-long : (k : SheetKind) (n i : ℕ) → length (lineKinds k i n) ≡ n
+pub kinds-long : (k : SheetKind) (n i : ℕ) → length (lineKinds k i n) ≡ n
 unfolding lineKinds
 kinds-long k zero i = refl
 kinds-long k (suc n) i = ap suc (kinds-long k n (suc i))

@@ -28,3 +28,4 @@ pub mod SheetWhole
 pub mod HeldRows
 pub mod HeldSheets
 pub mod SheetsRead
+pub mod Bounded

@@ -14,7 +14,7 @@ use Rattle.text.specs.Text.{Field, parts, after, stateOf, valueOf, greatest}
 use Rattle.text.specs.Lines.{firstOf}
 use Rattle.text.proofs.Places.{bridge}
 use Rattle.sheet.specs.Lines.{Run, read, refused, before, lineNumber, fieldsOf, atEnd}
-use Rattle.sheet.specs.KeyLines.{at, values}
+use Rattle.sheet.specs.KeyLines.{at, values, keyLine}
 use Rattle.sheet.specs.Reading.{codesNumber, countsNumber}
 use Rattle.sheet.specs.Held.{heldAt}
 use Rattle.sheet.specs.ListLines.{lineLetter}
@@ -57,12 +57,15 @@ codes·at : (m n : ℕ) (t : Bool) → eqb m 0 ≡ t → cond t n m ≡ 0 → n 
 codes·at m n true p e = e
 codes·at m n false p e = absurd (eqb-false m 0 p e)
 
+pub head-few : (next : ℕ) (fs : List Field) → lineNumber keyLine 0 next (some fs) ≡ 0 → at fs 6 ≤ 8
+head-few next fs e =
+    let m : ℕ = countsNumber C.Key (length fs) (greatest 0 (map stateOf fs)) (greatest 0 (map valueOf fs)) next in
+    let c : codesNumber C.Key (values fs) ≡ 0 = codes·at m (codesNumber C.Key (values fs)) (eqb m 0) refl (sym (line-number C.Key 75 0 next fs) ∙ e) in
+    rw (at-value fs 6) (ltb-false 8 (getD (values fs) 6 0) (large·at (ltb 8 (getD (values fs) 6 0)) _ c))
+
 module _ (s : List ℕ) (count next : ℕ) (list : List ℕ) where
   few-children : (t : Taken s Key 0 0 count next list) → at (t .fs) 6 ≤ 8
-  few-children t =
-      let m : ℕ = countsNumber C.Key (length (t .fs)) (greatest 0 (map stateOf (t .fs))) (greatest 0 (map valueOf (t .fs))) (after s 0) in
-      let c : codesNumber C.Key (values (t .fs)) ≡ 0 = codes·at m (codesNumber C.Key (values (t .fs))) (eqb m 0) refl (sym (line-number C.Key 75 0 (after s 0) (t .fs)) ∙ t .zero) in
-      rw (at-value (t .fs) 6) (ltb-false 8 (getD (values (t .fs)) 6 0) (large·at (ltb 8 (getD (values (t .fs)) 6 0)) _ c))
+  few-children t = head-few (after s 0) (t .fs) (t .zero)
 
   seventh : (t : Taken s Key 0 0 count next list) → getD list 6 0 ≡ at (t .fs) 6
   seventh t =

@@ -37,11 +37,11 @@ use Rattle.sheet.proofs.HeldSheets.{row-is, head-held, key-held, join-h
 -- ---- a sheet by its lines
 
 module _ (s : List ℕ) where
-  key-whole : readKeySheet s ≡ ended (wholeRows stagesOfKey keyWhole) (wholeLines Key s)
+  pub key-whole : readKeySheet s ≡ ended (wholeRows stagesOfKey keyWhole) (wholeLines Key s)
   unfolding wholeLines
   key-whole = key-in-turn s ∙ rw (key-kinds s)
 
-  join-whole : readJoinSheet s ≡ ended (wholeRows stagesOfInput joinWhole) (wholeLines Join s)
+  pub join-whole : readJoinSheet s ≡ ended (wholeRows stagesOfInput joinWhole) (wholeLines Join s)
   unfolding wholeLines
   join-whole = join-in-turn s ∙ rw join-kinds
 
