@@ -85,14 +85,20 @@ unfolding lineKinds
 kinds-long k zero i = refl
 kinds-long k (suc n) i = ap suc (kinds-long k n (suc i))
 
+pub key-rows-many :
+    (s : List ℕ) (rs : List (List Field)) (ls : List (List ℕ)) (l p : ℕ) → wholeLines Key s ≡ read rs ls l p → length rs ≡ 9 + at (fieldsOf (firstOf 75 (parts 10 s))) 6
+unfolding wholeLines
+key-rows-many s rs ls l p e =
+    let n : ℕ = 9 + at (fieldsOf (firstOf 75 (parts 10 s))) 6 in
+    turn-many (lineKinds Key 0 n) 1 0 (parts 10 s) rs ls l p e ∙ kinds-long Key n 0
+
 pub key-many : (s : List ℕ) (rs : List (List Field)) (ls : List (List ℕ)) (l p : ℕ) → wholeLines Key s ≡ read rs ls l p → length rs ≡ 9 + at (headOf rs) 6
 unfolding wholeLines lineKinds
 key-many s rs ls l p e =
     let fs : List Field = fieldsOf (firstOf 75 (parts 10 s)) in
     let c : suc (8 + at fs 6) ≡ 9 + at fs 6 = omega arith in
-    let h : headOf rs ≡ fs
-    = turn-head (lineKind Key 0) (lineKinds Key 1 (8 + at fs 6)) 1 0 (parts 10 s) rs ls l p (ap (λ (n : ℕ). inTurn (lineKinds Key 0 n) 1 0 (parts 10 s)) c ∙ e) in
-    turn-many (lineKinds Key 0 (9 + at fs 6)) 1 0 (parts 10 s) rs ls l p e ∙ kinds-long Key (9 + at fs 6) 0 ∙ rw (← h)
+    let h : headOf rs ≡ fs = turn-head (lineKind Key 0) (lineKinds Key 1 (8 + at fs 6)) 1 0 (parts 10 s) rs ls l p (ap (λ (n : ℕ). inTurn (lineKinds Key 0 n) 1 0 (parts 10 s)) c ∙ e) in
+    key-rows-many s rs ls l p e ∙ rw (← h)
 
 pub join-many : (s : List ℕ) (rs : List (List Field)) (ls : List (List ℕ)) (l p : ℕ) → wholeLines Join s ≡ read rs ls l p → length rs ≡ 8
 unfolding wholeLines

@@ -26,19 +26,19 @@ use Rattle.sheet.proofs.KeyRows.{key-text, join-text}
 
 -- ---- their kinds are counted
 
-list-counted : (letter width : ℕ) (undefined : List Field → Bool) → eqb letter 10 ≡ false → Counted (listLine letter width undefined)
+pub list-counted : (letter width : ℕ) (undefined : List Field → Bool) → eqb letter 10 ≡ false → Counted (listLine letter width undefined)
 unfolding readable
 list-counted letter width undefined ne = record { letter = eqb-false letter 10 ne; heads = refl; stops = λ o x. refl; owes = λ o fs. refl; large = λ n fs. refl }
 
-input-counted : (letter : ℕ) → eqb letter 10 ≡ false → Counted (inputLine letter)
+pub input-counted : (letter : ℕ) → eqb letter 10 ≡ false → Counted (inputLine letter)
 unfolding readable
 input-counted letter ne = record { letter = eqb-false letter 10 ne; heads = refl; stops = λ o x. refl; owes = λ o fs. refl; large = λ n fs. refl }
 
-key-counted : Counted keyLine
+pub key-counted : Counted keyLine
 unfolding readable
 key-counted = record { letter = λ e. omega arith; heads = refl; stops = λ o x. refl; owes = λ o fs. refl; large = λ n fs. refl }
 
-head-counted : Counted inputHead
+pub head-counted : Counted inputHead
 unfolding readable
 head-counted = record { letter = λ e. omega arith; heads = refl; stops = λ o x. refl; owes = λ o fs. refl; large = λ n fs. refl }
 

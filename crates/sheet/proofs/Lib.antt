@@ -29,3 +29,4 @@ pub mod HeldRows
 pub mod HeldSheets
 pub mod SheetsRead
 pub mod Bounded
+pub mod HeldTexts

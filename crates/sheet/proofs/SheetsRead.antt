@@ -10,16 +10,17 @@ use lib.Dec.{eqb, leb}
 use lib.ListN.{length, getD, take, drop, length-map}
 use lib.Seq.{getD-take, getD-drop}
 use Rattle.text.specs.Text.{Field, parts, valueOf}
+use Rattle.text.specs.Lines.{firstOf}
 use Rattle.keys.specs.Expressions.{expression, expressions, rule, rules}
 use Rattle.keys.specs.Adjust.{KeySheet}
 use Rattle.keys.specs.Inputs.{JoinSheet}
-use Rattle.sheet.specs.Lines.{Run, read, refused, atEnd, wholeEntries}
+use Rattle.sheet.specs.Lines.{Run, read, refused, fieldsOf, atEnd, wholeEntries}
 use Rattle.sheet.specs.KeyLines.{at, values}
 use Rattle.sheet.specs.KeySheets.{Reading, sheet, turned, ended, mark, row, headOf, pairsServe, serves, unusedKeys, keyListsFit, joinListsFit, keySheetOf, joinSheetOf, keyWhole, joinWhole, readKeySheet, readJoinSheet}
 use Rattle.sheet.specs.Reading.{packs, packedBy, Fits}
 use Rattle.sheet.specs.ListLines.{lineCodes}
 use Rattle.sheet.specs.Refusals.{keyKinds, joinKinds}
-use Rattle.sheet.specs.Held.{heldAt, pairRows, exprLists, childCount, heldKeySheet, heldJoinSheet, KeyHeld, JoinHeld}
+use Rattle.sheet.specs.Held.{heldAt, pairRows, exprLists, childCount, heldKeySheet, heldJoinSheet, KeyHeld, JoinHeld, heldText}
 use Rattle.sheet.specs.SheetLines.{inTurn, wholeLines, endedBy, HeldLine, HeldLines}
 use Rattle.sheet.specs.ListFits.{directionCounts, pairCounts, keyCountsFit, inputCounts, joinCountsFit, sheetBy, KeyRead, JoinRead}
 use Rattle.sheet.specs.declared.kind.Codes.{Codes}
@@ -31,7 +32,8 @@ use Rattle.sheet.specs.declared.sheets.Sheet.the-variants.{Held, Refused
 use Rattle.sheet.proofs.Chained.{wholeRows}
 use Rattle.sheet.proofs.KeyAccepted.{stagesOfKey, stagesOfInput, key-in-turn, join-in-turn}
 use Rattle.sheet.proofs.LegalSheets.{key-read-legal, join-read-legal}
-use Rattle.sheet.proofs.HeldRows.{key-kinds, join-kinds, key-many, join-many}
+use Rattle.sheet.proofs.HeldRows.{key-kinds, join-kinds, key-rows-many, key-many, join-many}
+use Rattle.sheet.proofs.HeldTexts.{text-again}
 use Rattle.sheet.proofs.HeldSheets.{row-is, head-held, key-held, join-held}
 
 -- ---- a sheet by its lines
@@ -203,6 +205,16 @@ module _ (s : List ℕ) (lists : List (List ℕ)) (counts : List ℕ) (next line
         let c : childCount lists counts ≡ at (headOf rs) 6 = head-held Key lists counts rs key-rows 6 (omega (arith, key-count)) refl in
         record { lines = (a, b); room = λ i g. line Key lists counts rs key-rows i (omega (arith, key-count, c)) .room; head = key-head; legal = key-read-legal s (heldKeySheet lists counts) r }
 
+    pub key-again : heldText Key lists counts 0 (9 + childCount lists counts) ≡ s
+    unfolding wholeLines
+    key-again =
+        let rs : List (List Field) = key-all .rows in
+        let c : childCount lists counts ≡ at (headOf rs) 6 = head-held Key lists counts rs key-rows 6 (omega (arith, key-count)) refl in
+        let f : List Field = fieldsOf (firstOf 75 (parts 10 s)) in
+        let g : length rs ≡ 9 + at f 6 = key-rows-many s rs (key-all .lines) line′ next (key-all .is) in
+        let n : 9 + childCount lists counts ≡ 9 + at f 6 = omega (arith, key-count, c, g) in
+        rw n (text-again Key lists counts s (9 + at f 6) rs (key-all .lines) line′ next (key-all .is) g (key-all .end) key-rows)
+
   module _ (e : L.Read next line′ ≡ endedBy (wholeLines Join s)) (h : HeldLines s Join 0 (wholeLines Join s) lists counts) where
     join-all : AllRead (wholeLines Join s) next line′
     join-all = all-read (wholeLines Join s) next line′ e
@@ -227,6 +239,10 @@ module _ (s : List ℕ) (lists : List (List ℕ)) (counts : List ℕ) (next line
       inputs = (input-short lists counts 4 _ refl (join-line 4 (omega arith)), input-short lists counts 5 _ refl (join-line 5 (omega arith)));
       legal = join-read-legal s (heldJoinSheet lists counts) r;
     }
+
+    pub join-again : heldText Join lists counts 0 8 ≡ s
+    unfolding wholeLines
+    join-again = text-again Join lists counts s 8 (join-all .rows) (join-all .lines) line′ next (join-all .is) join-count (join-all .end) join-rows
 
     join-fit :
         joinListsFit (heldJoinSheet lists counts) (drop 1 (join-all .rows))
@@ -267,13 +283,13 @@ same-sheet r x y e f = cc
 
 module _ (s : List ℕ) (lists : List (List ℕ)) (counts : List ℕ) where
   pub key-refused : (n l : ℕ) → readKeySheet s ≡ turned n l → KeyRead s (Refused n l) lists counts
-  key-refused n l e = record { answer = ap sheetBy (sym e); held = λ x f. absurd (apart (readKeySheet s) x n l e f) }
+  key-refused n l e = record { answer = ap sheetBy (sym e); held = λ x f. absurd (apart (readKeySheet s) x n l e f); again = λ x f. absurd (apart (readKeySheet s) x n l e f) }
 
-  pub key-whole-read : readKeySheet s ≡ sheet (heldKeySheet lists counts) → KeyHeld lists counts → KeyRead s Held lists counts
-  key-whole-read e h = record { answer = ap sheetBy (sym e); held = λ x f. (h, same-sheet (readKeySheet s) (heldKeySheet lists counts) x e f) }
+  pub key-whole-read : readKeySheet s ≡ sheet (heldKeySheet lists counts) → KeyHeld lists counts → heldText Key lists counts 0 (9 + childCount lists counts) ≡ s → KeyRead s Held lists counts
+  key-whole-read e h g = record { answer = ap sheetBy (sym e); held = λ x f. (h, same-sheet (readKeySheet s) (heldKeySheet lists counts) x e f); again = λ x f. g }
 
   pub join-refused : (n l : ℕ) → readJoinSheet s ≡ turned n l → JoinRead s (Refused n l) lists counts
-  join-refused n l e = record { answer = ap sheetBy (sym e); held = λ x f. absurd (apart (readJoinSheet s) x n l e f) }
+  join-refused n l e = record { answer = ap sheetBy (sym e); held = λ x f. absurd (apart (readJoinSheet s) x n l e f); again = λ x f. absurd (apart (readJoinSheet s) x n l e f) }
 
-  pub join-whole-read : readJoinSheet s ≡ sheet (heldJoinSheet lists counts) → JoinHeld lists counts → JoinRead s Held lists counts
-  join-whole-read e h = record { answer = ap sheetBy (sym e); held = λ x f. (h, same-sheet (readJoinSheet s) (heldJoinSheet lists counts) x e f) }
+  pub join-whole-read : readJoinSheet s ≡ sheet (heldJoinSheet lists counts) → JoinHeld lists counts → heldText Join lists counts 0 8 ≡ s → JoinRead s Held lists counts
+  join-whole-read e h g = record { answer = ap sheetBy (sym e); held = λ x f. (h, same-sheet (readJoinSheet s) (heldJoinSheet lists counts) x e f); again = λ x f. g }

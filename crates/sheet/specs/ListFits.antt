@@ -1,7 +1,7 @@
 -- Refusal 5 by the counts of lists, and what reading a sheet answers.
 -- Renders number 5 of document 01's table: "L and G lengths differ; S isn't as long as L (op 2) or empty (others); an unused list has entries".
 use mathlib.Core.Path.{_≡_}
-use Prim.Native.Nat.{ℕ, _/_}
+use Prim.Native.Nat.{ℕ, _+_, _/_}
 use mathlib.Core.List.{List}
 use mathlib.Core.Bool.{Bool, cond, _&&_, _||_}
 use lib.Dec.{eqb, leb}
@@ -9,7 +9,8 @@ use lib.ListN.{getD}
 use Rattle.keys.specs.Adjust.{KeySheet}
 use Rattle.keys.specs.Inputs.{JoinSheet}
 use Rattle.sheet.specs.KeySheets.{Reading, sheet, turned, mark, pairsServe, serves, readKeySheet, readJoinSheet}
-use Rattle.sheet.specs.Held.{heldKeySheet, heldJoinSheet, KeyHeld, JoinHeld}
+use Rattle.sheet.specs.Held.{childCount, heldKeySheet, heldJoinSheet, KeyHeld, JoinHeld, heldText}
+use Rattle.sheet.specs.declared.lists.SheetKind.the-variants.{Key, Join}
 use Rattle.sheet.specs.declared.sheets.Sheet.{Sheet}
 use Rattle.sheet.specs.declared.sheets.Sheet.the-variants.{Held, Refused}
 
@@ -39,11 +40,13 @@ abbrev pub sheetBy : {A : Type 0} → Reading A → Sheet
 sheetBy (sheet x) = Held
 sheetBy (turned n l) = Refused n l
 
--- a sheet that was read is held in the rooms lent
+-- a sheet that was read is held in the rooms lent, and what is held is written as the sheet stood
 pub record KeyRead (s : List ℕ) (r : Sheet) (lists : List (List ℕ)) (counts : List ℕ) : Type 0 where
   pub answer : r ≡ sheetBy (readKeySheet s)
   pub held : (x : KeySheet) → readKeySheet s ≡ sheet x → KeyHeld lists counts × (heldKeySheet lists counts ≡ x)
+  pub again : (x : KeySheet) → readKeySheet s ≡ sheet x → heldText Key lists counts 0 (9 + childCount lists counts) ≡ s
 
 pub record JoinRead (s : List ℕ) (r : Sheet) (lists : List (List ℕ)) (counts : List ℕ) : Type 0 where
   pub answer : r ≡ sheetBy (readJoinSheet s)
   pub held : (x : JoinSheet) → readJoinSheet s ≡ sheet x → JoinHeld lists counts × (heldJoinSheet lists counts ≡ x)
+  pub again : (x : JoinSheet) → readJoinSheet s ≡ sheet x → heldText Join lists counts 0 8 ≡ s

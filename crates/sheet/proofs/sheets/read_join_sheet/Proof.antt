@@ -3,7 +3,7 @@
 use mathlib.Core.Path.{sym, _∙_}
 use native.Mathlib.Omega.{arith}
 use borrow.Author.Tests.{not-true, not-false}
-use Rattle.sheet.proofs.SheetsRead.{join-turned, join-decided, join-stands, join-refused, join-whole-read}
+use Rattle.sheet.proofs.SheetsRead.{join-turned, join-decided, join-stands, join-refused, join-whole-read, join-again}
 use borrow.Author.Needs.{needs}
 use Rattle.sheet.proofs.sheets.read_join_sheet.Statement.{statement}
 use Rattle.sheet.proofs.sheets.read_join_sheet.Tie as tie
@@ -91,7 +91,7 @@ returns-3 c =
     let d = join-decided (s .args .s .now) _ _ _ _ g (w .ensures .1) in
     let f = sym (c .before .join-lists-fit .ensures) ∙ not-false _ (c .if1 .left) in
     let r = rw f at d in
-    join-whole-read (s .args .s .now) _ _ r (join-stands (s .args .s .now) _ _ _ _ g (w .ensures .1) (omega (arith, s .pre .1, w .kept .1 .1 .1 .0)) (omega (arith, s .pre .2, w .kept .1 .1 .1 .1 .0)) r)
+    join-whole-read (s .args .s .now) _ _ r (join-stands (s .args .s .now) _ _ _ _ g (w .ensures .1) (omega (arith, s .pre .1, w .kept .1 .1 .1 .0)) (omega (arith, s .pre .2, w .kept .1 .1 .1 .1 .0)) r) (join-again (s .args .s .now) _ _ _ _ g (w .ensures .1))
 
 pub read-join-sheet-spec : {M : Type 1} → statement M
 read-join-sheet-spec =

@@ -3,7 +3,7 @@
 use mathlib.Core.Path.{sym, _∙_}
 use native.Mathlib.Omega.{arith}
 use borrow.Author.Tests.{not-true, not-false}
-use Rattle.sheet.proofs.SheetsRead.{key-turned, key-decided, key-stands, key-refused, key-whole-read}
+use Rattle.sheet.proofs.SheetsRead.{key-turned, key-decided, key-stands, key-refused, key-whole-read, key-again}
 use borrow.Author.Needs.{needs}
 use Rattle.sheet.proofs.sheets.read_key_sheet.Statement.{statement}
 use Rattle.sheet.proofs.sheets.read_key_sheet.Tie as tie
@@ -85,7 +85,7 @@ returns-3 c =
     let d = key-decided (s .args .s .now) _ _ _ _ g (w .ensures .1) in
     let f = sym (c .before .key-lists-fit .ensures) ∙ not-false _ (c .if1 .left) in
     let r = rw f at d in
-    key-whole-read (s .args .s .now) _ _ r (key-stands (s .args .s .now) _ _ _ _ g (w .ensures .1) (omega (arith, s .pre .1, w .kept .1 .1 .1 .0)) (omega (arith, s .pre .2, w .kept .1 .1 .1 .1 .0)) r)
+    key-whole-read (s .args .s .now) _ _ r (key-stands (s .args .s .now) _ _ _ _ g (w .ensures .1) (omega (arith, s .pre .1, w .kept .1 .1 .1 .0)) (omega (arith, s .pre .2, w .kept .1 .1 .1 .1 .0)) r) (key-again (s .args .s .now) _ _ _ _ g (w .ensures .1))
 
 pub read-key-sheet-spec : {M : Type 1} → statement M
 read-key-sheet-spec =
