@@ -1,6 +1,7 @@
 -- A sheet that was read, as it is held: line i is the first numbers of list i, so many as its count says, its expressions packed; line 0 is the head.
 -- What K and I sheets the lists make, and their text.
 use Prim.Native.Nat.{ℕ, zero, suc, _+_, _≤_, _<_}
+use mathlib.Core.Path.{_≡_}
 use mathlib.Core.List.{List, [], _∷_, _++_}
 use lib.ListN.{length, getD, take, drop}
 use Rattle.keys.specs.Expressions.{Expression, expressions}
@@ -58,15 +59,18 @@ module _ (lists : List (List ℕ)) (counts : List ℕ) where
       joinSheet (getD (heldAt lists counts 0) 0 0) (getD (heldAt lists counts 0) 1 0) (heldAt lists counts 1) (heldAt lists counts 2)
       (heldAt lists counts 3) (heldAt lists counts 4) (heldAt lists counts 5) (pairRows (heldAt lists counts 6)) (pairRows (heldAt lists counts 7))
 
-  -- room for 17 lines, and a legal sheet in it
+  -- room for 17 lines, a whole head, and a legal sheet in it
   pub record KeyHeld : Type 0 where
     pub lines : (17 ≤ length lists) × (17 ≤ length counts)
     pub room : (i : ℕ) → i < 9 + childCount → getD counts i 0 ≤ 64
+    pub head : length (heldAt lists counts 0) ≡ 7
     pub legal : LegalKeySheet heldKeySheet
 
   pub record JoinHeld : Type 0 where
     pub lines : (17 ≤ length lists) × (17 ≤ length counts)
     pub room : (i : ℕ) → i < 8 → getD counts i 0 ≤ 64
+    pub head : length (heldAt lists counts 0) ≡ 2
+    pub inputs : (length (heldAt lists counts 4) ≤ 33) × (length (heldAt lists counts 5) ≤ 33)
     pub legal : LegalJoinSheet heldJoinSheet
 
 -- the fields of a line whose numbers are so held
