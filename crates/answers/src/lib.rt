@@ -1,0 +1,3 @@
+// The answers of sheets that were read.
+pub mod decide;
+pub mod held;
