@@ -1,2 +1,4 @@
 pub mod Rows
 pub mod HeldKeys
+pub mod Projections
+pub mod Choices

@@ -1,3 +1,5 @@
 // The answers of sheets that were read.
+pub mod chosen;
 pub mod decide;
 pub mod held;
+pub mod projection;
