@@ -8,7 +8,7 @@ use mathlib.Core.List.{List, [], _∷_}
 use native.Mathlib.Omega.{arith}
 use borrow.Author.Tests.{eqb-true}
 use lib.Dec.{eqb}
-use lib.ListN.{length, getD, length-map, length-take}
+use lib.ListN.{length, getD, length-map}
 use Rattle.keys.specs.Expressions.{Expression, sameExpr, expression, expressions}
 use Rattle.keys.specs.Adjust.{KeySheet, adjustInputKeysOrdering}
 use Rattle.keys.specs.Arrange.{Below}
@@ -19,6 +19,7 @@ use Rattle.keys.proofs.Truths.{and-first, and-second}
 use Rattle.sheet.specs.KeySheets.{directionsFit, keyListsFit}
 use Rattle.sheet.specs.Sizes.{Each}
 use Rattle.sheet.specs.LegalSheets.{Small}
+use Rattle.answers.proofs.HeldLines.{held-there, held-short}
 use Rattle.sheet.specs.Held.{heldAt, pairRows, operatorOf, exprLists, childCount, heldKeySheet, KeyHeld}
 
 small-below : (ns : List ℕ) → Each Small ns → Below 65536 ns
@@ -40,8 +41,8 @@ pairs-fit x f =
     (eqb-true _ _ (and-first a _ f), and-first b _ (and-second a _ f))
 
 -- what a decision asks of the lists
-abbrev pub Suited : List ℕ → List ℕ → List ℕ → List ℕ → List ℕ → List ℕ → Type 0
-Suited r l g s o a =
+abbrev pub KeySuited : List ℕ → List ℕ → List ℕ → List ℕ → List ℕ → List ℕ → Type 0
+KeySuited r l g s o a =
     (length r ≤ 32) × (length l ≤ 32) × (length g ≡ length l) × Directed s l × (length o ≤ 32) × (length a ≤ 32) × Below 65536 o
 
 module _ (lists : List (List ℕ)) (counts : List ℕ) where
@@ -50,13 +51,12 @@ module _ (lists : List (List ℕ)) (counts : List ℕ) where
 
   module _ (h : KeyHeld lists counts) where
     pub key-there : (i : ℕ) → i < 9 → (i < length lists) × (i < length counts) × (getD counts i 0 ≤ 64)
-    key-there i k = (omega (arith, h .lines .0), omega (arith, h .lines .1), h .room i (omega arith))
+    key-there i k = held-there lists counts i (h .room i (omega arith)) (h .lines) (omega arith)
 
     pub key-short : (i : ℕ) → i < 9 → length (At i) ≤ 64
-    unfolding heldAt
-    key-short i k = rw length-take (omega (arith, h .room i (omega arith)))
+    key-short i k = held-short lists counts i (h .room i (omega arith))
 
-    suited : Suited (At 1) (At 2) (At 3) (At 4) (At 6) (At 7)
+    suited : KeySuited (At 1) (At 2) (At 3) (At 4) (At 6) (At 7)
     unfolding heldKeySheet
     suited =
         let f = pairs-fit (heldKeySheet lists counts) (h .legal .fit) in (
@@ -70,8 +70,8 @@ module _ (lists : List (List ℕ)) (counts : List ℕ) where
         )
 
     pub key-suited :
-        {r l g s o a : List ℕ} → r ≡ At 1 → l ≡ At 2 → g ≡ At 3 → s ≡ At 4 → o ≡ At 6 → a ≡ At 7 → Suited r l g s o a
-    key-suited p q t u v w = subst (λ (x : Type 0). x) (λ j. Suited (sym p j) (sym q j) (sym t j) (sym u j) (sym v j) (sym w j)) suited
+        {r l g s o a : List ℕ} → r ≡ At 1 → l ≡ At 2 → g ≡ At 3 → s ≡ At 4 → o ≡ At 6 → a ≡ At 7 → KeySuited r l g s o a
+    key-suited p q t u v w = subst (λ (x : Type 0). x) (λ j. KeySuited (sym p j) (sym q j) (sym t j) (sym u j) (sym v j) (sym w j)) suited
 
   -- what is decided of the lists is decided of the sheet
   pub key-decided :

@@ -16,7 +16,7 @@ pair-turn :
     (out : List ℕ) (n : ℕ) (x y : ℕ) (rest all : List ℕ) → take n out ++ (x ∷ y ∷ rest) ≡ all → n + 1 < length out →
     take (n + 1 + 1) (set (set out n x) (n + 1) y) ++ rest ≡ all
 pair-turn out n x y rest all so k =
-    rw (first-pushed (set out n x) (n + 1) y (rw (length-set out n x) k), first-pushed out n x (omega arith), append-assoc, append-assoc) so
+    rw (first-pushed (set out n x) (n + 1) y (rw (length-set out n x) k), first-pushed out n x (omega arith)) (simp append-assoc so)
 
 no-places : (ns : List ℕ) → placedNames ns [] ≡ []
 no-places [] = refl

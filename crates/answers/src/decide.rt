@@ -5,10 +5,13 @@ ghost use lib.ListN.{length, take};
 ghost use Rattle.keys.specs.Expressions.{sameExpr};
 ghost use Rattle.keys.specs.Adjust.{adjustInputKeysOrdering};
 ghost use Rattle.keys.specs.Answers.{WholeAdjusted, adjustedOf};
-ghost use Rattle.sheet.specs.Held.{pairRows, operatorOf, heldKeySheet, KeyHeld};
+ghost use Rattle.keys.specs.Inputs.{reorderJoinKeysToInputs};
+ghost use Rattle.keys.specs.InputValues.{WholeCurrent, currentOf};
+ghost use Rattle.sheet.specs.Held.{pairRows, operatorOf, heldKeySheet, heldJoinSheet, KeyHeld, JoinHeld};
 use crate::held::held;
 use keys::answer::Adjusted;
 use keys::answer::Operator;
+use keys::inputs::Current;
 
 // Every two numbers a row.
 fn rule_rows(list: &[u64], rows: &mut [[u64; 2]]) -> usize
@@ -56,4 +59,24 @@ pub fn adjust(lists: &[[u64; 64]], counts: &[usize], rules: &mut [[u64; 2]]) -> 
     let m = held(lists, counts, 8);
     let w = &rules[0..n];
     keys::adjust::adjust_input_keys_ordering(k, r, l, g, s, w, o, a, m)
+}
+
+// Op, mode, L, G, H and N of an I sheet; W and V as rows in the rooms lent.
+pub fn follow(
+    lists: &[[u64; 64]],
+    counts: &[usize],
+    w: &mut [[u64; 2]],
+    v: &mut [[u64; 2]],
+) -> Current
+    requires { ⌜ JoinHeld (now lists) (now counts) × (32 ≤ length (now w)) × (32 ≤ length (now v)) ⌝ }
+    ensures { λ x. ⌜ WholeCurrent x × (let s = heldJoinSheet (now (lists .entry)) (now (counts .entry)) in currentOf s x ≡ reorderJoinKeysToInputs s sameExpr) ⌝ }
+{
+    let head = held(lists, counts, 0);
+    let l = held(lists, counts, 1);
+    let g = held(lists, counts, 2);
+    let h = held(lists, counts, 4);
+    let n = held(lists, counts, 5);
+    let p = rule_rows(held(lists, counts, 6), w);
+    let q = rule_rows(held(lists, counts, 7), v);
+    keys::inputs::join_keys_to_inputs(head[0], head[1], l, g, h, n, &w[0..p], &v[0..q])
 }

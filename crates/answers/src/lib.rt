@@ -1,5 +1,6 @@
 // The answers of sheets that were read.
 pub mod chosen;
 pub mod decide;
+pub mod directions;
 pub mod held;
 pub mod projection;
