@@ -4,3 +4,6 @@ pub mod HeldKeys
 pub mod HeldJoins
 pub mod Projections
 pub mod Choices
+pub mod KeyLists
+pub mod JoinLists
+pub mod Room

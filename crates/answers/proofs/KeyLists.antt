@@ -1,0 +1,121 @@
+-- The lists of a K sheet's answer, by what was decided, and its text, by the lists.
+-- Assumes nothing.
+use Prim.Native.Nat.{ℕ, zero, suc, _≤_}
+use mathlib.Core.Path.{_≡_, refl, ap}
+use mathlib.Core.Bool.{Bool, true, false, cond}
+use mathlib.Core.List.{List, [], _∷_, _++_, map}
+use native.Mathlib.Omega.{arith}
+use lib.ListN.{length}
+use Rattle.keys.specs.Expressions.{Expression, expressions}
+use Rattle.keys.specs.Adjust.{KeySheet, KeyAnswer, Adjustment, handOver, placedNames, namesFrom}
+use Rattle.keys.specs.Values.{packedKeys, numbers}
+use Rattle.keys.specs.Answers.{changedBy, reportedBy, movedOr, projectedBy, handed, answerOf, adjustedBy, adjustedOf}
+use Rattle.keys.specs.declared.list.KeyList.{KeyList}
+use Rattle.keys.specs.declared.reorder.Reordered.{Reordered}
+use Rattle.keys.specs.declared.reorder.Reordered.the-variants.{Met, Moved, Impossible}
+use Rattle.keys.specs.declared.answer.Handed.{Handed}
+use Rattle.keys.specs.declared.answer.Outcome.{Outcome}
+use Rattle.keys.specs.declared.answer.Outcome.the-variants.{Unchanged, Passed, Tried, Regrouped, NameNotFound}
+use Rattle.keys.specs.declared.answer.Adjusted.{Adjusted}
+use Rattle.keys.proofs.Truths.{true-false}
+use Rattle.sheet.specs.KeyAnswers.{refused, wrote, numbersLine, exprsLine, projectedNumbers, childLines, keyAnswerText, adjusted}
+use Rattle.sheet.specs.Held.{heldAt, exprLists, childCount, heldKeySheet, KeyHeld}
+use Rattle.answers.specs.Chosen.{keepsBy, handedList}
+use Rattle.answers.specs.AnswerLists.{childBy, KeyLists, refusedBy}
+use Rattle.answers.proofs.Choices.{handed-is}
+
+moved-packed : (o : Outcome) (moved stood : List ℕ) → movedOr o (expressions moved) (expressions stood) ≡ expressions (movedOr o moved stood)
+moved-packed Unchanged moved stood = refl
+moved-packed Passed moved stood = refl
+moved-packed (Tried Met) moved stood = refl
+moved-packed (Tried Moved) moved stood = refl
+moved-packed (Tried Impossible) moved stood = refl
+moved-packed Regrouped moved stood = refl
+moved-packed NameNotFound moved stood = refl
+
+cleared-packed : (b : Bool) (r : List ℕ) → cond b [] (expressions r) ≡ expressions (cond b [] r)
+cleared-packed true r = refl
+cleared-packed false r = refl
+
+map-same : {A B : Type 0} (f g : A → B) → ((x : A) → f x ≡ g x) → (xs : List A) → map f xs ≡ map g xs
+map-same f g e [] = refl
+map-same f g e (x ∷ xs) = λ j. e x j ∷ map-same f g e xs j
+
+hand-same :
+    (f f' g g' : List Expression → List Expression) → ((c : List Expression) → f c ≡ f' c) → ((c : List Expression) → g c ≡ g' c) →
+    (cs : List (List Expression)) → handOver f g cs ≡ handOver f' g' cs
+hand-same f f' g g' p q [] = refl
+hand-same f f' g g' p q (c ∷ cs) = λ j. p c j ∷ map-same g g' q cs j
+
+module _ (lists : List (List ℕ)) (counts : List ℕ) where
+  abbrev At : ℕ → List ℕ
+  At i = heldAt lists counts i
+
+  exprs-long : (i n : ℕ) → length (exprLists lists counts i n) ≡ n
+  exprs-long i zero = refl
+  exprs-long i (suc n) = ap suc (exprs-long (suc i) n)
+
+  -- at most eight children
+  pub key-children : KeyHeld lists counts → childCount lists counts ≤ 8
+  unfolding heldKeySheet
+  key-children h = omega (arith, h .legal .few, exprs-long 9 (childCount lists counts))
+
+  module _ (x : Adjusted) where
+    pub key-lists :
+        KeyLists (answerOf (heldKeySheet lists counts) x) (exprLists lists counts 9 (childCount lists counts)) (changedBy (x .outcome)) (reportedBy (x .outcome))
+        (numbers (x .at)) (cond (x .cleared) [] (At 1)) (movedOr (x .outcome) (packedKeys (x .left)) (At 2))
+        (movedOr (x .outcome) (packedKeys (x .right)) (At 3)) (movedOr (x .outcome) (numbers (x .directions)) (At 4))
+        (projectedNumbers (projectedBy (x .outcome) (placedNames (At 6) (numbers (x .places)) ++ namesFrom (length (At 6)) (At 7))))
+        (keepsBy (x .first)) (handedList (x .first) (At 1) (At 2) (packedKeys (x .left)) (At 8))
+        (keepsBy (x .others)) (handedList (x .others) (At 1) (At 3) (packedKeys (x .right)) (At 8))
+    unfolding heldKeySheet
+    key-lists =
+        let s = heldKeySheet lists counts in
+        let child : (side : List ℕ) (built : KeyList) (h : Handed) (c : List Expression) →
+        handed s (expressions side) built h c ≡ childBy (keepsBy h) (handedList h (At 1) side (packedKeys built) (At 8)) c
+        = λ side built h c. handed-is s (expressions side) built (At 1) side (packedKeys built) (At 8) refl refl refl refl h c in
+        record {
+          changes = refl;
+          reports = refl;
+          positions = refl;
+          required = cleared-packed (x .cleared) (At 1);
+          left = moved-packed (x .outcome) (packedKeys (x .left)) (At 2);
+          right = moved-packed (x .outcome) (packedKeys (x .right)) (At 3);
+          directions = refl;
+          projection = refl;
+          children = hand-same _ _ _ _ (child (At 2) (x .left) (x .first)) (child (At 3) (x .right) (x .others)) (exprLists lists counts 9 (childCount lists counts));
+        }
+
+-- the text of an answer is that of its lists
+pub key-text :
+    (a : KeyAnswer) (cs : List (List Expression)) (changed report : ℕ) (p r l g s j : List ℕ) (firstKept : Bool) (first : List ℕ) (kept : Bool) (others : List ℕ) →
+    KeyLists a cs changed report p r l g s j firstKept first kept others →
+    keyAnswerText a
+    ≡ numbersLine 107 (changed ∷ report ∷ []) ++ (numbersLine 80 p ++ (exprsLine 82 (expressions r) ++ (exprsLine 76 (expressions l)
+    ++ (exprsLine 71 (expressions g) ++ (numbersLine 83 s ++ (numbersLine 74 j ++ childLines (handOver (childBy firstKept first) (childBy kept others) cs)))))))
+unfolding keyAnswerText
+key-text a cs changed report p r l g s j firstKept first kept others h =
+    λ i. numbersLine 107 (h .changes i ∷ h .reports i ∷ []) ++ (numbersLine 80 (h .positions i) ++ (exprsLine 82 (h .required i) ++ (exprsLine 76 (h .left i)
+    ++ (exprsLine 71 (h .right i) ++ (numbersLine 83 (h .directions i) ++ (numbersLine 74 (h .projection i) ++ childLines (h .children i)))))))
+
+-- refusal 10, or the text
+module _ (s : KeySheet) (x : Adjusted) {d : Adjustment} (e : adjustedOf s x ≡ d) where
+  pub key-refused : refusedBy (x .outcome) ≡ true → adjusted d ≡ refused 10 0
+  key-refused h = rw (← e) (go (x .outcome) h)
+    where
+      go : (o : Outcome) → refusedBy o ≡ true → adjusted (adjustedBy o (answerOf s x)) ≡ refused 10 0
+      go Unchanged h = absurd (true-false h refl)
+      go Passed h = absurd (true-false h refl)
+      go (Tried o) h = absurd (true-false h refl)
+      go Regrouped h = absurd (true-false h refl)
+      go NameNotFound h = refl
+
+  pub key-written : refusedBy (x .outcome) ≡ false → adjusted d ≡ wrote (keyAnswerText (answerOf s x))
+  key-written h = rw (← e) (go (x .outcome) h)
+    where
+      go : (o : Outcome) → refusedBy o ≡ false → adjusted (adjustedBy o (answerOf s x)) ≡ wrote (keyAnswerText (answerOf s x))
+      go Unchanged h = refl
+      go Passed h = refl
+      go (Tried o) h = refl
+      go Regrouped h = refl
+      go NameNotFound h = absurd (true-false refl h)
