@@ -11,7 +11,6 @@ use Rattle.keys.specs.Adjust.{KeySheet, KeyAnswer, Adjustment, handOver, placed
 use Rattle.keys.specs.Values.{packedKeys, numbers}
 use Rattle.keys.specs.Answers.{changedBy, reportedBy, movedOr, projectedBy, handed, answerOf, adjustedBy, adjustedOf}
 use Rattle.keys.specs.declared.list.KeyList.{KeyList}
-use Rattle.keys.specs.declared.reorder.Reordered.{Reordered}
 use Rattle.keys.specs.declared.reorder.Reordered.the-variants.{Met, Moved, Impossible}
 use Rattle.keys.specs.declared.answer.Handed.{Handed}
 use Rattle.keys.specs.declared.answer.Outcome.{Outcome}
