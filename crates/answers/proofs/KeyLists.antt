@@ -3,7 +3,7 @@
 use Prim.Native.Nat.{ℕ, zero, suc, _≤_}
 use mathlib.Core.Path.{_≡_, refl, ap}
 use mathlib.Core.Bool.{Bool, true, false, cond}
-use mathlib.Core.List.{List, [], _∷_, _++_, map}
+use mathlib.Core.List.{List, [], _∷_, _++_}
 use native.Mathlib.Omega.{arith}
 use lib.ListN.{length}
 use Rattle.keys.specs.Expressions.{Expression, expressions}
@@ -35,16 +35,6 @@ moved-packed NameNotFound moved stood = refl
 cleared-packed : (b : Bool) (r : List ℕ) → cond b [] (expressions r) ≡ expressions (cond b [] r)
 cleared-packed true r = refl
 cleared-packed false r = refl
-
-map-same : {A B : Type 0} (f g : A → B) → ((x : A) → f x ≡ g x) → (xs : List A) → map f xs ≡ map g xs
-map-same f g e [] = refl
-map-same f g e (x ∷ xs) = λ j. e x j ∷ map-same f g e xs j
-
-hand-same :
-    (f f' g g' : List Expression → List Expression) → ((c : List Expression) → f c ≡ f' c) → ((c : List Expression) → g c ≡ g' c) →
-    (cs : List (List Expression)) → handOver f g cs ≡ handOver f' g' cs
-hand-same f f' g g' p q [] = refl
-hand-same f f' g g' p q (c ∷ cs) = λ j. p c j ∷ map-same g g' q cs j
 
 module _ (lists : List (List ℕ)) (counts : List ℕ) where
   abbrev At : ℕ → List ℕ
@@ -82,7 +72,7 @@ module _ (lists : List (List ℕ)) (counts : List ℕ) where
           right = moved-packed (x .outcome) (packedKeys (x .right)) (At 3);
           directions = refl;
           projection = refl;
-          children = hand-same _ _ _ _ (child (At 2) (x .left) (x .first)) (child (At 3) (x .right) (x .others)) (exprLists lists counts 9 (childCount lists counts));
+          children = λ j. handOver (λ c. child (At 2) (x .left) (x .first) c j) (λ c. child (At 3) (x .right) (x .others) c j) (exprLists lists counts 9 (childCount lists counts));
         }
 
 -- the text of an answer is that of its lists
