@@ -35,6 +35,10 @@ module _ (lists : List (List ℕ)) (counts : List ℕ) where
     unfolding heldJoinSheet
     join-few = rw length-map at (k .legal .left .few)
 
+    pub join-directions : length (At 3) ≤ 32
+    unfolding heldJoinSheet
+    join-directions = k .legal .directions .few
+
     pub join-suited : {l g h n : List ℕ} → l ≡ At 1 → g ≡ At 2 → h ≡ At 4 → n ≡ At 5 → JoinSuited l g h n
     join-suited p q t u =
         subst (λ (x : Type 0). x) (λ j. JoinSuited (sym p j) (sym q j) (sym t j) (sym u j)) (join-few, join-even, k .inputs .0, k .inputs .1)

@@ -56,9 +56,9 @@ module _ (lists : List (List ℕ)) (counts : List ℕ) where
     pub key-short : (i : ℕ) → i < 9 → length (At i) ≤ 64
     key-short i k = held-short lists counts i (h .room i (omega arith))
 
-    suited : KeySuited (At 1) (At 2) (At 3) (At 4) (At 6) (At 7)
+    pub key-lines : KeySuited (At 1) (At 2) (At 3) (At 4) (At 6) (At 7)
     unfolding heldKeySheet
-    suited =
+    key-lines =
         let f = pairs-fit (heldKeySheet lists counts) (h .legal .fit) in (
           rw length-map at (h .legal .required .few),
           rw length-map at (h .legal .left .few),
@@ -69,9 +69,17 @@ module _ (lists : List (List ℕ)) (counts : List ℕ) where
           small-below (At 6) (h .legal .groups .each),
         )
 
+    pub key-directions : length (At 4) ≤ 32
+    unfolding heldKeySheet
+    key-directions = h .legal .directions .few
+
+    pub key-mapped : length (At 8) ≤ 32
+    unfolding heldKeySheet
+    key-mapped = rw length-map at (h .legal .mapped .few)
+
     pub key-suited :
         {r l g s o a : List ℕ} → r ≡ At 1 → l ≡ At 2 → g ≡ At 3 → s ≡ At 4 → o ≡ At 6 → a ≡ At 7 → KeySuited r l g s o a
-    key-suited p q t u v w = subst (λ (x : Type 0). x) (λ j. KeySuited (sym p j) (sym q j) (sym t j) (sym u j) (sym v j) (sym w j)) suited
+    key-suited p q t u v w = subst (λ (x : Type 0). x) (λ j. KeySuited (sym p j) (sym q j) (sym t j) (sym u j) (sym v j) (sym w j)) key-lines
 
   -- what is decided of the lists is decided of the sheet
   pub key-decided :

@@ -4,7 +4,7 @@ use Prim.Native.Nat.{ℕ}
 use mathlib.Core.Path.{_≡_, refl, sym, subst}
 use mathlib.Core.List.{List, [], _∷_, _++_}
 use lib.ListN.{getD}
-use Rattle.keys.specs.Expressions.{sameExpr, expressions}
+use Rattle.keys.specs.Expressions.{sameExpr}
 use Rattle.keys.specs.Adjust.{movedDirections}
 use Rattle.keys.specs.Inputs.{JoinAnswer, asStood, reorderJoinKeysToInputs}
 use Rattle.keys.specs.Values.{packedKeys, numbers}
@@ -20,7 +20,7 @@ use Rattle.sheet.specs.KeyAnswers.{numbersLine, exprsLine, joinAnswerText}
 use Rattle.sheet.specs.Held.{heldAt, pairRows, heldJoinSheet, JoinHeld}
 use Rattle.answers.specs.Chosen.{followedOr, followedOnly}
 use Rattle.answers.specs.Moves.{FollowedWithin}
-use Rattle.answers.specs.AnswerLists.{JoinLists}
+use Rattle.answers.specs.AnswerLists.{JoinLists, joinText}
 use Rattle.answers.proofs.HeldKeys.{directed}
 use Rattle.answers.proofs.HeldJoins.{join-even}
 
@@ -73,8 +73,7 @@ module _ (lists : List (List ℕ)) (counts : List ℕ) (c : Current) where
 -- the text of an answer is that of its lists
 pub join-text :
     (a : JoinAnswer) (report followed : ℕ) (p l g s : List ℕ) → JoinLists a report followed p l g s →
-    joinAnswerText a
-    ≡ numbersLine 105 (report ∷ followed ∷ []) ++ (numbersLine 80 p ++ (exprsLine 76 (expressions l) ++ (exprsLine 71 (expressions g) ++ numbersLine 83 s)))
-unfolding joinAnswerText
+    joinAnswerText a ≡ joinText report followed p l g s
+unfolding joinAnswerText joinText
 join-text a report followed p l g s h =
     λ i. numbersLine 105 (h .reports i ∷ h .follows i ∷ []) ++ (numbersLine 80 (h .positions i) ++ (exprsLine 76 (h .left i) ++ (exprsLine 71 (h .right i) ++ numbersLine 83 (h .directions i))))

@@ -3,7 +3,7 @@
 use Prim.Native.Nat.{ℕ, zero, suc, _≤_}
 use mathlib.Core.Path.{_≡_, refl, ap}
 use mathlib.Core.Bool.{Bool, true, false, cond}
-use mathlib.Core.List.{List, [], _∷_, _++_}
+use mathlib.Core.List.{List, [], _∷_, _++_, append-assoc}
 use native.Mathlib.Omega.{arith}
 use lib.ListN.{length}
 use Rattle.keys.specs.Expressions.{Expression, expressions}
@@ -20,7 +20,7 @@ use Rattle.keys.proofs.Truths.{true-false}
 use Rattle.sheet.specs.KeyAnswers.{refused, wrote, numbersLine, exprsLine, projectedNumbers, childLines, keyAnswerText, adjusted}
 use Rattle.sheet.specs.Held.{heldAt, exprLists, childCount, heldKeySheet, KeyHeld}
 use Rattle.answers.specs.Chosen.{keepsBy, handedList}
-use Rattle.answers.specs.AnswerLists.{childBy, KeyLists, refusedBy}
+use Rattle.answers.specs.AnswerLists.{childBy, KeyLists, refusedBy, keyText}
 use Rattle.answers.proofs.Choices.{handed-is}
 
 moved-packed : (o : Outcome) (moved stood : List ℕ) → movedOr o (expressions moved) (expressions stood) ≡ expressions (movedOr o moved stood)
@@ -79,13 +79,20 @@ module _ (lists : List (List ℕ)) (counts : List ℕ) where
 pub key-text :
     (a : KeyAnswer) (cs : List (List Expression)) (changed report : ℕ) (p r l g s j : List ℕ) (firstKept : Bool) (first : List ℕ) (kept : Bool) (others : List ℕ) →
     KeyLists a cs changed report p r l g s j firstKept first kept others →
-    keyAnswerText a
-    ≡ numbersLine 107 (changed ∷ report ∷ []) ++ (numbersLine 80 p ++ (exprsLine 82 (expressions r) ++ (exprsLine 76 (expressions l)
-    ++ (exprsLine 71 (expressions g) ++ (numbersLine 83 s ++ (numbersLine 74 j ++ childLines (handOver (childBy firstKept first) (childBy kept others) cs)))))))
-unfolding keyAnswerText
+    keyAnswerText a ≡ keyText changed report p r l g s j firstKept first kept others cs
+unfolding keyAnswerText keyText
 key-text a cs changed report p r l g s j firstKept first kept others h =
     λ i. numbersLine 107 (h .changes i ∷ h .reports i ∷ []) ++ (numbersLine 80 (h .positions i) ++ (exprsLine 82 (h .required i) ++ (exprsLine 76 (h .left i)
     ++ (exprsLine 71 (h .right i) ++ (numbersLine 83 (h .directions i) ++ (numbersLine 74 (h .projection i) ++ childLines (h .children i)))))))
+
+-- the lists' lines, and the children's after them
+pub key-text-parts :
+    (changed report : ℕ) (p r l g s j : List ℕ) (firstKept : Bool) (first : List ℕ) (kept : Bool) (others : List ℕ) (cs : List (List Expression)) →
+    keyText changed report p r l g s j firstKept first kept others cs
+    ≡ (numbersLine 107 (changed ∷ report ∷ []) ++ (numbersLine 80 p ++ (exprsLine 82 (expressions r) ++ (exprsLine 76 (expressions l)
+    ++ (exprsLine 71 (expressions g) ++ (numbersLine 83 s ++ numbersLine 74 j)))))) ++ childLines (handOver (childBy firstKept first) (childBy kept others) cs)
+unfolding keyText
+key-text-parts changed report p r l g s j firstKept first kept others cs = simp append-assoc
 
 -- refusal 10, or the text
 module _ (s : KeySheet) (x : Adjusted) {d : Adjustment} (e : adjustedOf s x ≡ d) where

@@ -5,5 +5,7 @@ pub mod HeldJoins
 pub mod Projections
 pub mod Choices
 pub mod KeyLists
+pub mod KeyChosen
 pub mod JoinLists
+pub mod JoinChosen
 pub mod Room

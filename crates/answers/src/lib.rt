@@ -3,4 +3,5 @@ pub mod chosen;
 pub mod decide;
 pub mod directions;
 pub mod held;
+pub mod key;
 pub mod projection;
