@@ -1,0 +1,46 @@
+-- Which list goes on an answer, by what was decided.
+use Prim.Native.Nat.{ℕ}
+use mathlib.Core.Bool.{Bool, true, false}
+use mathlib.Core.List.{List, []}
+use Rattle.keys.specs.declared.reorder.Reordered.{Reordered}
+use Rattle.keys.specs.declared.reorder.Reordered.the-variants.{Met, Moved, Impossible}
+use Rattle.keys.specs.declared.answer.Handed.{Handed}
+use Rattle.keys.specs.declared.answer.Handed.the-variants.{Kept, Cleared, Required, Keys, Built, Mapped}
+use Rattle.keys.specs.declared.inputs.Attempt.{Attempt}
+use Rattle.keys.specs.declared.inputs.Attempt.the-variants.{Untried, Followed, Failed}
+
+-- what the pairs' move leaves, or what stood, by the outcome of a try
+abbrev pub triedOr : {A : Type 0} → Reordered → A → A → A
+triedOr Met moved stood = stood
+triedOr Moved moved stood = moved
+triedOr Impossible moved stood = stood
+
+-- the same by the outcome of the inputs
+abbrev pub followedOr : {A : Type 0} → Attempt → A → A → A
+followedOr Untried moved stood = stood
+followedOr (Followed side o) moved stood = triedOr o moved stood
+followedOr Failed moved stood = stood
+
+-- the positions, where a side was followed
+abbrev pub followedOnly : Attempt → List ℕ → List ℕ
+followedOnly Untried at = []
+followedOnly (Followed side o) at = at
+followedOnly Failed at = []
+
+-- the child keeps its list
+abbrev pub keepsBy : Handed → Bool
+keepsBy Kept = true
+keepsBy Cleared = false
+keepsBy Required = false
+keepsBy Keys = false
+keepsBy Built = false
+keepsBy Mapped = false
+
+-- the list that a child is handed, where it does not keep its own
+abbrev pub handedList : Handed → List ℕ → List ℕ → List ℕ → List ℕ → List ℕ
+handedList Kept required side built mapped = []
+handedList Cleared required side built mapped = []
+handedList Required required side built mapped = required
+handedList Keys required side built mapped = side
+handedList Built required side built mapped = built
+handedList Mapped required side built mapped = mapped

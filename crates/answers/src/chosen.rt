@@ -1,0 +1,114 @@
+// Which list goes on an answer.
+ghost use mathlib.Core.Path.{_≡_};
+ghost use mathlib.Core.Bool.{cond};
+ghost use mathlib.Core.List.{[]};
+ghost use Prim.Native.Nat.{_≤_};
+ghost use lib.ListN.{length, take};
+ghost use Rattle.keys.specs.Values.{packedKeys, Whole};
+ghost use Rattle.keys.specs.Answers.{movedOr};
+ghost use Rattle.answers.specs.Chosen.{triedOr, followedOr, followedOnly, keepsBy, handedList};
+use keys::answer::Handed;
+use keys::answer::Outcome;
+use keys::inputs::Attempt;
+use keys::list::KeyList;
+use keys::reorder::Reordered;
+
+fn tried_or<'a>(o: Reordered, moved: &'a [u64], stood: &'a [u64]) -> &'a [u64]
+    ensures { λ r. ⌜ now r ≡ triedOr o (now (moved .entry)) (now (stood .entry)) ⌝ }
+{
+    match o {
+        Reordered::Met => return stood,
+        Reordered::Moved => return moved,
+        Reordered::Impossible => return stood,
+    }
+}
+
+// The keys that moved, or those that stood.
+pub fn moved_or<'a>(o: Outcome, moved: &'a [u64], stood: &'a [u64]) -> &'a [u64]
+    ensures { λ r. ⌜ now r ≡ movedOr o (now (moved .entry)) (now (stood .entry)) ⌝ }
+{
+    match o {
+        Outcome::Unchanged => return stood,
+        Outcome::Passed => return stood,
+        Outcome::Tried(t) => return tried_or(t, moved, stood),
+        Outcome::Regrouped => return stood,
+        Outcome::NameNotFound => return stood,
+    }
+}
+
+pub fn followed_or<'a>(o: Attempt, moved: &'a [u64], stood: &'a [u64]) -> &'a [u64]
+    ensures { λ r. ⌜ now r ≡ followedOr o (now (moved .entry)) (now (stood .entry)) ⌝ }
+{
+    match o {
+        Attempt::Untried => return stood,
+        Attempt::Followed(_, t) => return tried_or(t, moved, stood),
+        Attempt::Failed => return stood,
+    }
+}
+
+pub fn followed_only<'a>(o: Attempt, at: &'a [u64]) -> &'a [u64]
+    ensures { λ r. ⌜ now r ≡ followedOnly o (now (at .entry)) ⌝ }
+{
+    match o {
+        Attempt::Untried => return &at[0..0],
+        Attempt::Followed(_, _) => return at,
+        Attempt::Failed => return &at[0..0],
+    }
+}
+
+pub fn cleared_or<'a>(cleared: bool, r: &'a [u64]) -> &'a [u64]
+    ensures { λ x. ⌜ now x ≡ cond cleared [] (now (r .entry)) ⌝ }
+{
+    if cleared {
+        return &r[0..0];
+    }
+    r
+}
+
+pub fn keeps(h: Handed) -> bool
+    ensures { λ r. ⌜ r ≡ keepsBy h ⌝ }
+{
+    match h {
+        Handed::Kept => true,
+        Handed::Cleared => false,
+        Handed::Required => false,
+        Handed::Keys => false,
+        Handed::Built => false,
+        Handed::Mapped => false,
+    }
+}
+
+// The list that a child is handed; nothing where it keeps its own.
+pub fn handed_list<'a>(
+    h: Handed,
+    required: &'a [u64],
+    side: &'a [u64],
+    built: &'a [u64],
+    mapped: &'a [u64],
+) -> &'a [u64]
+    ensures { λ r. ⌜ now r ≡ handedList h (now (required .entry)) (now (side .entry)) (now (built .entry)) (now (mapped .entry)) ⌝ }
+{
+    match h {
+        Handed::Kept => return &required[0..0],
+        Handed::Cleared => return &required[0..0],
+        Handed::Required => return required,
+        Handed::Keys => return side,
+        Handed::Built => return built,
+        Handed::Mapped => return mapped,
+    }
+}
+
+// The keys of a list, as numbers.
+pub fn unpack_keys(k: KeyList, out: &mut [u64; 32]) -> usize
+    requires { ⌜ Whole k × (length (now out) ≡ 32) ⌝ }
+    ensures { λ r. ⌜ (r ≡ k .count) × (r ≤ 32) × (take r (now (out .exit)) ≡ packedKeys k) × (length (now (out .exit)) ≡ 32) ⌝ }
+{
+    let n = k.count;
+    let mut i: usize = 0;
+    while i < n {
+        let e = k.items[i];
+        out[i] = e.number;
+        i += 1;
+    }
+    i
+}
