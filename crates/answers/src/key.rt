@@ -1,12 +1,36 @@
-// What decides on writing a K answer: whether it is refused, and how many children it has.
+// The answer of a K sheet that was read.
 ghost use mathlib.Core.Path.{_≡_};
+ghost use mathlib.Core.List.{_++_};
 ghost use Prim.Native.Nat.{_≤_};
 ghost use lib.ListN.{length, getD};
-ghost use Rattle.answers.specs.AnswerLists.{refusedBy};
+ghost use Rattle.keys.specs.Expressions.{sameExpr};
+ghost use Rattle.keys.specs.Adjust.{adjustInputKeysOrdering};
+ghost use Rattle.keys.specs.Answers.{WholeAdjusted, answerOf};
+ghost use Rattle.sheet.specs.KeyAnswers.{wrote, keyAnswerText, adjusted};
+ghost use Rattle.sheet.specs.Outcomes.{answer, after, within};
+ghost use Rattle.sheet.specs.Held.{childCount, heldKeySheet, KeyHeld};
+ghost use Rattle.answers.specs.Texts.{keyListsText};
+ghost use Rattle.answers.specs.Children.{childrenText};
+ghost use Rattle.answers.specs.AnswerLists.{refusedBy, KeyFew, ReadyKey};
+use crate::children::children_length;
+use crate::children::put_children;
+use crate::chosen::cleared_or;
+use crate::chosen::handed_list;
+use crate::chosen::keeps;
+use crate::chosen::moved_or;
+use crate::chosen::unpack_keys;
+use crate::decide::adjust;
+use crate::held::held;
+use crate::key_text::key_lists_length;
+use crate::key_text::put_key_lists;
+use crate::projection::projected_by;
+use keys::answer::Adjusted;
 use keys::answer::Outcome;
+use keys::answer::changed_number;
+use keys::answer::report_number;
 
 // Refusal 10.
-pub fn refused(o: Outcome) -> bool
+fn refused(o: Outcome) -> bool
     ensures { λ r. ⌜ r ≡ refusedBy o ⌝ }
 {
     match o {
@@ -19,9 +43,124 @@ pub fn refused(o: Outcome) -> bool
 }
 
 // How many children a K line has.
-pub fn children(h: &[u64]) -> usize
+fn children(h: &[u64]) -> usize
     requires { ⌜ 7 ≤ length (now h) ⌝ }
     ensures { λ r. ⌜ r ≡ getD (now (h .entry)) 6 0 ⌝ }
 {
     h[6] as usize
+}
+
+// The lists and the children's lists, where there is room for them; else refusal 12.
+fn write_key(
+    changed: u64,
+    report: u64,
+    p: &[u64],
+    r: &[u64],
+    l: &[u64],
+    g: &[u64],
+    s: &[u64],
+    j: &[u64],
+    stays: bool,
+    first: &[u64],
+    kept: bool,
+    others: &[u64],
+    lists: &[[u64; 64]],
+    counts: &[usize],
+    out: &mut [u8],
+) -> u64
+    requires { ⌜ KeyHeld (now lists) (now counts) × KeyFew (now p) (now r) (now l) (now g) (now s) (now j) (now first) (now others) ⌝ }
+    ensures { λ x. ⌜ (let t = within (length (now (out .entry))) (wrote (keyListsText changed report (now (p .entry)) (now (r .entry)) (now (l .entry)) (now (g .entry)) (now (s .entry)) (now (j .entry)) ++ childrenText stays (now (first .entry)) kept (now (others .entry)) (now (lists .entry)) (now (counts .entry)) (childCount (now (lists .entry)) (now (counts .entry))))) in (x ≡ answer t) × (now (out .exit) ≡ after t (now (out .entry)))) ⌝ }
+{
+    let n = children(held(lists, counts, 0));
+    let a = key_lists_length(changed, report, p, r, l, g, s, j);
+    let b = children_length(stays, first, kept, others, lists, counts, n);
+    if out.len() < a + b {
+        return 51539607552;
+    }
+    let e = put_key_lists(out, changed, report, p, r, l, g, s, j);
+    put_children(out, e, stays, first, kept, others, lists, counts, n) as u64
+}
+
+// The lists of an answer, chosen and written; `left`, `right` and `j` are the keys that were built and the projection.
+fn answer_lists<'a>(
+    lists: &'a [[u64; 64]],
+    counts: &[usize],
+    x: Adjusted,
+    left: &'a [u64],
+    right: &'a [u64],
+    j: &[u64],
+    out: &mut [u8],
+) -> u64
+    requires { ⌜ KeyHeld (now lists) (now counts) × ReadyKey (now lists) (now counts) x (now left) (now right) (now j) ⌝ }
+    ensures { λ r. ⌜ (let t = within (length (now (out .entry))) (wrote (keyAnswerText (answerOf (heldKeySheet (now (lists .entry)) (now (counts .entry))) x))) in (r ≡ answer t) × (now (out .exit) ≡ after t (now (out .entry)))) ⌝ }
+{
+    let o = x.outcome;
+    let first = x.first;
+    let others = x.others;
+    let at = x.at;
+    let n = at.count;
+    let positions = at.items;
+    let turned = x.directions;
+    let m = turned.count;
+    let directions = turned.items;
+    let required = held(lists, counts, 1);
+    let l = held(lists, counts, 2);
+    let g = held(lists, counts, 3);
+    let s = held(lists, counts, 4);
+    let mapped = held(lists, counts, 8);
+    write_key(
+        changed_number(o),
+        report_number(o),
+        &positions[0..n],
+        cleared_or(x.cleared, required),
+        moved_or(o, left, l),
+        moved_or(o, right, g),
+        moved_or(o, &directions[0..m], s),
+        j,
+        keeps(first),
+        handed_list(first, required, l, left, mapped),
+        keeps(others),
+        handed_list(others, required, g, right, mapped),
+        lists,
+        counts,
+        out,
+    )
+}
+
+// The answer of what was decided.
+fn answer_adjusted(lists: &[[u64; 64]], counts: &[usize], x: Adjusted, out: &mut [u8]) -> u64
+    requires { ⌜ KeyHeld (now lists) (now counts) × WholeAdjusted x ⌝ }
+    ensures { λ r. ⌜ (let t = within (length (now (out .entry))) (wrote (keyAnswerText (answerOf (heldKeySheet (now (lists .entry)) (now (counts .entry))) x))) in (r ≡ answer t) × (now (out .exit) ≡ after t (now (out .entry)))) ⌝ }
+{
+    let o = x.outcome;
+    let mut left = [0u64; 32];
+    let mut right = [0u64; 32];
+    let mut j = [0u64; 128];
+    let l = unpack_keys(x.left, &mut left);
+    let g = unpack_keys(x.right, &mut right);
+    let found = x.places;
+    let n = found.count;
+    let places = found.items;
+    let groups = held(lists, counts, 6);
+    let names = held(lists, counts, 7);
+    let m = projected_by(o, groups, &places[0..n], names, &mut j);
+    answer_lists(lists, counts, x, &left[0..l], &right[0..g], &j[0..m], out)
+}
+
+// The decision on a K sheet and its answer's bytes; `rules` is room for the rewriting.
+pub fn answer_key_sheet(
+    lists: &[[u64; 64]],
+    counts: &[usize],
+    rules: &mut [[u64; 2]],
+    out: &mut [u8],
+) -> u64
+    requires { ⌜ KeyHeld (now lists) (now counts) × (32 ≤ length (now rules)) ⌝ }
+    ensures { λ r. ⌜ (let t = within (length (now (out .entry))) (adjusted (adjustInputKeysOrdering sameExpr (heldKeySheet (now (lists .entry)) (now (counts .entry))))) in (r ≡ answer t) × (now (out .exit) ≡ after t (now (out .entry)))) ⌝ }
+{
+    let x = adjust(lists, counts, rules);
+    let o = x.outcome;
+    if refused(o) {
+        return 42949672960;
+    }
+    answer_adjusted(lists, counts, x, out)
 }

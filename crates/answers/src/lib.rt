@@ -4,6 +4,7 @@ pub mod chosen;
 pub mod decide;
 pub mod directions;
 pub mod held;
+pub mod join;
 pub mod join_text;
 pub mod key;
 pub mod key_text;
