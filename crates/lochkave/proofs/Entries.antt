@@ -1,3 +1,109 @@
--- x
+-- What an entry point returns and leaves, by what was read of the sheet.
 -- Assumes nothing.
-use Prim.Native.Nat.{ℕ}
+use Prim.Native.Nat.{ℕ, zero, suc, _+_, _*_, _≤_, _<_}
+use mathlib.Core.Path.{_≡_, refl, sym, ap, _∙_}
+use mathlib.Core.Bool.{cond}
+use mathlib.Core.List.{List, [], _∷_}
+use native.Mathlib.Omega.{arith}
+use borrow.Author.Tests.{eq-eqb, ne-eqb}
+use lib.Dec.{eqb}
+use lib.ListN.{length, getD, replicate, length-take}
+use lib.Seq.{getD-take}
+use Rattle.keys.specs.Adjust.{KeySheet, adjustInputKeysOrdering}
+use Rattle.keys.specs.Inputs.{JoinSheet, reorderJoinKeysToInputs}
+use Rattle.keys.specs.Expressions.{sameExpr}
+use Rattle.sheet.specs.KeySheets.{Reading, sheet, turned, readKeySheet, readJoinSheet}
+use Rattle.sheet.specs.KeyAnswers.{Outcome, refused, wrote, joinAnswerText, adjusted, adjustDecision, inputsDecision, decision}
+use Rattle.sheet.specs.Outcomes.{answer, after, within}
+use Rattle.sheet.specs.Held.{heldAt, childCount}
+use Rattle.sheet.specs.SheetLines.{Full}
+use Rattle.sheet.proofs.KeyAccepted.{key-written-again, join-written-again}
+use Rattle.lochkave.specs.Entry.{keyAgain, joinAgain}
+use Rattle.sheet.specs.ListFits.{sheetBy}
+use Rattle.sheet.specs.declared.sheets.Sheet.{Sheet}
+use Rattle.sheet.specs.declared.sheets.Sheet.the-variants.{Held, Refused}
+
+-- ---- rooms of zeros
+
+pub full-zeros : (n : ℕ) (x : List ℕ) → length x ≡ 64 → Full (replicate n x)
+full-zeros zero x h i e = absurd (omega arith)
+full-zeros (suc n) x h zero e = h
+full-zeros (suc n) x h (suc i) e = full-zeros n x h i (omega arith)
+
+-- ---- what reading answered
+
+module _ {A : Type 0} where
+  pub was-turned : (r : Reading A) (q : Sheet) (n l : ℕ) → q ≡ sheetBy r → q ≡ Refused n l → r ≡ turned n l
+  was-turned (sheet x) q n l e f = let z : _≡_ {A = ℕ} 0 1 = cc in absurd (omega arith)
+  was-turned (turned m k) q n l e f = let a : m ≡ n = cc in let b : k ≡ l = cc in rw (a, b)
+
+  pub record Was (r : Reading A) : Type 0 where
+    pub x : A
+    pub is : r ≡ sheet x
+
+  pub was-read : (r : Reading A) (q : Sheet) → q ≡ sheetBy r → q ≡ Held → Was r
+  was-read (sheet y) q e f = record { x = y; is = refl }
+  was-read (turned m k) q e f = let z : _≡_ {A = ℕ} 0 1 = cc in absurd (omega arith)
+
+-- ---- an outcome, and what it gives
+
+-- returned and left, of an outcome and the output at entry
+abbrev pub Leaves : Outcome → List ℕ → ℕ → List ℕ → Type 0
+Leaves o out n out′ = (n ≡ answer (within (length out) o)) × (out′ ≡ after (within (length out) o) out)
+
+pub leaves-refused : (o : Outcome) (out : List ℕ) (n l r : ℕ) → o ≡ refused n l → r ≡ n * 4294967296 + l → Leaves o out r out
+leaves-refused o out n l r e f = rw e (f, refl)
+
+-- ---- by the first byte
+
+module _ (s out : List ℕ) where
+  module _ (k i : Outcome) where
+    abbrev By : Outcome
+    By = cond (eqb (getD s 0 0) 75) k (cond (eqb (getD s 0 0) 73) i (refused 1 1))
+
+    pub first-none : length s ≡ 0 → Leaves By out 4294967297 out
+    first-none h = none s h
+      where
+        none : (xs : List ℕ) → length xs ≡ 0 → Leaves (cond (eqb (getD xs 0 0) 75) k (cond (eqb (getD xs 0 0) 73) i (refused 1 1))) out 4294967297 out
+        none [] h = (refl, refl)
+        none (x ∷ xs) h = absurd (omega arith)
+
+    pub first-key : (n : ℕ) (out′ : List ℕ) → getD s 0 0 ≡ 75 → Leaves k out n out′ → Leaves By out n out′
+    first-key n out′ e h = rw e h
+
+    pub first-join : (n : ℕ) (out′ : List ℕ) → getD s 0 0 ≡ 73 → Leaves i out n out′ → Leaves By out n out′
+    first-join n out′ e h = rw e h
+
+    pub first-other : (getD s 0 0 ≡ 75 → ⊥) → (getD s 0 0 ≡ 73 → ⊥) → Leaves By out 4294967297 out
+    first-other a b = rw (ne-eqb (getD s 0 0) 75 a, ne-eqb (getD s 0 0) 73 b) (refl, refl)
+
+-- ---- K and I sheets
+
+module _ (s : List ℕ) where
+  pub adjust-turned : (n l : ℕ) → readKeySheet s ≡ turned n l → adjustDecision s ≡ refused n l
+  unfolding adjustDecision
+  adjust-turned n l e = rw e
+
+  pub inputs-turned : (n l : ℕ) → readJoinSheet s ≡ turned n l → inputsDecision s ≡ refused n l
+  unfolding inputsDecision
+  inputs-turned n l e = rw e
+
+  pub adjust-held : (x y : KeySheet) → readKeySheet s ≡ sheet x → y ≡ x → adjustDecision s ≡ adjusted (adjustInputKeysOrdering sameExpr y)
+  unfolding adjustDecision
+  adjust-held x y e f = rw (e, f)
+
+  pub inputs-held : (x y : JoinSheet) → readJoinSheet s ≡ sheet x → y ≡ x → inputsDecision s ≡ wrote (joinAnswerText (reorderJoinKeysToInputs y sameExpr))
+  unfolding inputsDecision
+  inputs-held x y e f = rw (e, f)
+
+  -- written again, a sheet has its own bytes
+  pub key-same : (x : KeySheet) → readKeySheet s ≡ sheet x → keyAgain (readKeySheet s) ≡ wrote s
+  key-same x e = rw e (ap wrote (key-written-again s x e))
+
+  pub join-same : (x : JoinSheet) → readJoinSheet s ≡ sheet x → joinAgain (readJoinSheet s) ≡ wrote s
+  join-same x e = rw e (ap wrote (join-written-again s x e))
+
+-- a K line's seventh number, where it stands
+pub seventh : (lists : List (List ℕ)) (counts : List ℕ) → length (heldAt lists counts 0) ≡ 7 → getD (getD lists 0 []) 6 0 ≡ childCount lists counts
+unfolding heldAt
+seventh lists counts h = sym (getD-take (getD counts 0 0) (getD lists 0 []) 6 0 (omega (arith, rw length-take at h)))

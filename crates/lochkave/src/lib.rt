@@ -1,11 +1,68 @@
 // The entry points on byte slices, for C and Rust: a sheet's bytes and a lent output.
-// The result is a refusal's number × 2^32 + its line, or how many bytes were written.
+// The result is a refusal's number × 2^32 + its line, or how many bytes were written at the front of the output.
 mod again;
 
 ghost use mathlib.Core.Path.{_≡_};
 ghost use lib.ListN.{length};
 ghost use Rattle.sheet.specs.Outcomes.{answer, after};
-ghost use Rattle.lochkave.specs.Entry.{rewriteOutcome};
+ghost use Rattle.lochkave.specs.Entry.{outcome, adjustOutcome, inputsOutcome, rewriteOutcome};
+use crate::again::refusal;
+use answers::join::answer_join_sheet;
+use answers::key::answer_key_sheet;
+use sheet::sheets::Sheet;
+use sheet::sheets::read_join_sheet;
+use sheet::sheets::read_key_sheet;
+
+// Decides a K sheet.
+#[no_mangle]
+pub extern "C" fn lochkave_adjust_input_keys_ordering(sheet: &[u8], out: &mut [u8]) -> u64
+    ensures result { λ r. ⌜ r ≡ answer (adjustOutcome (now (sheet .entry)) (length (now (out .entry)))) ⌝ }
+    ensures bytes { λ _. ⌜ now (out .exit) ≡ after (adjustOutcome (now (sheet .entry)) (length (now (out .entry)))) (now (out .entry)) ⌝ }
+{
+    let mut rows = [[0u64; 2]; 192];
+    let mut lists = [[0u64; 64]; 17];
+    let mut counts = [0usize; 17];
+    let r = read_key_sheet(sheet, &mut rows, &mut lists, &mut counts);
+    if let Sheet::Refused { number, line } = r {
+        return refusal(number, line);
+    }
+    answer_key_sheet(&lists, &counts, &mut rows, out)
+}
+
+// Decides an I sheet.
+#[no_mangle]
+pub extern "C" fn lochkave_reorder_join_keys_to_inputs(sheet: &[u8], out: &mut [u8]) -> u64
+    ensures result { λ r. ⌜ r ≡ answer (inputsOutcome (now (sheet .entry)) (length (now (out .entry)))) ⌝ }
+    ensures bytes { λ _. ⌜ now (out .exit) ≡ after (inputsOutcome (now (sheet .entry)) (length (now (out .entry)))) (now (out .entry)) ⌝ }
+{
+    let mut rows = [[0u64; 2]; 192];
+    let mut lists = [[0u64; 64]; 17];
+    let mut counts = [0usize; 17];
+    let r = read_join_sheet(sheet, &mut rows, &mut lists, &mut counts);
+    if let Sheet::Refused { number, line } = r {
+        return refusal(number, line);
+    }
+    let mut v = [[0u64; 2]; 32];
+    answer_join_sheet(&lists, &counts, &mut rows, &mut v, out)
+}
+
+// Decides a sheet, whose first byte says its kind.
+#[no_mangle]
+pub extern "C" fn lochkave_decide(sheet: &[u8], out: &mut [u8]) -> u64
+    ensures result { λ r. ⌜ r ≡ answer (outcome (now (sheet .entry)) (length (now (out .entry)))) ⌝ }
+    ensures bytes { λ _. ⌜ now (out .exit) ≡ after (outcome (now (sheet .entry)) (length (now (out .entry)))) (now (out .entry)) ⌝ }
+{
+    if sheet.len() == 0 {
+        return 4294967297;
+    }
+    if sheet[0] == 75 {
+        return lochkave_adjust_input_keys_ordering(sheet, out);
+    }
+    if sheet[0] == 73 {
+        return lochkave_reorder_join_keys_to_inputs(sheet, out);
+    }
+    4294967297
+}
 
 // Reads a sheet and writes it again from what was read.
 #[no_mangle]

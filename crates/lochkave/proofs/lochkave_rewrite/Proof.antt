@@ -1,3 +1,9 @@
+-- `lochkave::lochkave_rewrite` meets its contract. By the first byte (`Entries`).
+-- Assumes nothing.
+use mathlib.Core.Path.{_≡_}
+use lib.ListN.{length}
+use Rattle.lochkave.specs.Entry.{rewriting}
+use Rattle.lochkave.proofs.Entries.{first-none, first-key, first-join, first-other}
 use borrow.Author.Needs.{needs}
 use Rattle.lochkave.proofs.lochkave_rewrite.Statement.{statement}
 use Rattle.lochkave.proofs.lochkave_rewrite.Tie as tie
@@ -6,45 +12,39 @@ use Rattle.lochkave.proofs.lochkave_rewrite.Lts as lts
 use Rattle.lochkave.proofs.again.rewrite_join_sheet.Reads as rewrite-join-sheet-reads
 use Rattle.lochkave.proofs.again.rewrite_key_sheet.Reads as rewrite-key-sheet-reads
 
--- src/lib.rt:17:9
 returns : tie.Need-returns
-returns c = ?
+unfolding rewriting
+returns c = let a = c .before .before .before .args in first-none (a .sheet .now) (a .out .now) _ _ (c .if1 .taken)
 
--- src/lib.rt:19:8
 shared-slice-read-if2 : tie.Need-shared-slice-read-if2
 shared-slice-read-if2 c = search needs
 
--- src/lib.rt:20:9
 rewrite-key-sheet-requires : tie.Need-rewrite-key-sheet-requires
 rewrite-key-sheet-requires c κs = search needs
 
--- src/lib.rt:20:9
 same-length : tie.Need-same-length
 same-length c = search needs
 
--- src/lib.rt:20:9
 returns-2 : tie.Need-returns-2
-returns-2 c = ?
+unfolding rewriting
+returns-2 c = let a = c .before .before .before .before .before .before .before .before .before .args in first-key (a .sheet .now) (a .out .now) _ _ _ _ (c .before .before .before .before .if2 .taken) (c .before .before .rewrite-key-sheet .ensures)
 
--- src/lib.rt:22:8
 shared-slice-read-if3 : tie.Need-shared-slice-read-if3
 shared-slice-read-if3 c = search needs
 
--- src/lib.rt:23:9
 rewrite-join-sheet-requires : tie.Need-rewrite-join-sheet-requires
 rewrite-join-sheet-requires c κs = search needs
 
--- src/lib.rt:23:9
 same-length-2 : tie.Need-same-length-2
 same-length-2 c = search needs
 
--- src/lib.rt:23:9
 returns-3 : tie.Need-returns-3
-returns-3 c = ?
+unfolding rewriting
+returns-3 c = let a = c .before .before .before .before .before .before .before .before .before .before .before .args in first-join (a .sheet .now) (a .out .now) _ _ _ _ (c .before .before .before .before .if3 .taken) (c .before .before .rewrite-join-sheet .ensures)
 
--- src/lib.rt:11:1
 returns-4 : tie.Need-returns-4
-returns-4 c = ?
+unfolding rewriting
+returns-4 c = let a = c .before .before .before .before .before .before .before .args in first-other (a .sheet .now) (a .out .now) _ _ (c .before .before .if2 .left) (c .if3 .left)
 
 pub lochkave-rewrite-spec : {M : Type 1} → statement M
 lochkave-rewrite-spec =

@@ -1,3 +1,17 @@
+-- `lochkave::again::rewrite_join_sheet` meets its contract. What is held is written as the sheet stood (`Entries`).
+-- Assumes nothing.
+use Prim.Native.Nat.{ℕ, _+_, _≤_, _<_}
+use mathlib.Core.Path.{_≡_, refl, sym, ap, subst, _∙_}
+use mathlib.Core.List.{List, []}
+use native.Mathlib.Omega.{arith}
+use lib.ListN.{length, getD, replicate}
+use Rattle.text.specs.Write.{Wrote}
+use Rattle.sheet.specs.KeySheets.{readJoinSheet}
+use Rattle.sheet.specs.Held.{heldText}
+use Rattle.sheet.proofs.Bounded.{join-turned-few}
+use Rattle.answers.proofs.Room.{room-written, room-short}
+use Rattle.lochkave.specs.Entry.{joinAgain}
+use Rattle.lochkave.proofs.Entries.{full-zeros, was-turned, Was, was-read, leaves-refused, join-same}
 use borrow.Author.Needs.{needs}
 use Rattle.lochkave.proofs.again.rewrite_join_sheet.Statement.{statement}
 use Rattle.lochkave.proofs.again.rewrite_join_sheet.Tie as tie
@@ -7,60 +21,73 @@ use Rattle.answers.proofs.sheet_text.put_sheet.Reads as put-sheet-reads
 use Rattle.lochkave.proofs.again.refusal.Reads as refusal-reads
 use Rattle.sheet.proofs.sheets.read_join_sheet.Reads as read-join-sheet-reads
 
--- src/again.rt:47:36
 slice-aggregate-read-join-sheet : tie.Need-slice-aggregate-read-join-sheet
 slice-aggregate-read-join-sheet c = search needs
 
--- src/again.rt:47:47
 slice-aggregate-read-join-sheet-2 : tie.Need-slice-aggregate-read-join-sheet-2
 slice-aggregate-read-join-sheet-2 c = search needs
 
--- src/again.rt:47:59
 slice-aggregate-read-join-sheet-3 : tie.Need-slice-aggregate-read-join-sheet-3
 slice-aggregate-read-join-sheet-3 c = search needs
 
--- src/again.rt:47:9
 read-join-sheet-requires : tie.Need-read-join-sheet-requires
-read-join-sheet-requires c κs = ?
+read-join-sheet-requires c κs = (omega arith, omega arith, omega arith, full-zeros 17 (replicate 64 0) refl)
 
--- src/again.rt:48:29
 enum-known-r : tie.Need-enum-known-r
 enum-known-r c = search needs
 
--- src/again.rt:49:9
 refusal-requires : tie.Need-refusal-requires
-refusal-requires c κs = ?
+refusal-requires c κs =
+    let a = c .before .before .before .before .before .before .before .before .before .before .before .before .args in
+    let q = c .before .before .before .before .before .before .read-join-sheet in
+    join-turned-few (a .sheet .now) _ _ (was-turned (readJoinSheet (a .sheet .now)) (q .result) _ _ (q .ensures .answer) (c .before .r .given .1))
 
--- src/again.rt:49:9
 returns : tie.Need-returns
-returns c = ?
+returns c =
+    let a = c .before .before .before .before .before .before .before .before .before .before .before .before .before .args in
+    let q = c .before .before .before .before .before .before .before .read-join-sheet in
+    leaves-refused (joinAgain (readJoinSheet (a .sheet .now))) (a .out .now) _ _ _
+    (ap joinAgain (was-turned (readJoinSheet (a .sheet .now)) (q .result) _ _ (q .ensures .answer) (c .before .before .r .given .1))) (c .refusal .ensures)
 
 enum-told : tie.Need-enum-told
 enum-told c = search needs
 
--- src/again.rt:52:9
-returns-2 : tie.Need-returns-2
-returns-2 c = ?
+-- the sheet that was read
+was : (c : tie.After-enum-told) → Was (readJoinSheet (c .before .before .before .before .before .before .before .before .before .before .before .args .sheet .now))
+was c = let q = c .before .before .before .before .before .read-join-sheet in was-read (readJoinSheet (c .before .before .before .before .before .before .before .before .before .before .before .args .sheet .now)) (q .result) (q .ensures .answer) (c .enum-told .given .1)
 
--- src/again.rt:54:40
+returns-2 : tie.Need-returns-2
+returns-2 c =
+    let a = c .before .before .before .before .before .before .before .before .before .before .before .before .args in
+    let w = was (c .before) in
+    rw (join-same (a .sheet .now) (w .x) (w .is)) (room-short (a .out .now) (a .sheet .now) (c .if1 .taken))
+
 slice-aggregate-put-sheet : tie.Need-slice-aggregate-put-sheet
 slice-aggregate-put-sheet c = search needs
 
--- src/again.rt:54:48
 slice-aggregate-put-sheet-2 : tie.Need-slice-aggregate-put-sheet-2
 slice-aggregate-put-sheet-2 c = search needs
 
--- src/again.rt:54:5
 put-sheet-requires : tie.Need-put-sheet-requires
-put-sheet-requires c κs = ?
+put-sheet-requires c κs =
+    let d = c .before .before .before .before in
+    let a = c .before .before .before .before .before .before .before .before .before .before .before .before .before .before .before .args in
+    let q = d .before .before .before .before .before .read-join-sheet in
+    let w = was d in
+    let h = q .ensures .held (w .x) (w .is) .0 in
+    (omega (arith, h .lines .0), omega (arith, h .lines .1), λ i e. h .room i e, rw (q .ensures .again (w .x) (w .is)) (c .before .before .before .if1 .left))
 
--- src/again.rt:40:1
 same-length : tie.Need-same-length
 same-length c = search needs
 
--- src/again.rt:40:1
 returns-3 : tie.Need-returns-3
-returns-3 c = ?
+returns-3 c =
+    let d = c .before .before .before .before .before .before .before in
+    let a = c .before .before .before .before .before .before .before .before .before .before .before .before .before .before .before .before .before .before .args in
+    let q = d .before .before .before .before .before .read-join-sheet in
+    let w = was d in
+    rw (join-same (a .sheet .now) (w .x) (w .is))
+    (room-written (a .out .now) (a .sheet .now) (c .before .before .before .before .before .before .if1 .left) _ _ (rw (q .ensures .again (w .x) (w .is)) at (c .before .before .put-sheet .ensures)))
 
 pub rewrite-join-sheet-spec : {M : Type 1} → statement M
 rewrite-join-sheet-spec =
