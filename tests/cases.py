@@ -358,30 +358,35 @@ case("G one longer than L", HASH, line(4, "G,0,5,0,0,6,1"), "e,5,0", "row 5")
 case("L and no G", HASH, line(4, "G"), "e,5,0", "row 5")
 case("no direction for one pair", MERGE, line(5, "S"), "e,5,0", "row 5")
 case("two directions for one pair", MERGE, line(5, "S,0,0"), "e,5,0", "row 5")
-case("a direction of a hash join", HASH, line(5, "S,0"), "e,5,0", "row 5")
-case("a direction of op 6", NOTHING, line(5, "S,0"), "e,5,0", "row 5")
 USED = both(line(3, "L,0,1,0"), line(4, "G,0,5,0"))
-for name, base in [("op 6", NOTHING), ("op 5", ONE), ("op 4", PROJECTION), ("op 3", GROUPS)]:
-    case(f"pairs of {name}", base, USED, "e,5,0", '"L, G and W ops 0 (Partitioned) and 2"')
+RULE = line(6, "W,0,9,0,0,8,0")
+for op, count in [(0, 2), (1, 2), (2, 2), (3, 1), (4, 1), (5, 1), (6, 0)]:
+    base = f"K,{op},0,0,0,0,0,{count} R L G S W O A M" + " C" * count
+    case(f"a direction and no pair, op {op}", base, line(5, "S,0"), "e,5,0", "row 5")
+    if op not in (0, 2):
+        case(f"pairs of op {op}", base, USED, "e,5,0", '"L, G and W ops 0 (Partitioned) and 2"')
+        case(f"W of op {op}", base, RULE, "e,5,0", '"L, G and W ops 0 (Partitioned) and 2"')
+    if op != 3:
+        case(f"O of op {op}", base, line(7, "O,1"), "e,5,0", '"O and A op 3"')
+        case(f"A of op {op}", base, line(8, "A,1"), "e,5,0", '"O and A op 3"')
+    if op != 4:
+        case(f"M of op {op}", base, line(9, "M,0,1,0"), "e,5,0", '"M op 4"')
 for mode in (1, 2):
-    case(f"pairs of a hash join of mode {mode}", JOIN, both(line(1, f"K,0,{mode},0,0,0,0,2"), USED), "e,5,0", '"L, G and W ops 0 (Partitioned) and 2"')
-    case(f"W of a hash join of mode {mode}", JOIN, both(line(1, f"K,0,{mode},0,0,0,0,2"), line(6, "W,0,9,0,0,8,0")), "e,5,0", '"L, G and W ops 0 (Partitioned) and 2"')
-case("pairs of a cross join", JOIN, both(line(1, "K,1,0,0,0,0,0,2"), USED), "e,5,0", '"L, G and W ops 0 (Partitioned) and 2"')
-case("W of op 6", NOTHING, line(6, "W,0,9,0,0,8,0"), "e,5,0", '"L, G and W ops 0 (Partitioned) and 2"')
-case("W of an aggregate", GROUPS, line(6, "W,0,9,0,0,8,0"), "e,5,0", '"L, G and W ops 0 (Partitioned) and 2"')
-for name, base in [("op 6", NOTHING), ("a hash join", HASH), ("a merge join", MERGE), ("op 5", ONE), ("a projection", PROJECTION)]:
-    case(f"O of {name}", base, line(7, "O,1"), "e,5,0", '"O and A op 3"')
-    case(f"A of {name}", base, line(8, "A,1"), "e,5,0", '"O and A op 3"')
-for name, base in [("op 6", NOTHING), ("a hash join", HASH), ("a merge join", MERGE), ("op 5", ONE), ("an aggregate", GROUPS)]:
-    case(f"M of {name}", base, line(9, "M,0,1,0"), "e,5,0", '"M op 4"')
+    base = f"K,0,{mode},0,0,0,0,2 R L G S W O A M C C"
+    case(f"pairs of a hash join of mode {mode}", base, USED, "e,5,0", '"L, G and W ops 0 (Partitioned) and 2"')
+    case(f"W of a hash join of mode {mode}", base, RULE, "e,5,0", '"L, G and W ops 0 (Partitioned) and 2"')
+case("a direction of a hash join", HASH, line(5, "S,0"), "e,5,0", "row 5")
 case("M of a projection", PROJECTION, line(9, "M,0,1,0"), ONE_CLEARED, '"else R is cleared and the child\'s list stays"')
 case("mark 0 of H and a key", SIDES, line(5, "H,0,0,1,0"), "e,5,0", "row 5, decision 9")
 case("mark 0 of N and a key", SIDES, line(6, "N,0,0,1,0"), "e,5,0", "row 5, decision 9")
-case("an I sheet's L one longer than G", INPUT, line(2, "L,0,1,0,0,2,1,0,3,2"), "e,5,0", "row 5")
-case("an I sheet's G one shorter than L", INPUT, line(3, "G,0,5,0"), "e,5,0", "row 5")
+case("an I sheet's L and no G", SIDES, line(2, "L,0,1,0"), "e,5,0", "row 5")
+case("an I sheet's G and no L", SIDES, line(3, "G,0,5,0"), "e,5,0", "row 5")
 case("no direction for an I sheet's two pairs", INPUT, line(4, "S"), "e,5,0", "row 5")
 case("one direction for an I sheet's two pairs", INPUT, line(4, "S,1"), "e,5,0", "row 5")
+case("three directions for an I sheet's two pairs", INPUT, line(4, "S,1,2,3"), "e,5,0", "row 5")
 case("directions of an I sheet of op 0", INPUT, line(1, "I,0,0"), "e,5,0", "row 5")
+for op in range(7):
+    case(f"a direction and no pair, I of op {op}", SIDES, both(line(1, f"I,{op},0"), line(4, "S,0")), "e,5,0", "row 5")
 case("every list of an I sheet of op 6 but S", "I,6,0 L,0,1,0 G,0,5,0 S H,1,0,1,0 N,1,0,5,0 W,0,9,0,0,8,0 V,0,9,0,0,8,0", same, "i,0,0 P L,0,1,0 G,0,5,0 S", '"all but S serve every op"')
 
 # Row 6: child count unfit for the operator.
