@@ -23,8 +23,8 @@
  *
  * An output of 65,536 bytes always suffices. Sheets, answers and refusals are described in docs/DECISIONS.md and examples/README.md.
  *
- * The functions always return. They keep no state, allocate nothing and call nothing outside the library; several threads may call them at
- * once, each with an output of its own.
+ * The functions always return. They keep no state, allocate nothing and read and write nothing but the bytes lent; several threads may call
+ * them at once, each with an output of its own.
  */
 #ifndef LOCHKAVE_H
 #define LOCHKAVE_H
