@@ -2,7 +2,9 @@
 //! See docs/SPEED.md.
 
 mod common;
+mod deciding;
 mod ordering;
+mod plain;
 mod proved;
 mod race;
 mod reading;
@@ -18,7 +20,8 @@ const COMPARED: usize = 1_000_000;
 fn compare() -> Result<(), String> {
     reading::compare(&mut Random::new(1), COMPARED)?;
     writing::compare(&mut Random::new(2), COMPARED)?;
-    ordering::compare(&mut Random::new(3), COMPARED)
+    ordering::compare(&mut Random::new(3), COMPARED)?;
+    deciding::compare(&mut Random::new(7), COMPARED)
 }
 
 fn main() -> ExitCode {
@@ -29,5 +32,6 @@ fn main() -> ExitCode {
     reading::race(&mut Random::new(4));
     writing::race(&mut Random::new(5));
     ordering::race(&mut Random::new(6));
+    deciding::race(&mut Random::new(8));
     ExitCode::SUCCESS
 }

@@ -249,11 +249,9 @@ pub fn compare(random: &mut Random, sheets: usize) -> Result<(), String> {
             out
         };
         let mut keys = (Keys::of([].into_iter()), Keys::of([].into_iter()));
-        let third = on_arrays(
-            &case.w, &case.r, &case.l, &case.g, &mut keys.0, &mut keys.1,
-        );
-        let arrays_differ = third != report
-            || (report == 2 && (keys.0.slice() != left || keys.1.slice() != right));
+        let third = on_arrays(&case.w, &case.r, &case.l, &case.g, &mut keys.0, &mut keys.1);
+        let arrays_differ =
+            third != report || (report == 2 && (keys.0.slice() != left || keys.1.slice() != right));
         if ours != report || a != expected(&left) || b != expected(&right) || arrays_differ {
             return Err(format!(
                 "ordering {:?} {:?} {:?} {:?}: proved {ours}, plain {report} {third}",
@@ -337,9 +335,8 @@ pub fn race(random: &mut Random) {
                             cases
                                 .iter()
                                 .map(|c| {
-                                    let report = on_arrays(
-                                        &c.w, &c.r, &c.l, &c.g, &mut keys.0, &mut keys.1,
-                                    );
+                                    let report =
+                                        on_arrays(&c.w, &c.r, &c.l, &c.g, &mut keys.0, &mut keys.1);
                                     report + keys.0.items[n - 1].name as u64
                                 })
                                 .sum()

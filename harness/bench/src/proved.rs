@@ -1,4 +1,4 @@
-//! The proved functions, as `libbench.a` exports them. Nothing checks these declarations against
+//! The proved functions, as `libbench.a` and `liblochkave.a` export them. Nothing checks these declarations against
 //! the Rattle source; the comparing runs do.
 
 /// A line that was found: the place after it, the number of its fields, the largest of their states
@@ -95,4 +95,14 @@ pub fn try_reorder(
             32,
         )
     }
+}
+
+extern "C" {
+    fn lochkave_decide(sheet: *const u8, sheet_len: usize, out: *mut u8, out_len: usize) -> u64;
+}
+
+/// A refusal's number times 2^32 plus its line, or the count of bytes written.
+pub fn decide(sheet: &[u8], out: &mut [u8]) -> u64 {
+    // Sound for any slices: the contract has no `requires`.
+    unsafe { lochkave_decide(sheet.as_ptr(), sheet.len(), out.as_mut_ptr(), out.len()) }
 }

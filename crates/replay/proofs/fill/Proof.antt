@@ -1,0 +1,48 @@
+-- `replay::fill` is safe and ends.
+use mathlib.Core.Path.{_≡_}
+use lib.ListN.{length}
+use Prim.Native.Nat.{_-_}
+use borrow.Author.Needs.{needs}
+use Rattle.replay.proofs.fill.Statement.{statement}
+use Rattle.replay.proofs.fill.Tie as tie
+
+abbrev Inv-loop : tie.InvT-loop
+Inv-loop room₀ i₀ room i = length room ≡ length room₀
+
+abbrev μ-loop : tie.MeasureT-loop
+μ-loop room₀ i₀ room i = length room₀ - i
+
+loop-holds : tie.Need-loop-holds Inv-loop μ-loop
+loop-holds c = search needs
+
+slice-write-room : tie.Need-slice-write-room Inv-loop μ-loop
+slice-write-room c = search needs
+
+add-i : tie.Need-add-i Inv-loop μ-loop
+add-i c = search needs
+
+loop-less : tie.Need-loop-less Inv-loop μ-loop
+loop-less c = search needs
+
+loop-again : tie.Need-loop-again Inv-loop μ-loop
+loop-again c = search needs
+
+same-length : tie.Need-same-length Inv-loop μ-loop
+same-length c = search needs
+
+returns : tie.Need-returns Inv-loop μ-loop
+returns c = tt
+
+pub fill-spec : {M : Type 1} → statement M
+fill-spec =
+    tie.close
+    (tie.spec
+    Inv-loop
+    μ-loop
+    loop-holds
+    slice-write-room
+    add-i
+    loop-less
+    loop-again
+    same-length
+    returns)

@@ -1,0 +1,59 @@
+/*
+ * Lochkave: decisions on sheets, from bytes to bytes. Link target/staticlib/liblochkave.a, which `rt staticlib lochkave` writes.
+ *
+ * Every function takes a sheet of `sheet_len` bytes and an output of `out_len` bytes. The two must not overlap. A length may be 0; the
+ * pointer is then not read, but must not be null. Any bytes may be handed over as a sheet.
+ *
+ * The result is number x 2^32 + line:
+ *
+ *   number 0     the sheet is decided. The lower half of the result is not a line but a count: so many bytes of the answer stand at the
+ *                front of `out`. Every byte of `out` behind them is as it was.
+ *   number > 0   the sheet is refused, and every byte of `out` is as it was. Line 1 is the sheet's first; line 0 where no line is to blame.
+ *
+ * Refusals. Of several the lowest line counts, and on it the lowest number; then those of line 0, in this order:
+ *
+ *    1   wrong, missing or extra line, or a line without LF. A missing line is the line after the last.
+ *    2   malformed field, wrong number of fields, a number over the field's largest
+ *    3   more than 32 entries, 8 children or 65,536 bytes. Bytes beyond 65,536 count as the line that holds the first of them.
+ *    4   undefined code, mark, direction or expression
+ *    6   child count unfit for the operator
+ *    5   line 0: L and G differ in length, S doesn't fit L, or a list that isn't used has entries
+ *   10   line 0: a name for J isn't found
+ *   12   line 0: the answer is longer than `out_len`
+ *
+ * An output of 65,536 bytes always suffices. Sheets, answers and refusals are described in docs/DECISIONS.md and examples/README.md.
+ *
+ * The functions always return. They keep no state, allocate nothing and read and write nothing but the bytes lent; several threads may call
+ * them at once, each with an output of its own.
+ */
+#ifndef LOCHKAVE_H
+#define LOCHKAVE_H
+
+#include <stddef.h>
+#include <stdint.h>
+
+#ifdef __cplusplus
+extern "C" {
+#endif
+
+/* Decides a K or an I sheet. Any other first line is refusal 1 on line 1. */
+uint64_t lochkave_decide(const uint8_t *sheet, size_t sheet_len, uint8_t *out, size_t out_len);
+
+/* Decides a K sheet: `adjust_input_keys_ordering`. Any other first line is refusal 1 on line 1. */
+uint64_t lochkave_adjust_input_keys_ordering(const uint8_t *sheet, size_t sheet_len, uint8_t *out, size_t out_len);
+
+/* Decides an I sheet: `reorder_join_keys_to_inputs`. Any other first line is refusal 1 on line 1. It never gives refusals 6 and 10. */
+uint64_t lochkave_reorder_join_keys_to_inputs(const uint8_t *sheet, size_t sheet_len, uint8_t *out, size_t out_len);
+
+/* Reads a K or an I sheet and writes it again from what was read: the same bytes. Refusals 1 to 6 and 12 only. */
+uint64_t lochkave_rewrite(const uint8_t *sheet, size_t sheet_len, uint8_t *out, size_t out_len);
+
+/* The two halves of a result. */
+static inline uint32_t lochkave_number(uint64_t result) { return (uint32_t)(result >> 32); }
+static inline uint32_t lochkave_line(uint64_t result) { return (uint32_t)result; }
+
+#ifdef __cplusplus
+}
+#endif
+
+#endif
