@@ -2,7 +2,7 @@
 -- Assumes nothing.
 use Prim.Native.Nat.{ℕ, _-_, _*_, _%_, _≤_, _<_}
 use mathlib.Core.Path.{_≡_, refl}
-use mathlib.Core.Bool.{true, false, cond}
+use mathlib.Core.Bool.{Bool, true, false, cond}
 use mathlib.Core.List.{List, [], _∷_}
 use mathlib.Core.Logic.{⊎-elim}
 use native.Mathlib.Omega.{arith}
@@ -14,7 +14,7 @@ use denote.Enum.Declared.{tagOf}
 use Rattle.text.specs.Text.{number}
 use Rattle.sheet.specs.Lines.{wholeEntries, lineNumber}
 use Rattle.sheet.specs.KeyLines.{fitChildren}
-use Rattle.sheet.specs.Reading.{headCount, entryWidth, undefinedBy, undefinedKey, codesNumber, countsNumber}
+use Rattle.sheet.specs.Reading.{headCount, entryWidth, undefinedBy, undefinedKey, codesNumber, countsRight, fieldsNumber, sizeNumber, firstNumber, countsNumber}
 use Rattle.sheet.specs.declared.kind.Codes.{Codes}
 use Rattle.sheet.specs.declared.kind.Codes.the-variants.{Key, Join, Exprs, Rules, Input, Directions, Names}
 use Rattle.sheet.proofs.kind.Codes as C
@@ -52,32 +52,43 @@ entries-none width n e = rw e
 pub entries-some : (width n : ℕ) → (width ≡ 0 → ⊥) → eqb (n % width) 0 ≡ wholeEntries width n
 entries-some width n h = rw (ne-eqb width 0 h)
 
-module _ (c : Codes) (count worst largest next : ℕ) where
+module _ (c : Codes) (count worst largest : ℕ) where
   abbrev N : ℕ
-  N = countsNumber c count worst largest next
+  N = fieldsNumber c count worst largest
 
-  pub counts-short : count < headCount c → 2 ≡ N
-  counts-short h = rw (lt-leb (headCount c) count h)
+  pub fields-short : count < headCount c → 2 ≡ N
+  fields-short h = rw (lt-leb (headCount c) count h)
 
   module _ (a : headCount c ≤ count) where
-    pub counts-state : 0 < worst → 2 ≡ N
-    counts-state h = rw (le-leb (headCount c) count a, lt-leb worst 0 h)
+    pub fields-state : 0 < worst → 2 ≡ N
+    fields-state h = rw (le-leb (headCount c) count a, lt-leb worst 0 h)
 
     module _ (b : worst ≤ 0) where
-      pub counts-value : 65535 < largest → 2 ≡ N
-      counts-value h = rw (le-leb (headCount c) count a, le-leb worst 0 b, lt-leb largest 65535 h)
+      pub fields-value : 65535 < largest → 2 ≡ N
+      fields-value h = rw (le-leb (headCount c) count a, le-leb worst 0 b, lt-leb largest 65535 h)
 
       module _ (d : largest ≤ 65535) where
-        pub counts-broken : wholeEntries (entryWidth c) (count - headCount c) ≡ false → 2 ≡ N
-        counts-broken e = rw (le-leb (headCount c) count a, le-leb worst 0 b, le-leb largest 65535 d, e)
+        pub fields-broken : wholeEntries (entryWidth c) (count - headCount c) ≡ false → 2 ≡ N
+        fields-broken e = rw (le-leb (headCount c) count a, le-leb worst 0 b, le-leb largest 65535 d, e)
 
-        module _ (e : wholeEntries (entryWidth c) (count - headCount c) ≡ true) where
-          pub counts-far : 65536 < next → 3 ≡ N
-          counts-far h = rw (le-leb (headCount c) count a, le-leb worst 0 b, le-leb largest 65535 d, e, lt-ltb 65536 next h)
+        pub fields-good : wholeEntries (entryWidth c) (count - headCount c) ≡ true → 0 ≡ N
+        fields-good e = rw (le-leb (headCount c) count a, le-leb worst 0 b, le-leb largest 65535 d, e)
 
-          module _ (f : next ≤ 65536) where
-            pub counts-many : 32 * entryWidth c < count - headCount c → 3 ≡ N
-            counts-many h = rw (le-leb (headCount c) count a, le-leb worst 0 b, le-leb largest 65535 d, e, le-ltb 65536 next f, lt-ltb (32 * entryWidth c) (count - headCount c) h)
+module _ (c : Codes) (count next : ℕ) where
+  pub size-far : 65536 < next → 3 ≡ sizeNumber c count next
+  size-far h = rw (lt-ltb 65536 next h)
 
-            pub counts-good : count - headCount c ≤ 32 * entryWidth c → 0 ≡ N
-            counts-good h = rw (le-leb (headCount c) count a, le-leb worst 0 b, le-leb largest 65535 d, e, le-ltb 65536 next f, le-ltb (32 * entryWidth c) (count - headCount c) h)
+  module _ (f : next ≤ 65536) where
+    pub size-many : 32 * entryWidth c < count - headCount c → 3 ≡ sizeNumber c count next
+    size-many h = rw (le-ltb 65536 next f, lt-ltb (32 * entryWidth c) (count - headCount c) h)
+
+    pub size-good : count - headCount c ≤ 32 * entryWidth c → 0 ≡ sizeNumber c count next
+    size-good h = rw (le-ltb 65536 next f, le-ltb (32 * entryWidth c) (count - headCount c) h)
+
+-- 2 comes before 3
+lowest·at : (t : Bool) (n : ℕ) → firstNumber (cond t 0 2) n ≡ cond t n 2
+lowest·at true n = refl
+lowest·at false n = refl
+
+pub counts-first : (c : Codes) (count worst largest next : ℕ) → firstNumber (fieldsNumber c count worst largest) (sizeNumber c count next) ≡ countsNumber c count worst largest next
+counts-first c count worst largest next = lowest·at (countsRight c count worst largest) (sizeNumber c count next)

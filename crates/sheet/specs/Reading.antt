@@ -86,12 +86,25 @@ unfitBy Names ns = false
 abbrev pub codesNumber : Codes → List ℕ → ℕ
 codesNumber c ns = cond (largeBy c ns) 3 (cond (undefinedBy c ns) 4 (cond (unfitBy c ns) 6 0))
 
--- the number that its count of fields, their largest state and value, and the place after it give it: 2, 3, or 0
+-- as many fields as a kind has and whole entries, each a number within its bound
+abbrev pub countsRight : Codes → ℕ → ℕ → ℕ → Bool
+countsRight c count worst largest = leb (headCount c) count && ((leb worst 0 && leb largest 65535) && wholeEntries (entryWidth c) (count - headCount c))
+
+-- 2 by its count of fields and their largest state and value, or 0
+abbrev pub fieldsNumber : Codes → ℕ → ℕ → ℕ → ℕ
+fieldsNumber c count worst largest = cond (countsRight c count worst largest) 0 2
+
+-- 3 by its count of fields and the place after it, or 0
+abbrev pub sizeNumber : Codes → ℕ → ℕ → ℕ
+sizeNumber c count next = cond (ltb mostBytes next || ltb (mostEntries * entryWidth c) (count - headCount c)) 3 0
+
+-- the first, or where it is 0 the second
+abbrev pub firstNumber : ℕ → ℕ → ℕ
+firstNumber a b = cond (eqb a 0) b a
+
+-- the number that its counts give it: 2, 3, or 0
 abbrev pub countsNumber : Codes → ℕ → ℕ → ℕ → ℕ → ℕ
-countsNumber c count worst largest next =
-    cond (leb (headCount c) count && ((leb worst 0 && leb largest 65535) && wholeEntries (entryWidth c) (count - headCount c)))
-    (cond (ltb mostBytes next || ltb (mostEntries * entryWidth c) (count - headCount c)) 3 0)
-    2
+countsNumber c count worst largest next = cond (countsRight c count worst largest) (sizeNumber c count next) 2
 
 -- as many fields as a kind has
 abbrev pub Whole : Codes → ℕ → Type 0

@@ -3,7 +3,7 @@ ghost use mathlib.Core.Path.{_≡_};
 ghost use Prim.Native.Nat.{_≤_};
 ghost use lib.ListN.{length, drop};
 ghost use Rattle.sheet.specs.KeyLines.{definedExpr, undefinedExprs, over, definedMode, definedJoin, fitChildren};
-ghost use Rattle.sheet.specs.Reading.{headCount, entryWidth, rowValues, undefinedBy, undefinedKey, undefinedJoin, undefinedInput, countsNumber, codesNumber, Whole};
+ghost use Rattle.sheet.specs.Reading.{headCount, entryWidth, rowValues, undefinedBy, undefinedKey, undefinedJoin, undefinedInput, fieldsNumber, sizeNumber, firstNumber, countsNumber, codesNumber, Whole};
 ghost use Rattle.sheet.specs.Lines.{wholeEntries};
 
 // What is asked of a line's fields: the K line, the I line, expressions, rules, a mark and expressions, directions, names.
@@ -193,9 +193,9 @@ fn whole_entries(width: usize, n: usize) -> bool
     n % width == 0
 }
 
-// The number that a line's count of fields, their largest state and value, and the place after it give it: 2, 3, or 0.
-pub fn judge_counts(c: Codes, count: usize, worst: u64, largest: u64, next: usize) -> u64
-    ensures { λ r. ⌜ r ≡ countsNumber c count worst largest next ⌝ }
+// Number 2 of a line, by its count of fields and their largest state and value; or 0.
+fn fields_number(c: Codes, count: usize, worst: u64, largest: u64) -> u64
+    ensures { λ r. ⌜ r ≡ fieldsNumber c count worst largest ⌝ }
 {
     let h = heads(c);
     let w = width(c);
@@ -208,17 +208,47 @@ pub fn judge_counts(c: Codes, count: usize, worst: u64, largest: u64, next: usiz
     if largest > 65535 {
         return 2;
     }
-    let rest = count - h;
-    if !whole_entries(w, rest) {
+    if !whole_entries(w, count - h) {
         return 2;
     }
+    0
+}
+
+// Number 3 of a line, by its count of fields and the place after it; or 0.
+fn size_number(c: Codes, count: usize, next: usize) -> u64
+    ensures { λ r. ⌜ r ≡ sizeNumber c count next ⌝ }
+{
+    let h = heads(c);
+    let w = width(c);
     if next > 65536 {
         return 3;
     }
-    if rest > 32 * w {
+    if count < h {
+        return 0;
+    }
+    if count - h > 32 * w {
         return 3;
     }
     0
+}
+
+// The first, or where it is 0 the second.
+fn first_number(first: u64, second: u64) -> u64
+    ensures { λ r. ⌜ r ≡ firstNumber first second ⌝ }
+{
+    if first != 0 {
+        return first;
+    }
+    second
+}
+
+// The number that a line's count of fields, their largest state and value, and the place after it give it: 2, 3, or 0.
+pub fn judge_counts(c: Codes, count: usize, worst: u64, largest: u64, next: usize) -> u64
+    ensures { λ r. ⌜ r ≡ countsNumber c count worst largest next ⌝ }
+{
+    let two = fields_number(c, count, worst, largest);
+    let three = size_number(c, count, next);
+    first_number(two, three)
 }
 
 fn judge_key(rows: &[[u64; 2]]) -> u64
