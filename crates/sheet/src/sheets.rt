@@ -44,8 +44,8 @@ pub fn read_join_sheet(
     ensures { λ r. ⌜ JoinRead (now (s .entry)) r (now (lists .exit)) (now (counts .exit)) ⌝ }
 {
     let t = read_whole(s, SheetKind::Join, rows, lists, counts);
-    if let Lines::Refused { number, line } = t {
-        return Sheet::Refused { number, line };
+    if let Lines::Refused { number: n, line: l } = t {
+        return Sheet::Refused { number: n, line: l };
     }
     if !join_lists_fit(lists[0][0], counts, lists[4][0], lists[5][0]) {
         return Sheet::Refused { number: 5, line: 0 };
