@@ -8,7 +8,7 @@ use borrow.Author.Tests.{lt-ltb, le-ltb}
 use lib.ListN.{length, drop}
 use lib.Seq.{sets-eq}
 use Rattle.text.specs.Write.{Wrote}
-use Rattle.sheet.specs.KeyAnswers.{refused, wrote}
+use Rattle.sheet.specs.KeyAnswers.{wrote}
 use Rattle.sheet.specs.Outcomes.{answer, after, within}
 
 module _ (out text : List ℕ) where

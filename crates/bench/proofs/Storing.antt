@@ -1,12 +1,12 @@
 -- Storing a list from a place on, turn by turn; and the benchmark's answers by the tests that its code makes.
 -- Assumes nothing.
-use Prim.Native.Nat.{ℕ, suc, _+_, _≤_, _<_}
-use mathlib.Core.Path.{_≡_, refl, sym, ap, _∙_}
-use mathlib.Core.List.{List, []}
+use Prim.Native.Nat.{ℕ, _+_, _≤_, _<_}
+use mathlib.Core.Path.{_≡_, sym, ap, _∙_}
+use mathlib.Core.List.{List}
 use native.Mathlib.Numerals.{add-one}
 use lib.ListN.{length, getD, drop, set, drop-of-length-le}
 use lib.Seq.{sets, drop-cons}
-use mathlib.Core.Bool.{Bool, true, false}
+use mathlib.Core.Bool.{true, false}
 use borrow.Author.Tests.{le-leb, lt-leb, eq-eqb, ne-eqb}
 use Rattle.keys.specs.Reorder.{Tried}
 use Rattle.keys.specs.Values.{packedKeys, reportOf, resulting, triedOf}

@@ -1,11 +1,11 @@
 -- What an entry point returns and leaves, by what was read of the sheet.
 -- Assumes nothing.
-use Prim.Native.Nat.{ℕ, zero, suc, _+_, _*_, _≤_, _<_}
-use mathlib.Core.Path.{_≡_, refl, sym, ap, _∙_}
+use Prim.Native.Nat.{ℕ, zero, suc, _+_, _*_}
+use mathlib.Core.Path.{_≡_, refl, sym, ap}
 use mathlib.Core.Bool.{cond}
 use mathlib.Core.List.{List, [], _∷_}
 use native.Mathlib.Omega.{arith}
-use borrow.Author.Tests.{eq-eqb, ne-eqb}
+use borrow.Author.Tests.{ne-eqb}
 use lib.Dec.{eqb}
 use lib.ListN.{length, getD, replicate, length-take}
 use lib.Seq.{getD-take}
@@ -13,7 +13,7 @@ use Rattle.keys.specs.Adjust.{KeySheet, adjustInputKeysOrdering}
 use Rattle.keys.specs.Inputs.{JoinSheet, reorderJoinKeysToInputs}
 use Rattle.keys.specs.Expressions.{sameExpr}
 use Rattle.sheet.specs.KeySheets.{Reading, sheet, turned, readKeySheet, readJoinSheet}
-use Rattle.sheet.specs.KeyAnswers.{Outcome, refused, wrote, joinAnswerText, adjusted, adjustDecision, inputsDecision, decision}
+use Rattle.sheet.specs.KeyAnswers.{Outcome, refused, wrote, joinAnswerText, adjusted, adjustDecision, inputsDecision}
 use Rattle.sheet.specs.Outcomes.{answer, after, within}
 use Rattle.sheet.specs.Held.{heldAt, childCount}
 use Rattle.sheet.specs.SheetLines.{Full}

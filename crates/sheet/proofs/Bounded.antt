@@ -1,7 +1,7 @@
 -- A refusal's number is at most 6 and its line at most 18, so both go into one number of 64 bits.
 -- Assumes nothing.
-use Prim.Native.Nat.{ℕ, zero, suc, _+_, _≤_, _<_}
-use mathlib.Core.Path.{_≡_, refl, sym, ap, _∙_}
+use Prim.Native.Nat.{ℕ, suc, _+_, _≤_}
+use mathlib.Core.Path.{_≡_, refl, sym, _∙_}
 use mathlib.Core.Bool.{Bool, true, false, cond, _||_}
 use mathlib.Core.Option.{Option, none, some}
 use mathlib.Core.List.{List, [], _∷_, tail}
@@ -11,13 +11,10 @@ use lib.Dec.{eqb, ltb}
 use lib.ListN.{length, drop}
 use Rattle.text.specs.Text.{Field, parts}
 use Rattle.text.specs.Lines.{firstOf, nextOf}
-use Rattle.keys.specs.Adjust.{KeySheet}
-use Rattle.keys.specs.Inputs.{JoinSheet}
 use Rattle.sheet.specs.Lines.{Kind, Run, read, refused, before, mostBytes, fieldsFit, tooManyEntries, lineNumber, fieldsOf, atEnd}
 use Rattle.sheet.specs.KeyLines.{at, keyLine}
 use Rattle.sheet.specs.KeySheets.{Reading, sheet, turned, ended, keyListsFit, keySheetOf, keyWhole, joinListsFit, joinSheetOf, joinWhole, headOf, readKeySheet, readJoinSheet}
 use Rattle.sheet.specs.SheetLines.{inTurn, lineKinds, wholeLines}
-use Rattle.sheet.specs.declared.lists.SheetKind.{SheetKind}
 use Rattle.sheet.specs.declared.lists.SheetKind.the-variants.{Key, Join}
 use Rattle.sheet.proofs.Chained.{wholeRows}
 use Rattle.sheet.proofs.KeyAccepted.{stagesOfKey, stagesOfInput}

@@ -1,29 +1,24 @@
 -- The rows of a sheet that was read: how many they are, and what is held of them.
 -- Assumes nothing.
-use Prim.Native.Nat.{ℕ, zero, suc, _+_, _-_, _*_, _/_, _%_, _≤_, _<_}
-use mathlib.Core.Path.{_≡_, refl, sym, ap, _∙_}
+use Prim.Native.Nat.{ℕ, zero, suc, _+_, _-_, _≤_, _<_}
+use mathlib.Core.Path.{_≡_, refl, ap, _∙_}
 use mathlib.Core.Bool.{Bool, true, false, cond}
 use mathlib.Core.Option.{Option}
-use mathlib.Core.List.{List, [], _∷_, _++_, map, append-nil, tail}
+use mathlib.Core.List.{List, [], _∷_, _++_, tail}
 use native.Mathlib.Omega.{arith}
 use borrow.Author.Tests.{ne-eqb}
 use lib.Dec.{eqb}
-use lib.ListN.{length, getD, take, drop, replicate, length-map}
-use lib.Seq.{getD-drop, drop-cons, drop-drop}
-use Rattle.text.specs.Text.{Field, parts, valueOf}
+use lib.ListN.{length, replicate}
+use Rattle.text.specs.Text.{Field, parts}
 use Rattle.text.specs.Lines.{firstOf, nextOf}
-use Rattle.keys.specs.Expressions.{Expression, expression, expressions, rules}
 use Rattle.sheet.specs.Lines.{Kind, Run, read, refused, before, lineNumber, fieldsOf}
-use Rattle.sheet.specs.KeyLines.{at, values, exprLine, keyStages}
-use Rattle.sheet.specs.KeySheets.{exprs, rulesOf, headOf}
-use Rattle.sheet.specs.Reading.{packs, packedBy, Small}
-use Rattle.sheet.specs.ListLines.{lineCodes, lineKind, lineLetter}
-use Rattle.sheet.specs.Refusals.{kindsOf, keyKinds, joinKinds}
-use Rattle.sheet.specs.Held.{heldAt, pairRows, exprLists}
-use Rattle.sheet.specs.SheetLines.{inTurn, lineKinds, lineCount, wholeLines, HeldLine}
+use Rattle.sheet.specs.KeyLines.{at, exprLine}
+use Rattle.sheet.specs.KeySheets.{headOf}
+use Rattle.sheet.specs.ListLines.{lineKind}
+use Rattle.sheet.specs.Refusals.{keyKinds, joinKinds}
+use Rattle.sheet.specs.SheetLines.{inTurn, lineKinds, lineCount, wholeLines}
 use Rattle.sheet.specs.declared.lists.SheetKind.{SheetKind}
 use Rattle.sheet.specs.declared.lists.SheetKind.the-variants.{Key, Join}
-use Rattle.sheet.proofs.Packing.{packs-exprs}
 
 -- ---- the kinds of a sheet's lines
 

@@ -1,8 +1,8 @@
 -- The sheet that rows make is the one that is held.
 -- Assumes nothing.
-use Prim.Native.Nat.{ℕ, zero, suc, _+_, _-_, _*_, _/_, _≤_, _<_}
+use Prim.Native.Nat.{ℕ, zero, suc, _+_, _-_, _≤_, _<_}
 use mathlib.Core.Path.{_≡_, refl, sym, ap, subst, _∙_}
-use mathlib.Core.Bool.{Bool, true, false, cond}
+use mathlib.Core.Bool.{false, cond}
 use mathlib.Core.Option.{some, none}
 use mathlib.Core.List.{List, [], _∷_, map}
 use native.Mathlib.Omega.{arith}
@@ -16,7 +16,7 @@ use Rattle.keys.specs.Reorder.{Rule}
 use Rattle.keys.specs.InputValues as K
 use Rattle.sheet.specs.KeyLines.{at, values}
 use Rattle.sheet.specs.KeySheets.{exprs, rulesOf, mark, row, headOf, inputOf, keySheetOf, joinSheetOf}
-use Rattle.sheet.specs.Reading.{packs, packedBy, Small, Fits}
+use Rattle.sheet.specs.Reading.{packedBy, Small, Fits}
 use Rattle.sheet.specs.ListLines.{lineCodes}
 use Rattle.sheet.specs.Held.{heldAt, pairRows, exprLists, childCount, heldKeySheet, heldJoinSheet}
 use Rattle.sheet.specs.SheetLines.{HeldLine}

@@ -1,18 +1,18 @@
 -- What is held of a sheet that was read is written as the sheet stood: line by line, its numbers are those of its fields.
 -- Assumes nothing.
-use Prim.Native.Nat.{ℕ, zero, suc, _+_, _-_, _%_, _≤_, _<_}
+use Prim.Native.Nat.{ℕ, zero, suc, _+_, _-_, _%_, _<_}
 use mathlib.Core.Path.{_≡_, refl, sym, ap, _∙_}
 use mathlib.Core.Bool.{Bool, true, false, cond}
-use mathlib.Core.List.{List, [], _∷_, _++_, map, append-nil}
+use mathlib.Core.List.{List, [], _∷_, _++_, append-nil}
 use native.Mathlib.Omega.{arith}
-use borrow.Author.Tests.{eqb-true, eqb-false}
+use borrow.Author.Tests.{eqb-true}
 use lib.Dec.{eqb}
-use lib.ListN.{length, getD, take, drop, length-map, length-drop}
-use Rattle.text.specs.Text.{Field, number, valueOf, parts}
+use lib.ListN.{length, getD, length-map}
+use Rattle.text.specs.Text.{Field, valueOf, parts}
 use Rattle.text.specs.Write.{lineText}
 use Rattle.keys.specs.Expressions.{expressions}
-use Rattle.sheet.specs.Lines.{Kind, Run, read, atEnd, wholeEntries}
-use Rattle.sheet.specs.KeyLines.{values, listLine, inputLine, keyLine, inputHead}
+use Rattle.sheet.specs.Lines.{read, atEnd, wholeEntries}
+use Rattle.sheet.specs.KeyLines.{values}
 use Rattle.sheet.specs.KeyAnswers.{numbersLine, exprNumbers}
 use Rattle.sheet.specs.Reading.{kindOf, headCount, entryWidth, packs, packedBy, Small}
 use Rattle.sheet.specs.Sizes.{Each}
@@ -23,7 +23,7 @@ use Rattle.sheet.specs.declared.kind.Codes.{Codes}
 use Rattle.sheet.specs.declared.kind.Codes.the-variants as C
 use Rattle.sheet.specs.declared.lists.SheetKind.{SheetKind}
 use Rattle.sheet.specs.declared.lists.SheetKind.the-variants.{Key, Join}
-use Rattle.sheet.proofs.InTurn.{Counted, rowsText, Fine, FineRows, empty, more}
+use Rattle.sheet.proofs.InTurn.{Counted, rowsText, Fine, FineRows, more}
 use Rattle.sheet.proofs.Numbers.{filled, row-numbers, exprs-again}
 use Rattle.sheet.proofs.Packing.{packs-exprs}
 use Rattle.sheet.proofs.RowsAgain.{rows-written}

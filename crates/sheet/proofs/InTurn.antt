@@ -1,15 +1,14 @@
 -- Lines of kinds in turn: how they are read, how they are written, and what is asked of them.
 use mathlib.Core.Path.{_≡_}
-use Prim.Native.Nat.{ℕ, suc, _-_}
-use mathlib.Core.List.{List, [], _∷_, _++_, tail}
-use mathlib.Core.Bool.{Bool, true, false, cond, _&&_}
+use Prim.Native.Nat.{ℕ, _-_}
+use mathlib.Core.List.{List, [], _∷_, _++_}
+use mathlib.Core.Bool.{Bool, true, false, _&&_}
 use mathlib.Core.Option.{Option}
 use lib.Dec.{eqb, leb}
 use Rattle.text.specs.Text.{Field, most}
-use Rattle.text.specs.Lines.{firstOf, nextOf}
 use Rattle.text.specs.Bounds.{Bound}
 use Rattle.text.specs.Write.{lineText}
-use Rattle.sheet.specs.Lines.{Kind, Run, read, refused, before, lineNumber, fieldsOf, fieldsFit, tooManyEntries}
+use Rattle.sheet.specs.Lines.{Kind, fieldsFit, tooManyEntries}
 
 -- bounds up to which fields are read
 unfoldable pub readable : List Bound → Bool

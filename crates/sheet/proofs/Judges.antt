@@ -11,8 +11,7 @@ use lib.Dec.{eqb}
 use lib.ListN.{getD}
 use types.Run.{OneOf}
 use denote.Enum.Declared.{tagOf}
-use Rattle.text.specs.Text.{number}
-use Rattle.sheet.specs.Lines.{wholeEntries, lineNumber}
+use Rattle.sheet.specs.Lines.{wholeEntries}
 use Rattle.sheet.specs.KeyLines.{fitChildren}
 use Rattle.sheet.specs.Reading.{headCount, entryWidth, undefinedBy, undefinedKey, codesNumber, countsRight, fieldsNumber, sizeNumber, firstNumber, countsNumber}
 use Rattle.sheet.specs.declared.kind.Codes.{Codes}

@@ -2,22 +2,21 @@
 -- Assumes nothing.
 use Prim.Native.Nat.{ℕ, zero, suc, _+_, _-_, _≤_, _<_}
 use mathlib.Core.Path.{_≡_, refl, sym, ap, _∙_}
-use mathlib.Core.Logic.{⊎-elim}
 use mathlib.Core.Bool.{Bool, true, false, cond}
 use mathlib.Core.Option.{Option, none, some}
-use mathlib.Core.List.{List, [], _∷_, _++_, append-assoc, append-nil, tail}
+use mathlib.Core.List.{List, [], _∷_, _++_, append-assoc, append-nil}
 use native.Mathlib.Omega.{arith}
 use borrow.Author.Tests.{ne-eqb, eqb-true, eqb-false, ltb-true, ltb-false}
 use lib.Dec.{eqb, ltb}
 use lib.ListN.{length, getD, take, drop, set, length-set, length-append, List·getD-append}
-use lib.Seq.{length-take-le, getD-append-seam, getD-set-same, getD-set-other}
+use lib.Seq.{getD-append-seam, getD-set-same, getD-set-other}
 use Rattle.text.specs.Text.{Field, lineAt, after, parts}
 use Rattle.text.specs.Lines.{firstOf, nextOf}
 use Rattle.text.proofs.Places.{bridge, after-next, after-lines}
-use Rattle.sheet.specs.Lines.{Run, read, refused, before, behind, lineNumber, fieldsOf}
+use Rattle.sheet.specs.Lines.{Run, read, refused, before, behind, lineNumber}
 use Rattle.sheet.specs.KeyLines.{values}
 use Rattle.sheet.specs.Reading.{kindOf, packedBy}
-use Rattle.sheet.specs.ListLines.{lineLetter, lineCodes, lineKind, packedList, listedBy, ListRead}
+use Rattle.sheet.specs.ListLines.{lineLetter, lineCodes, lineKind, packedList, ListRead}
 use Rattle.sheet.specs.Held.{heldAt}
 use Rattle.sheet.specs.SheetLines.{inTurn, lineKinds, linesFrom, linesBy, HeldLine, HeldLines, Full, HeadKept}
 use Rattle.sheet.specs.declared.kind.Codes.the-variants as C

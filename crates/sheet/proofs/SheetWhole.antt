@@ -8,7 +8,7 @@ use mathlib.Core.List.{List, [], _∷_, map}
 use native.Mathlib.Omega.{arith}
 use borrow.Author.Tests.{ltb-false, eqb-false}
 use lib.Dec.{eqb, ltb}
-use lib.ListN.{length, getD, take, drop, length-drop, length-map, drop-of-length-le}
+use lib.ListN.{length, getD, drop, length-drop, length-map, drop-of-length-le}
 use lib.Seq.{getD-take}
 use Rattle.text.specs.Text.{Field, parts, after, stateOf, valueOf, greatest}
 use Rattle.text.specs.Lines.{firstOf}
@@ -23,7 +23,7 @@ use Rattle.sheet.specs.declared.kind.Codes.the-variants as C
 use Rattle.sheet.specs.declared.lists.SheetKind.{SheetKind}
 use Rattle.sheet.specs.declared.lists.SheetKind.the-variants.{Key, Join}
 use Rattle.sheet.specs.declared.read.Lines.the-variants as L
-use Rattle.sheet.proofs.LineNumbers.{line-number, not-turned-counts, at-value}
+use Rattle.sheet.proofs.LineNumbers.{line-number, at-value}
 use Rattle.sheet.proofs.ReadLists.{good-fit}
 use Rattle.sheet.proofs.Accepted.{nothing-follows}
 use Rattle.sheet.proofs.SheetTurns.{Taken, Refusal, line-read, line-refused}

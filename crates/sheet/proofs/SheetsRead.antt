@@ -1,28 +1,25 @@
 -- What a sheet is read as, by its lines, its counts and what is held of it.
 -- Assumes nothing.
-use Prim.Native.Nat.{ℕ, zero, suc, _+_, _-_, _*_, _/_, _%_, _≤_, _<_}
+use Prim.Native.Nat.{ℕ, suc, _+_, _-_, _*_, _/_, _%_, _≤_, _<_}
 use mathlib.Core.Path.{_≡_, refl, sym, ap, subst, _∙_}
 use mathlib.Core.Bool.{Bool, true, false, cond, not, _&&_, _||_}
 use mathlib.Core.List.{List, [], _∷_, _++_}
 use native.Mathlib.Omega.{arith}
-use borrow.Author.Tests.{eqb-true, ne-eqb, eq-eqb, le-leb, lt-leb}
+use borrow.Author.Tests.{eqb-true, ne-eqb, lt-leb}
 use lib.Dec.{eqb, leb}
 use lib.ListN.{length, getD, take, drop, length-map}
-use lib.Seq.{getD-take, getD-drop}
+use lib.Seq.{getD-take}
 use Rattle.text.specs.Text.{Field, parts, valueOf}
 use Rattle.text.specs.Lines.{firstOf}
 use Rattle.keys.specs.Expressions.{expression, expressions, rule, rules}
-use Rattle.keys.specs.Adjust.{KeySheet}
-use Rattle.keys.specs.Inputs.{JoinSheet}
-use Rattle.sheet.specs.Lines.{Run, read, refused, fieldsOf, atEnd, wholeEntries}
+use Rattle.sheet.specs.Lines.{Run, read, refused, fieldsOf, atEnd}
 use Rattle.sheet.specs.KeyLines.{at, values}
-use Rattle.sheet.specs.KeySheets.{Reading, sheet, turned, ended, mark, row, headOf, pairsServe, serves, unusedKeys, keyListsFit, joinListsFit, keySheetOf, joinSheetOf, keyWhole, joinWhole, readKeySheet, readJoinSheet}
+use Rattle.sheet.specs.KeySheets.{Reading, sheet, turned, ended, mark, row, headOf, pairsServe, serves, unusedKeys, keyListsFit, joinListsFit, keyWhole, joinWhole, readKeySheet, readJoinSheet}
 use Rattle.sheet.specs.Reading.{packs, packedBy, Fits}
 use Rattle.sheet.specs.ListLines.{lineCodes}
-use Rattle.sheet.specs.Refusals.{keyKinds, joinKinds}
-use Rattle.sheet.specs.Held.{heldAt, pairRows, exprLists, childCount, heldKeySheet, heldJoinSheet, KeyHeld, JoinHeld, heldText}
-use Rattle.sheet.specs.SheetLines.{inTurn, wholeLines, endedBy, HeldLine, HeldLines}
-use Rattle.sheet.specs.ListFits.{directionCounts, pairCounts, keyCountsFit, inputCounts, joinCountsFit, sheetBy, KeyRead, JoinRead}
+use Rattle.sheet.specs.Held.{heldAt, pairRows, childCount, heldKeySheet, heldJoinSheet, KeyHeld, JoinHeld, heldText}
+use Rattle.sheet.specs.SheetLines.{wholeLines, endedBy, HeldLine, HeldLines}
+use Rattle.sheet.specs.ListFits.{directionCounts, keyCountsFit, inputCounts, joinCountsFit, sheetBy, KeyRead, JoinRead}
 use Rattle.sheet.specs.declared.kind.Codes.{Codes}
 use Rattle.sheet.specs.declared.kind.Codes.the-variants as C
 use Rattle.sheet.specs.declared.lists.SheetKind.{SheetKind}

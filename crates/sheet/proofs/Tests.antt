@@ -1,6 +1,6 @@
 -- A row of tests, each of which must hold: where one fails, and where it is passed.
 -- Assumes nothing.
-use mathlib.Core.Path.{_≡_, refl}
+use mathlib.Core.Path.{_≡_}
 use mathlib.Core.Bool.{Bool, true, false, _&&_}
 
 pub stop : (a b : Bool) → a ≡ false → false ≡ a && b

@@ -1,12 +1,12 @@
 -- `lochkave::lochkave_adjust_input_keys_ordering` meets its contract. What was read, and what is answered of it (`Entries`).
 -- Assumes nothing.
-use mathlib.Core.Path.{refl, sym, _∙_}
+use mathlib.Core.Path.{refl}
 use native.Mathlib.Omega.{arith}
 use lib.ListN.{replicate}
 use Rattle.sheet.specs.KeySheets.{readKeySheet}
 use Rattle.sheet.specs.KeyAnswers.{adjustDecision}
 use Rattle.sheet.proofs.Bounded.{key-turned-few}
-use Rattle.lochkave.proofs.Entries.{full-zeros, was-turned, Was, was-read, leaves-refused, adjust-turned, adjust-held}
+use Rattle.lochkave.proofs.Entries.{full-zeros, was-turned, was-read, leaves-refused, adjust-turned, adjust-held}
 use borrow.Author.Needs.{needs}
 use Rattle.lochkave.proofs.lochkave_adjust_input_keys_ordering.Statement.{statement}
 use Rattle.lochkave.proofs.lochkave_adjust_input_keys_ordering.Tie as tie

@@ -1,7 +1,5 @@
 -- `lochkave::lochkave_decide` meets its contract. By the first byte (`Entries`).
 -- Assumes nothing.
-use mathlib.Core.Path.{_≡_}
-use lib.ListN.{length}
 use Rattle.sheet.specs.KeyAnswers.{decision}
 use Rattle.lochkave.proofs.Entries.{first-none, first-key, first-join, first-other}
 use borrow.Author.Needs.{needs}

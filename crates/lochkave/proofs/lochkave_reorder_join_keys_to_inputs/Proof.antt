@@ -1,12 +1,12 @@
 -- `lochkave::lochkave_reorder_join_keys_to_inputs` meets its contract. What was read, and what is answered of it (`Entries`).
 -- Assumes nothing.
-use mathlib.Core.Path.{refl, sym, _∙_}
+use mathlib.Core.Path.{refl}
 use native.Mathlib.Omega.{arith}
 use lib.ListN.{replicate}
 use Rattle.sheet.specs.KeySheets.{readJoinSheet}
 use Rattle.sheet.specs.KeyAnswers.{inputsDecision}
 use Rattle.sheet.proofs.Bounded.{join-turned-few}
-use Rattle.lochkave.proofs.Entries.{full-zeros, was-turned, Was, was-read, leaves-refused, inputs-turned, inputs-held}
+use Rattle.lochkave.proofs.Entries.{full-zeros, was-turned, was-read, leaves-refused, inputs-turned, inputs-held}
 use borrow.Author.Needs.{needs}
 use Rattle.lochkave.proofs.lochkave_reorder_join_keys_to_inputs.Statement.{statement}
 use Rattle.lochkave.proofs.lochkave_reorder_join_keys_to_inputs.Tie as tie

@@ -1,6 +1,6 @@
 -- `orderkeys::mebibyte` has as many zeros as it says: by a law, since the length of so long a list is not to be computed.
 use Prim.Native.Nat.{ℕ}
-use mathlib.Core.Path.{_≡_, sym}
+use mathlib.Core.Path.{sym}
 use lib.ListN.{length-replicate}
 use Rattle.orderkeys.proofs.mebibyte.Statement.{statement}
 use Rattle.orderkeys.proofs.mebibyte.Tie as tie

@@ -1,13 +1,9 @@
 -- `lochkave::again::rewrite_join_sheet` meets its contract. What is held is written as the sheet stood (`Entries`).
 -- Assumes nothing.
-use Prim.Native.Nat.{ℕ, _+_, _≤_, _<_}
-use mathlib.Core.Path.{_≡_, refl, sym, ap, subst, _∙_}
-use mathlib.Core.List.{List, []}
+use mathlib.Core.Path.{refl, ap}
 use native.Mathlib.Omega.{arith}
-use lib.ListN.{length, getD, replicate}
-use Rattle.text.specs.Write.{Wrote}
+use lib.ListN.{replicate}
 use Rattle.sheet.specs.KeySheets.{readJoinSheet}
-use Rattle.sheet.specs.Held.{heldText}
 use Rattle.sheet.proofs.Bounded.{join-turned-few}
 use Rattle.answers.proofs.Room.{room-written, room-short}
 use Rattle.lochkave.specs.Entry.{joinAgain}

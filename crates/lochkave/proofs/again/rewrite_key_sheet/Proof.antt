@@ -1,13 +1,12 @@
 -- `lochkave::again::rewrite_key_sheet` meets its contract. What is held is written as the sheet stood (`Entries`).
 -- Assumes nothing.
-use Prim.Native.Nat.{ℕ, _+_, _≤_, _<_}
-use mathlib.Core.Path.{_≡_, refl, sym, ap, subst, _∙_}
-use mathlib.Core.List.{List, []}
+use Prim.Native.Nat.{_≤_}
+use mathlib.Core.Path.{_≡_, refl, ap}
+use mathlib.Core.List.{[]}
 use native.Mathlib.Omega.{arith}
-use lib.ListN.{length, getD, replicate}
-use Rattle.text.specs.Write.{Wrote}
+use lib.ListN.{getD, replicate}
 use Rattle.sheet.specs.KeySheets.{readKeySheet}
-use Rattle.sheet.specs.Held.{heldText, childCount}
+use Rattle.sheet.specs.Held.{childCount}
 use Rattle.sheet.proofs.Bounded.{key-turned-few}
 use Rattle.answers.proofs.Room.{room-written, room-short}
 use Rattle.answers.proofs.KeyLists.{key-children}

@@ -1,6 +1,6 @@
 -- `sheet::read::line_count` meets its contract. By the kind of sheet.
 -- Assumes nothing.
-use mathlib.Core.Path.{sym, ap, subst, _∙_}
+use mathlib.Core.Path.{sym, ap, subst}
 use native.Mathlib.Omega.{arith}
 use Rattle.sheet.specs.SheetLines.{countBy, FewChildren}
 use Rattle.sheet.specs.declared.lists.SheetKind.{SheetKind}

@@ -2,12 +2,12 @@
 -- Assumes nothing.
 use mathlib.Core.Path.{_≡_, sym, ap, _∙_}
 use mathlib.Core.List.{List, []}
-use Prim.Native.Nat.{ℕ, _-_, _≤_, _<_}
+use Prim.Native.Nat.{ℕ, _-_}
 use native.Mathlib.Omega.{arith}
-use lib.ListN.{length, getD, set, length-set}
+use lib.ListN.{getD, set, length-set}
 use lib.Seq.{getD-set-same}
 use Rattle.sheet.specs.Lines.{Run}
-use Rattle.sheet.specs.SheetLines.{lineCount, countBy, FewChildren, turnedNumber, linesFrom, linesBy, HeldLines}
+use Rattle.sheet.specs.SheetLines.{lineCount, countBy, turnedNumber, linesFrom, linesBy, HeldLines}
 use Rattle.sheet.proofs.SheetTurns.{Taken, taken, refusal, held-here, full-more}
 use Rattle.sheet.proofs.SheetWhole.{whole-turned, whole-taken, children-few, counted, count-least, head-still, held-whole, whole-before}
 use borrow.Author.Needs.{needs}

@@ -1,14 +1,12 @@
 -- `sheet::read::read_lists` meets its contract. What was read, before what is left, is the whole (`SheetTurns`).
 -- Assumes nothing.
-use mathlib.Core.Path.{_≡_, refl, sym, ap, _∙_}
-use mathlib.Core.List.{List, []}
-use Prim.Native.Nat.{ℕ, _-_, _≤_}
+use mathlib.Core.Path.{_≡_, refl, ap, _∙_}
+use mathlib.Core.List.{[]}
+use Prim.Native.Nat.{_-_, _≤_}
 use native.Mathlib.Omega.{arith}
-use lib.ListN.{length, getD, set, length-set}
-use Rattle.sheet.specs.Lines.{Run}
+use lib.ListN.{length, length-set}
 use Rattle.sheet.specs.SheetLines.{turnedNumber, linesFrom, HeadKept}
-use Rattle.sheet.specs.declared.lists.SheetKind.{SheetKind}
-use Rattle.sheet.proofs.SheetTurns.{Taken, Refusal, taken, refusal, kept-list, kept-count, Head, head-first, head-refused, held-refused, head-more, head-done, held-done}
+use Rattle.sheet.proofs.SheetTurns.{taken, refusal, kept-list, kept-count, Head, head-first, head-refused, held-refused, head-more, head-done, held-done}
 use borrow.Author.Needs.{needs}
 use Rattle.sheet.proofs.read.read_lists.Statement.{statement}
 use Rattle.sheet.proofs.read.read_lists.Tie as tie
