@@ -148,7 +148,7 @@ getD-any [] i d e h = absurd (omega arith)
 getD-any (x ∷ xs) zero d e h = refl
 getD-any (x ∷ xs) (suc i) d e h = getD-any xs i d e (omega arith)
 
-also-below : (n p : ℕ) (o : Option (List ℕ)) → p < n → AllBelow n o → AllBelow n (also p o)
+pub also-below : (n p : ℕ) (o : Option (List ℕ)) → p < n → AllBelow n o → AllBelow n (also p o)
 also-below n p none h b = tt
 also-below n p (some ps) h b = (h, b)
 

@@ -41,7 +41,7 @@ child-codes i h =
 
 module _ (k : SheetKind) (lists : List (List ℕ)) (counts : List ℕ) (rs : List (List Field)) (held : (j : ℕ) → j < length rs → HeldLine k lists counts (0 + j) (getD rs j [])) where
   -- line i, from 1 on, is row i - 1 of the rows after the head
-  line : (i : ℕ) → i < length rs → HeldLine k lists counts i (getD rs i [])
+  pub line : (i : ℕ) → i < length rs → HeldLine k lists counts i (getD rs i [])
   line i h = let z : 0 + i ≡ i = omega arith in rw z at (held i h)
 
   pub row-is : (i : ℕ) → values (getD rs (suc i) []) ≡ row (drop 1 rs) i

@@ -7,13 +7,13 @@ use mathlib.Core.Bool.{Bool, not, _&&_, _||_}
 use mathlib.Core.Option.{Option, none, some}
 use lib.Dec.{eqb, leb}
 use lib.ListN.{length, getD, length-map, length-append}
-use Rattle.keys.specs.Lists.{also, andThen, placeOf, sameList, expectedExprPositions, permute}
+use Rattle.keys.specs.Lists.{andThen, placeOf, sameList, expectedExprPositions, permute}
 use Rattle.keys.specs.Reorder.{Tried, tryReorder}
 use Rattle.keys.specs.Arrange.{Below, AllBelow}
 use Rattle.keys.specs.Expressions.{Expression, column, placeholder}
 use Rattle.keys.specs.Adjust.{KeySheet, KeyAnswer, Projected, Adjustment, answered, nameNotFound, handOver, kept, given, passed, unchanged, cleared, onto, shifted, orEmpty, shiftRightRequired, columnsFrom, namePlaces, placedNames, namesFrom, reorderPartitionedJoinKeys, pushedRight, hashJoin, notRegrouped, regrouped, regroupedBy, aggregate, projection, other, adjustInputKeysOrdering}
 use Rattle.keys.proofs.Truths.{by-test}
-use Rattle.keys.proofs.Lists.{place-below}
+use Rattle.keys.proofs.Lists.{also-below, place-below}
 use Rattle.keys.proofs.Names.{columns-length}
 use Rattle.sheet.specs.Sizes.{Each, Few, Within, PlacedWithin, ExprList, SizedKeySheet, SizedKeyAnswer}
 use Rattle.sheet.proofs.Entries.{each-append, nothing-few}
@@ -65,10 +65,6 @@ module _ (m e : ℕ) where
 
 -- ---- the names of an aggregate
 
-also-found : (n p : ℕ) (o : Option (List ℕ)) → p < n → AllBelow n o → AllBelow n (also p o)
-also-found n p none h b = tt
-also-found n p (some ps) h b = (h, b)
-
 names-below : (fields ns : List ℕ) → AllBelow (length fields) (namePlaces fields ns)
 names-below fields [] = tt
 names-below fields (n ∷ ns) = go (placeOf eqb n fields) (place-below eqb n fields) (names-below fields ns)
@@ -77,7 +73,7 @@ names-below fields (n ∷ ns) = go (placeOf eqb n fields) (place-below eqb n fie
         (o : Option ℕ) → ((p : ℕ) → o ≡ some p → p < length fields) → AllBelow (length fields) (namePlaces fields ns) →
         AllBelow (length fields) (andThen o (λ p. namePlaces fields ns))
     go none h k = tt
-    go (some p) h k = also-found (length fields) p (namePlaces fields ns) (h p refl) k
+    go (some p) h k = also-below (length fields) p (namePlaces fields ns) (h p refl) k
 
 module _ (m : ℕ) where
   placed-each : (n : ℕ) → n ≤ m → (ns ps : List ℕ) → Each (λ n. n ≤ m) ns → Below n ps → Each (PlacedWithin m) (placedNames ns ps)

@@ -31,7 +31,7 @@ use Rattle.sheet.proofs.KeyAccepted.{stagesOfKey, stagesOfInput, key-in
 use Rattle.sheet.proofs.LegalSheets.{key-read-legal, join-read-legal}
 use Rattle.sheet.proofs.HeldRows.{key-kinds, join-kinds, key-rows-many, key-many, join-many}
 use Rattle.sheet.proofs.HeldTexts.{text-again}
-use Rattle.sheet.proofs.HeldSheets.{row-is, head-held, key-held, join-held}
+use Rattle.sheet.proofs.HeldSheets.{line, row-is, head-held, key-held, join-held}
 
 -- ---- a sheet by its lines
 
@@ -162,16 +162,13 @@ module _ (lists : List (List ℕ)) (counts : List ℕ) (i : ℕ) (fs : List Fiel
 -- ---- lines that are held
 
 module _ (k : SheetKind) (lists : List (List ℕ)) (counts : List ℕ) (rs : List (List Field)) (held : (j : ℕ) → j < length rs → HeldLine k lists counts (0 + j) (getD rs j [])) where
-  line : (i : ℕ) → i < length rs → HeldLine k lists counts i (getD rs i [])
-  line i h = let z : 0 + i ≡ i = omega arith in rw z at (held i h)
-
   -- a number of a line, where it stands
   stands : (i j : ℕ) → i < length rs → j < length (heldAt lists counts i) → getD (getD lists i []) j 0 ≡ getD (heldAt lists counts i) j 0
   unfolding heldAt
-  stands i j h g = sym (getD-take (getD counts i 0) (getD lists i []) j 0 (rw (line i h .long) g))
+  stands i j h g = sym (getD-take (getD counts i 0) (getD lists i []) j 0 (rw (line k lists counts rs held i h .long) g))
 
   head-long : 0 < length rs → packedBy (lineCodes k 0) (values (getD rs 0 [])) ≡ values (getD rs 0 []) → length (heldAt lists counts 0) ≡ length (getD rs 0 [])
-  head-long h e = ap length (line 0 h .is ∙ e) ∙ length-map (getD rs 0 []) valueOf
+  head-long h e = ap length (line k lists counts rs held 0 h .is ∙ e) ∙ length-map (getD rs 0 []) valueOf
 
 module _ (s : List ℕ) (lists : List (List ℕ)) (counts : List ℕ) (next line′ : ℕ) where
   module _ (e : L.Read next line′ ≡ endedBy (wholeLines Key s)) (h : HeldLines s Key 0 (wholeLines Key s) lists counts) where
