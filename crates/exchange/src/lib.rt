@@ -1,0 +1,17 @@
+// Exchange rules: ensure_distribution and its steps.
+pub mod child;
+pub mod fact;
+pub mod form;
+pub mod kind;
+pub mod operator;
+pub mod order;
+pub mod ordered;
+pub mod partitioning;
+pub mod relationship;
+pub mod replace;
+pub mod row;
+pub mod settings;
+pub mod status;
+pub mod step;
+pub mod update;
+pub mod worked;
