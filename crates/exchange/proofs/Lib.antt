@@ -49,3 +49,9 @@ pub mod Reached
 pub mod Ensured
 pub mod Standing
 pub mod RoundsLoop
+pub mod Interleaved
+pub mod FinishWritten
+pub mod BuiltReached
+pub mod ReachedRounds
+pub mod FormsSmall
+pub mod PlacesRead

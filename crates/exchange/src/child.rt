@@ -30,7 +30,7 @@ ghost use Rattle.exchange.specs.Runs.{Ready, Maps};
 ghost use Rattle.exchange.specs.Built.{rowIn, topOperator, builtRoot, builtTop, underRelationship, builtRelationship, topRows, newRows, builtRows, built, Put};
 
 // The row of a child in a form, or one of zeros.
-fn row_in(index: &[u64], rows: &[FactRow], n: usize, child: u64, form: u64) -> FactRow
+pub fn row_in(index: &[u64], rows: &[FactRow], n: usize, child: u64, form: u64) -> FactRow
     requires { ⌜ (1 ≤ child) × (child ≤ 8) × (form ≤ 15) × (n ≤ length (now rows)) ⌝ }
     requires { ⌜ now index ≡ indexOf (take n (now rows)) ⌝ }
     ensures { λ r. ⌜ factRow r ≡ rowIn (map factRow (take n (now (rows .entry)))) child (formOf form) ⌝ }

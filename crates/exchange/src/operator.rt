@@ -13,6 +13,9 @@ ghost use Rattle.exchange.specs.Operators.{hasOrder, mark as markOf, tra
 ghost use Rattle.exchange.specs.Rows.{nodeOf, operatorOf};
 ghost use Rattle.exchange.specs.Step.{splitOperator};
 
+// New merges and exchanges are tracked.
+const NEW_MARK: u64 = 1;
+
 // What is said of a new operator. An absent limit has `limited` 0.
 pub struct New {
     pub kind: u64,
@@ -65,7 +68,7 @@ pub fn new_merge(x: FactRow, under: Node) -> Node
         limit: 0,
         order: x[ORDER],
         mask: 0,
-        tracked: 1,
+        tracked: NEW_MARK,
     };
     new_operator(n, under)
 }
@@ -94,7 +97,7 @@ pub fn new_exchange(kind: u64, x: FactRow, under: Node) -> Node
         limit: 0,
         order: x[ORDER],
         mask: 0,
-        tracked: 1,
+        tracked: NEW_MARK,
     };
     new_operator(n, under)
 }

@@ -34,21 +34,21 @@ fn coalesced(n: Node) -> Node
 }
 
 // The sort above it, where the merge had a limit.
-fn sorted(n: Node) -> Node
-    requires { ⌜ nodeOf (operatorOf n) ≡ n ⌝ }
-    ensures { λ r. ⌜ r ≡ nodeOf (mergeSort (operatorOf n)) ⌝ }
+fn sorted(merge: Node) -> Node
+    requires { ⌜ nodeOf (operatorOf merge) ≡ merge ⌝ }
+    ensures { λ r. ⌜ r ≡ nodeOf (mergeSort (operatorOf merge)) ⌝ }
 {
     let s = New {
         kind: kind::SORT,
-        count: n.count,
+        count: merge.count,
         keeps: 0,
-        limited: n.limited,
-        limit: n.limit,
-        order: n.order,
+        limited: merge.limited,
+        limit: merge.limit,
+        order: merge.order,
         mask: 0,
         tracked: 0,
     };
-    operator::new_operator(s, coalesced(n))
+    operator::new_operator(s, coalesced(merge))
 }
 
 // An exchange keeps the order no more.
