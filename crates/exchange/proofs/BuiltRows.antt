@@ -168,3 +168,21 @@ pub built-put : (rows : List Row) (child : ℕ) (f : Form) (o : Operator) (k to 
 unfolding builtRows
 built-put rows child f o k to next d d₁ d₂ m is p s =
     put-last to d d₁ d₂ m (builtRoot rows child f o) is (newRows rows child f (builtRoot rows child f o)) next k (rw (said m (builtRoot rows child f o) is) at p) s
+
+-- at most two new operators
+module _ (rows : List Row) (child : ℕ) (f : Form) (o : Operator) where
+  top-long : length (topRows rows child f o) ≤ 1
+  unfolding topRows
+  top-long = go (eqb (f .top) 0)
+    where
+      go : (b : Bool) → length (cond b [] (rowOf (builtTop rows child f o) 1 ∷ [])) ≤ 1
+      go true = omega arith
+      go false = omega arith
+
+  pub new-long : length (newRows rows child f o) ≤ 2
+  unfolding newRows
+  new-long = go (isSet (f .relationship))
+    where
+      go : (b : Bool) → length (cond b (rowOf (builtRelationship rows child f o) 1 ∷ topRows rows child f o) (topRows rows child f o)) ≤ 2
+      go true = omega (arith, top-long)
+      go false = omega (arith, top-long)

@@ -55,3 +55,7 @@ pub mod BuiltReached
 pub mod ReachedRounds
 pub mod FormsSmall
 pub mod PlacesRead
+pub mod FirstAndOthers
+pub mod FinishEach
+pub mod FinishedHandled
+pub mod Decided

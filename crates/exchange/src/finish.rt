@@ -24,10 +24,10 @@ ghost use Rattle.exchange.specs.FactRows.{nodeFacts, childFacts, factRow
 ghost use Rattle.exchange.specs.Forms.{formOf};
 ghost use Rattle.exchange.specs.Found.{indexOf};
 ghost use Rattle.exchange.specs.Rows.{nodeOf, operatorOf};
-ghost use Rattle.exchange.specs.Runs.{Ready, Maps};
+ghost use Rattle.exchange.specs.Runs.{Ready, Readys, Maps, MapsAll};
 ghost use Rattle.exchange.specs.Built.{built};
 ghost use Rattle.exchange.specs.Order.{outputFetch};
-ghost use Rattle.exchange.specs.LastForm.{finishedChild, knownBy};
+ghost use Rattle.exchange.specs.LastForm.{finishedChild, finishedEach, EachFinished, knownBy};
 
 fn known(
     s: Settings,
@@ -115,4 +115,72 @@ pub fn finish_child(
         at: read.at,
         to: put.to,
     }
+}
+
+// The same of the `left` children from `at` on, the first of which is child `child`.
+pub fn finish_children(
+    s: Settings,
+    b: NodeRow,
+    worked: Node,
+    children: u64,
+    child: u64,
+    left: u64,
+    forms: &[u64],
+    facts: &[ChildRow],
+    index: &[u64],
+    rows: &[FactRow],
+    n: usize,
+    src: &[Row],
+    at: usize,
+    mid: &mut [Row],
+    dst: &mut [Row],
+    to: usize,
+) -> Step
+    requires { ⌜ EachFinished (now forms) (now facts) (now rows) (now index) n child left worked (length (now src)) (length (now mid)) ⌝ }
+    requires { ⌜ Readys (finishedEach (map factRow (take n (now rows))) (now forms) (now facts) s (nodeFacts b) (operatorOf worked) children child) (now src) at left (length (now dst)) to ⌝ }
+    ensures { λ r. ⌜ MapsAll (finishedEach (map factRow (take n (now (rows .entry)))) (now (forms .entry)) (now (facts .entry)) s (nodeFacts b) (operatorOf worked) children child) (now (src .entry)) at left (now (dst .entry)) to (now (dst .exit)) r ⌝ }
+{
+    if left == 0 {
+        return Step { at: at, to: to };
+    }
+    let i = (child - 1) as usize;
+    let need = row::node_at(src, at).need;
+    let m = finish_child(
+        s,
+        b,
+        worked,
+        children,
+        child,
+        forms[i],
+        need,
+        facts[i],
+        index,
+        rows,
+        n,
+        src,
+        at,
+        &mut *mid,
+        &mut *dst,
+        to,
+    );
+    let a = m.at;
+    let z = m.to;
+    finish_children(
+        s,
+        b,
+        worked,
+        children,
+        child + 1,
+        left - 1,
+        forms,
+        facts,
+        index,
+        rows,
+        n,
+        src,
+        a,
+        mid,
+        dst,
+        z,
+    )
 }

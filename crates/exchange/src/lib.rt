@@ -1,5 +1,6 @@
 // Exchange rules: ensure_distribution and its steps.
 pub mod child;
+pub mod decide;
 pub mod fact;
 pub mod finish;
 pub mod form;
