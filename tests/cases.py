@@ -122,6 +122,10 @@ case("nothing to do", NOTHING, same, UNCHANGED, 'document 01, "Op 6: empty R, un
 case("empty input", NOTHING, keep(0), "e,1,1", "row 1, decision 34")
 case("one LF and no more", NOTHING, both(keep(1), line(1, "")), "e,1,1", "row 1, decision 3")
 case("first line of another letter", NOTHING, line(1, "Q,6,0,0,0,0,0,0"), "e,1,1", "row 1")
+# An exchange sheet that is fine, until D sheets are decided.
+LEAF = "D,4,0,0,8192,0,9,0,0,0 T,0,1,0,,0,0,0,0 B,0,0,0,0 Y,0"
+for entry in (DECIDE, KEYS, INPUTS, WRITE):
+    case(f"an exchange sheet, by entry point {entry}", LEAF, same, "e,1,1", "row 1: D sheets are refused by 1 on line 1 until they are decided", entry=entry)
 case("first letter in lower case", NOTHING, line(1, "k,6,0,0,0,0,0,0"), "e,1,1", "row 1")
 case("a digit after the first letter", NOTHING, line(1, "K1,6,0,0,0,0,0,0"), "e,1,1", "row 1, decision 3")
 case("the first letter twice", NOTHING, line(1, "KK,6,0,0,0,0,0,0"), "e,1,1", "row 1, decision 3")
