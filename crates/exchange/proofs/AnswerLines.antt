@@ -1,11 +1,11 @@
 -- An answer has at most two lines for each line from the worked node on, and three more for each of its children: 536 for 256 lines and 8 children.
 use Prim.Native.Nat.{ℕ, suc, _+_, _*_, _≤_}
-use mathlib.Core.Path.{_≡_, refl, ap, _∙_}
+use mathlib.Core.Path.{_≡_, refl, ap, ap₂, _∙_}
 use mathlib.Core.Bool.{Bool, true, false, cond, not, _&&_}
 use mathlib.Core.Option.{Option, some, none as nothing}
 use mathlib.Core.List.{List, [], _∷_}
 use lib.Dec.{eqb, ltb}
-use lib.ListN.{length}
+use lib.ListN.{length, length-append}
 use native.Mathlib.Omega.{arith}
 use borrow.Author.Tests.{not-true, eqb-false}
 use Rattle.exchange.specs.Trees.{node, none, _∷ᶠ_, root, trees, Operator, Plan, Plans}
@@ -22,6 +22,7 @@ use Rattle.exchange.specs.Relationships.{isGiven, alreadyTargetHash}
 use Rattle.exchange.specs.Order.{handleOrder}
 use Rattle.exchange.specs.Ensure.{Answer, answered, handled, finished, ensured}
 use Rattle.exchange.specs.Skeleton.{below}
+use Rattle.exchange.specs.Rows.{flatten, flattens}
 use Rattle.exchange.specs.Sizes.{lines, liness}
 use Rattle.exchange.specs.Partitioning.{workedOf}
 use Rattle.exchange.proofs.Passing.{Holds, holds-then, holds-cond, Alls, Steps, Relates}
@@ -142,7 +143,7 @@ liness-updated (t ∷ᶠ ts) =
     let k : liness (updateEach ts) ≡ liness ts = liness-updated ts in
     omega arith
 
-lines-updates : (t : Plan) → lines (updateChildren t) ≡ lines t
+pub lines-updates : (t : Plan) → lines (updateChildren t) ≡ lines t
 unfolding lines
 lines-updates (node o ts) = ap suc (liness-updated ts)
 
@@ -159,6 +160,18 @@ mutual
   lines-above : (o : Operator) (ts : Plans) → lines (removeAbove (node o ts) ts) ≤ suc (liness ts)
   lines-above o none = omega arith
   lines-above o (t ∷ᶠ ts) = let h : lines (removeDistChangingOperators t) ≤ lines t = lines-removed t in omega arith
+
+-- ---- lines are rows
+
+mutual
+  unfolding lines flatten
+
+  pub lines-rows : (t : Plan) → length (flatten t) ≡ lines t
+  lines-rows (node o ts) = ap suc (liness-rows ts)
+
+  liness-rows : (ts : Plans) → length (flattens ts) ≡ liness ts
+  liness-rows none = refl
+  liness-rows (t ∷ᶠ ts) = length-append (flatten t) (flattens ts) ∙ ap₂ _+_ (lines-rows t) (liness-rows ts)
 
 -- ---- the answer
 

@@ -69,7 +69,7 @@ fn marks_child(rows: &[Row], at: usize) -> bool
     marks_below(rows, at + 1, row::children_at(rows, at))
 }
 
-fn mark_number(b: bool) -> u64
+pub fn mark_number(b: bool) -> u64
     ensures { λ r. ⌜ r ≡ markOf b ⌝ }
 {
     if b {

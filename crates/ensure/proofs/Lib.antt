@@ -1,0 +1,3 @@
+pub mod Finishing
+pub mod Forming
+pub mod Distributed
