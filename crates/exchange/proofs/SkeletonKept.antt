@@ -8,7 +8,7 @@ use borrow.Author.Tests.{eqb-true}
 use Rattle.exchange.specs.Trees.{Forest, node, none, _∷ᶠ_, _++ᶠ_, root, Operator, Plan, Plans}
 use Rattle.exchange.specs.declared.settings.Settings.{Settings}
 use Rattle.exchange.specs.Facts.{NodeFacts, Row}
-use Rattle.exchange.specs.Operators.{isSortPreservingMerge, isRepartition, hasOrder, hasLimit, isTracked, trackRoot, above, newMerge}
+use Rattle.exchange.specs.Operators.{isSortPreservingMerge, isRepartition, hasOrder, hasLimit, isTracked, trackRoot, above, newMerge, limitedSort}
 use Rattle.exchange.specs.States.{ChildState}
 use Rattle.exchange.specs.Step.{splitPlan}
 use Rattle.exchange.specs.Replace.{coalesced, relaxed, replaceOperator, replaceOrderPreservingVariants, replaceTracked}
@@ -61,7 +61,7 @@ unfolding skeleton
 skeleton-replaced o ts = go (isSortPreservingMerge o) (hasLimit o) (isRepartition o && eqb (o .keeps) 1) refl
   where
     go : (b l r : Bool) → isSortPreservingMerge o ≡ b
-        → skeleton (cond b (cond l (above (record { id = 0; kind = 11; count = o .count; keeps = 0; limit = o .limit; order = o .order; mask = 0; tracked = 0; need = o .need }) (node (coalesced o) ts)) (node (coalesced o) ts)) (cond r (node (relaxed o) ts) (node o ts)))
+        → skeleton (cond b (cond l (above (limitedSort (o .limit) (o .order) (coalesced o)) (node (coalesced o) ts)) (node (coalesced o) ts)) (cond r (node (relaxed o) ts) (node o ts)))
         ≡ outline o (skeletons ts)
     go true true r e = rw (aside-merge o e) (append-none (skeletons ts))
     go true false r e = rw (aside-merge o e)

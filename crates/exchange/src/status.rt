@@ -1,9 +1,12 @@
 // What is known of each child before any of them is changed: whether dealing out its rows gains, and whether it must be hashed.
 use crate::settings::Settings;
 ghost use mathlib.Core.Path.{_≡_};
+ghost use mathlib.Core.Bool.{_&&_, _||_};
 ghost use Prim.Native.Nat.{_≤_};
+ghost use lib.Dec.{ltb};
 ghost use lib.ListN.{length};
-ghost use Rattle.exchange.specs.Status.{rowsGain, asksAlignment, statusOf, needsAlignment};
+ghost use Rattle.exchange.specs.Status.{rowsGain, asksAlignment, needsAlignment};
+ghost use Rattle.exchange.specs.Operators.{isKeyed};
 ghost use Rattle.exchange.specs.FactRows.{childFacts, childFor, childrenBy};
 
 // The places of an F row.
@@ -68,13 +71,13 @@ pub fn asks_alignment(s: Settings, a: Asked) -> bool
 }
 
 // A keyed child is hashed for its own partitions, or since one of the keyed children asks.
-pub fn hash_necessary(s: Settings, aligned: bool, a: Asked) -> bool
-    ensures { λ r. ⌜ r ≡ statusOf s aligned (childFor a) .hashNecessary ⌝ }
+pub fn hash_necessary(need: u64, count: u64, aligned: bool) -> bool
+    ensures { λ r. ⌜ r ≡ (isKeyed need && (ltb 1 count || aligned)) ⌝ }
 {
-    if a.need != 2 {
+    if need != 2 {
         return false;
     }
-    if 1 < a.count {
+    if 1 < count {
         return true;
     }
     aligned

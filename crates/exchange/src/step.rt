@@ -131,7 +131,7 @@ fn satisfy_distribution(
     if a.need != 2 {
         return satisfy_unspecified(s, w, a, c, index, rows, n);
     }
-    if !hash_necessary(s, aligned, a) {
+    if !hash_necessary(a.need, a.count, aligned) {
         return Formed::Form(c.form);
     }
     if !needs_hash_repartition(s, w, a, c) {

@@ -10,10 +10,10 @@ returns : tie.Need-returns
 returns c = stop _ _ (ne-eqb _ _ (c .if1 .taken))
 
 returns-2 : tie.Need-returns-2
-returns-2 c = past _ _ _ (eq-eqb _ _ (c .before .before .if1 .left)) (enough _ _ (lt-ltb _ _ (c .if2 .taken)))
+returns-2 c = past _ _ _ (eq-eqb _ _ (c .before .if1 .left)) (enough _ _ (lt-ltb _ _ (c .if2 .taken)))
 
 returns-3 : tie.Need-returns-3
-returns-3 c = past _ _ _ (eq-eqb _ _ (c .before .before .if1 .left)) (besides _ _ _ (le-ltb _ _ (c .if2 .left)) refl)
+returns-3 c = past _ _ _ (eq-eqb _ _ (c .before .if1 .left)) (besides _ _ _ (le-ltb _ _ (c .if2 .left)) refl)
 
 pub hash-necessary-spec : {M : Type 1} → statement M
 hash-necessary-spec = tie.close (tie.spec returns returns-2 returns-3)
