@@ -1,0 +1,3 @@
+pub mod PlanTexts
+pub mod RowTexts
+pub mod Sizes

@@ -1,0 +1,1 @@
+// The answers of D sheets as text, written from the rows of their trees.
