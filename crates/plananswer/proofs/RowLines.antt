@@ -3,18 +3,18 @@
 use mathlib.Core.Path.{_≡_, refl, sym, ap, _∙_}
 use mathlib.Core.List.{List, [], _∷_, _++_, append-assoc}
 use mathlib.Core.Option.{Option, some, none as absent}
-use Prim.Native.Nat.{ℕ, suc, _+_}
+use Prim.Native.Nat.{ℕ, _+_}
 use native.Mathlib.Omega.{arith}
 use lib.ListN.{length, getD, length-append}
 use Rattle.text.specs.Text.{Field, number}
-use Rattle.text.specs.Write.{decimal, fieldText, fieldsText, lineText}
+use Rattle.text.specs.Write.{decimal, fieldText, fieldsText}
 use Rattle.text.proofs.Lengths.{line-length}
 use Rattle.exchange.specs.Trees.{node, none, _∷ᶠ_, trees, Operator, Plan, Plans}
 use Rattle.exchange.specs.Rows.{limitMark, limitNumber, limitOf, rowOf, flatten, flattens}
 use Rattle.exchange.specs.Ensure.{Answer}
 use Rattle.answers.proofs.Pieces.{pieces, pieces-later}
 use Rattle.plananswer.specs.PlanTexts.{limitField, operatorFields, operatorLine, planLines, plansLines, planAnswerText}
-use Rattle.plananswer.specs.RowTexts.{rowFields, rowLine, rowLines, headLine, rowsText}
+use Rattle.plananswer.specs.RowTexts.{rowLine, rowLines, headLine, rowsText}
 
 -- ---- a tree's rows
 
@@ -67,29 +67,28 @@ unfolding fieldsText
 fields-cons f fs = omega (arith, length-append (fieldText f) (fieldsText fs))
 
 -- a t line: a letter, nine commas, the digits, an LF
-pub row-long :
-    (x : List ℕ) →
-    length (rowLine x)
-    ≡ 11 + (length (decimal (getD x 0 0)) + length (decimal (getD x 1 0)) + length (decimal (getD x 2 0)))
-    + (length (decimal (getD x 3 0)) + length (fieldText (limitField (limitOf (getD x 4 0) (getD x 5 0)))) + length (decimal (getD x 6 0)))
-    + (length (decimal (getD x 7 0)) + length (decimal (getD x 8 0)) + length (decimal (getD x 10 0)))
-unfolding rowLine fieldText fieldsText
-row-long x =
-    let n : ℕ → Field = λ k. number (getD x k 0) in
-    let l = limitField (limitOf (getD x 4 0) (getD x 5 0)) in
-    let last = n 6 ∷ n 7 ∷ n 8 ∷ n 10 ∷ [] in
+pub operator-long :
+    (o : Operator) (children : ℕ) →
+    length (operatorLine o children)
+    ≡ 11 + (length (decimal (o .id)) + length (decimal (o .kind)) + length (decimal (o .count)))
+    + (length (decimal (o .keeps)) + length (fieldText (limitField (o .limit))) + length (decimal (o .order)))
+    + (length (decimal (o .mask)) + length (decimal (o .tracked)) + length (decimal children))
+unfolding fieldText fieldsText
+operator-long o children =
+    let l = limitField (o .limit) in
+    let last = number (o .order) ∷ number (o .mask) ∷ number (o .tracked) ∷ number children ∷ [] in
     omega (
       arith,
-      line-length 116 (rowFields x),
-      fields-cons (n 0) (n 1 ∷ n 2 ∷ n 3 ∷ l ∷ last),
-      fields-cons (n 1) (n 2 ∷ n 3 ∷ l ∷ last),
-      fields-cons (n 2) (n 3 ∷ l ∷ last),
-      fields-cons (n 3) (l ∷ last),
+      line-length 116 (operatorFields o children),
+      fields-cons (number (o .id)) (number (o .kind) ∷ number (o .count) ∷ number (o .keeps) ∷ l ∷ last),
+      fields-cons (number (o .kind)) (number (o .count) ∷ number (o .keeps) ∷ l ∷ last),
+      fields-cons (number (o .count)) (number (o .keeps) ∷ l ∷ last),
+      fields-cons (number (o .keeps)) (l ∷ last),
       fields-cons l last,
-      fields-cons (n 6) (n 7 ∷ n 8 ∷ n 10 ∷ []),
-      fields-cons (n 7) (n 8 ∷ n 10 ∷ []),
-      fields-cons (n 8) (n 10 ∷ []),
-      fields-cons (n 10) [],
+      fields-cons (number (o .order)) (number (o .mask) ∷ number (o .tracked) ∷ number children ∷ []),
+      fields-cons (number (o .mask)) (number (o .tracked) ∷ number children ∷ []),
+      fields-cons (number (o .tracked)) (number children ∷ []),
+      fields-cons (number children) [],
     )
 
 pub head-long :

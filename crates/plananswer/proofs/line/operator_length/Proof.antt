@@ -5,9 +5,10 @@ use native.Mathlib.Omega.{arith}
 use lib.ListN.{length, getD}
 use Rattle.text.specs.Text.{Field}
 use Rattle.text.specs.Write.{fieldText}
-use Rattle.exchange.specs.Rows.{limitOf}
+use Rattle.exchange.specs.Rows.{limitOf, unpacked, childrenOf, operatorOf}
 use Rattle.plananswer.specs.PlanTexts.{limitField}
-use Rattle.plananswer.proofs.RowLines.{row-long}
+use Rattle.plananswer.specs.RowTexts.{rowLine}
+use Rattle.plananswer.proofs.RowLines.{operator-long}
 use borrow.Author.Needs.{needs}
 use Rattle.plananswer.proofs.line.operator_length.Statement.{statement}
 use Rattle.plananswer.proofs.line.operator_length.Tie as tie
@@ -100,13 +101,14 @@ add-result-3 : tie.Need-add-result-3
 add-result-3 c = search needs
 
 returns : tie.Need-returns
+unfolding rowLine
 returns c =
     let x = c .before .before .before .before .before .before .before .before .before .before .args .t1 in
     let l : c .before .before .before .before .field-length .result ≡ length (fieldText (limitField (limitOf (getD x 4 0) (getD x 5 0)))) =
     c .before .before .before .before .field-length .ensures .0 ∙ ap (λ (f : Field). length (fieldText f)) (c .before .before .before .before .before .before .before .before .before .limit-state .ensures (getD x 5 0)) in (
       omega (
         arith,
-        row-long x,
+        operator-long (operatorOf (unpacked x)) (childrenOf x),
         c .before .before .before .before .before .before .before .before .number-length .ensures .0,
         c .before .before .before .before .before .before .before .number-length2 .ensures .0,
         c .before .before .before .before .before .before .number-length3 .ensures .0,
