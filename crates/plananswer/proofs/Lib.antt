@@ -1,3 +1,6 @@
 pub mod RowLines
 pub mod AnswerLong
+pub mod SizedPlans
+pub mod SizedAnswers
+pub mod PlanAnswersFit
 pub mod Examples
