@@ -59,27 +59,27 @@ module _ (m d l e : ℕ) (digits : m < 10 ^ suc d) (places : l < 10 ^ suc e) whe
   mutual
     unfolding lines planLines
 
-    plan-most : (t : Plan) → Everywhere (OperatorWithin m l) t → lines t ≤ m → length (planLines t) ≤ lines t * most
+    plan-most : (t : Plan) → Everywhere (OperatorWithin m l) t → lines t ≤ m → length (planLines operatorLine t) ≤ lines t * most
     plan-most (node o ts) h n =
         let p : suc (liness ts) * most ≡ liness ts * most + most = suc-mul (liness ts) most in
-        let q : length (plansLines ts) ≤ liness ts * most = plans-most ts (h .1) (omega arith) in
+        let q : length (plansLines operatorLine ts) ≤ liness ts * most = plans-most ts (h .1) (omega arith) in
         let r : length (operatorLine o (trees ts)) ≤ most = operator-most o (trees ts) (h .0) (omega (arith, trees-lines ts)) in
-        omega (arith, length-append (operatorLine o (trees ts)) (plansLines ts))
+        omega (arith, length-append (operatorLine o (trees ts)) (plansLines operatorLine ts))
 
-    plans-most : (ts : Plans) → Everywheres (OperatorWithin m l) ts → liness ts ≤ m → length (plansLines ts) ≤ liness ts * most
+    plans-most : (ts : Plans) → Everywheres (OperatorWithin m l) ts → liness ts ≤ m → length (plansLines operatorLine ts) ≤ liness ts * most
     plans-most none h n = omega arith
     plans-most (t ∷ᶠ ts) h n =
         let p : (lines t + liness ts) * most ≡ lines t * most + liness ts * most = add-mul (lines t) (liness ts) most in
-        let q : length (planLines t) ≤ lines t * most = plan-most t (h .0) (omega arith) in
-        let r : length (plansLines ts) ≤ liness ts * most = plans-most ts (h .1) (omega arith) in
-        omega (arith, length-append (planLines t) (plansLines ts))
+        let q : length (planLines operatorLine t) ≤ lines t * most = plan-most t (h .0) (omega arith) in
+        let r : length (plansLines operatorLine ts) ≤ liness ts * most = plans-most ts (h .1) (omega arith) in
+        omega (arith, length-append (planLines operatorLine t) (plansLines operatorLine ts))
 
   pub plan-answer-long : (a : Answer) → SizedAnswer m l a → lines (a .plan) ≤ m → length (planAnswerText a) ≤ planAnswerMost (suc d + 1) (suc e + 1) (lines (a .plan))
   unfolding planAnswerText headLine
   plan-answer-long a h n =
       omega (
         arith,
-        length-append (headLine (a .changed) (a .window) (a .interleave) (a .tracked)) (planLines (a .plan)),
+        length-append (headLine (a .changed) (a .window) (a .interleave) (a .tracked)) (planLines operatorLine (a .plan)),
         head-long (a .changed) (a .window) (a .interleave) (a .tracked),
         short (a .changed) (h .changed),
         short (a .window) (h .window),

@@ -3,9 +3,10 @@
 use mathlib.Core.Path.{_≡_, refl, sym, ap, _∙_}
 use mathlib.Core.List.{List, [], _∷_, _++_, append-assoc}
 use mathlib.Core.Option.{Option, some, none as absent}
-use Prim.Native.Nat.{ℕ, _+_}
+use Prim.Native.Nat.{ℕ, _+_, _≤_}
 use native.Mathlib.Omega.{arith}
-use lib.ListN.{length, getD, length-append}
+use lib.ListN.{length, getD, take, drop, length-append}
+use lib.Seq.{sets, sets-eq, take-at}
 use Rattle.text.specs.Text.{Field, number}
 use Rattle.text.specs.Write.{decimal, fieldText, fieldsText}
 use Rattle.text.proofs.Lengths.{line-length}
@@ -14,7 +15,7 @@ use Rattle.exchange.specs.Rows.{limitMark, limitNumber, limitOf, rowOf, flatten
 use Rattle.exchange.specs.Ensure.{Answer}
 use Rattle.answers.proofs.Pieces.{pieces, pieces-later}
 use Rattle.plananswer.specs.PlanTexts.{limitField, operatorFields, operatorLine, planLines, plansLines, planAnswerText}
-use Rattle.plananswer.specs.RowTexts.{rowLine, rowLines, headLine, rowsText}
+use Rattle.plananswer.specs.RowTexts.{ofRow, linesOf, rowLine, headLine, rowsText}
 
 -- ---- a tree's rows
 
@@ -22,43 +23,54 @@ limit-again : (l : Option ℕ) → limitOf (limitMark l) (limitNumber l) ≡ l
 limit-again absent = refl
 limit-again (some l) = refl
 
-row-operator : (o : Operator) (children : ℕ) → rowLine (rowOf o children) ≡ operatorLine o children
-unfolding rowLine rowOf
-row-operator o children = rw (limit-again (o .limit))
+lines-append : (line : List ℕ → List ℕ) (xs ys : List (List ℕ)) → linesOf line (xs ++ ys) ≡ linesOf line xs ++ linesOf line ys
+unfolding linesOf
+lines-append line [] ys = refl
+lines-append line (x ∷ xs) ys = ap (λ (t : List ℕ). line x ++ t) (lines-append line xs ys) ∙ sym (append-assoc (line x) (linesOf line xs) (linesOf line ys))
 
-lines-append : (xs ys : List (List ℕ)) → rowLines (xs ++ ys) ≡ rowLines xs ++ rowLines ys
-unfolding rowLines
-lines-append [] ys = refl
-lines-append (x ∷ xs) ys = ap (λ (t : List ℕ). rowLine x ++ t) (lines-append xs ys) ∙ sym (append-assoc (rowLine x) (rowLines xs) (rowLines ys))
+module _ (line : Operator → ℕ → List ℕ) where
+  row-operator : (o : Operator) (children : ℕ) → ofRow line (rowOf o children) ≡ line o children
+  unfolding rowOf
+  row-operator o children = rw (limit-again (o .limit))
 
-mutual
-  unfolding rowLines flatten planLines
+  mutual
+    unfolding linesOf flatten planLines
 
-  pub plan-lines : (t : Plan) → rowLines (flatten t) ≡ planLines t
-  plan-lines (node o ts) =
-      ap (λ (x : List ℕ). x ++ rowLines (flattens ts)) (row-operator o (trees ts)) ∙ ap (λ (x : List ℕ). operatorLine o (trees ts) ++ x) (plans-lines ts)
+    pub plan-lines : (t : Plan) → linesOf (ofRow line) (flatten t) ≡ planLines line t
+    plan-lines (node o ts) =
+        ap (λ (x : List ℕ). x ++ linesOf (ofRow line) (flattens ts)) (row-operator o (trees ts)) ∙ ap (λ (x : List ℕ). line o (trees ts) ++ x) (plans-lines ts)
 
-  pub plans-lines : (ts : Plans) → rowLines (flattens ts) ≡ plansLines ts
-  plans-lines none = refl
-  plans-lines (t ∷ᶠ ts) =
-      lines-append (flatten t) (flattens ts)
-      ∙ ap (λ (x : List ℕ). x ++ rowLines (flattens ts)) (plan-lines t)
-      ∙ ap (λ (x : List ℕ). planLines t ++ x) (plans-lines ts)
+    pub plans-lines : (ts : Plans) → linesOf (ofRow line) (flattens ts) ≡ plansLines line ts
+    plans-lines none = refl
+    plans-lines (t ∷ᶠ ts) =
+        lines-append (ofRow line) (flatten t) (flattens ts)
+        ∙ ap (λ (x : List ℕ). x ++ linesOf (ofRow line) (flattens ts)) (plan-lines t)
+        ∙ ap (λ (x : List ℕ). planLines line t ++ x) (plans-lines ts)
 
 -- an answer's text is that of its numbers and the rows of its tree
 pub rows-answer : (a : Answer) → rowsText (a .changed) (a .window) (a .interleave) (a .tracked) (flatten (a .plan)) ≡ planAnswerText a
-unfolding rowsText headLine planAnswerText
-rows-answer a = rw (plan-lines (a .plan))
+unfolding rowsText headLine rowLine planAnswerText
+rows-answer a = rw (plan-lines operatorLine (a .plan))
+
+-- the same where the rows were stored, n of them
+pub stored-answer :
+    (a : Answer) (before after : List (List ℕ)) (n : ℕ) → after ≡ sets before 0 (flatten (a .plan)) → n ≡ length (flatten (a .plan)) → n ≤ length before →
+    rowsText (a .changed) (a .window) (a .interleave) (a .tracked) (take n after) ≡ planAnswerText a
+stored-answer a before after n e l h =
+    let rows : List (List ℕ) = flatten (a .plan) in
+    let z : take n after ≡ rows =
+    ap (take n) (e ∙ sets-eq rows before 0 (omega arith)) ∙ take-at rows (drop (0 + length rows) before) n (sym l) in
+    rw z (rows-answer a)
 
 -- ---- a piece for each row
 
-abbrev pub rowPiece : List (List ℕ) → ℕ → List ℕ
-rowPiece rows i = rowLine (getD rows i [])
+abbrev pub linePiece : (List ℕ → List ℕ) → List (List ℕ) → ℕ → List ℕ
+linePiece line rows i = line (getD rows i [])
 
-pub row-pieces : (xs : List (List ℕ)) → rowLines xs ≡ pieces (rowPiece xs) 0 (length xs)
-unfolding rowLines pieces
-row-pieces [] = refl
-row-pieces (x ∷ xs) = ap (λ (t : List ℕ). rowLine x ++ t) (row-pieces xs ∙ sym (pieces-later (rowPiece (x ∷ xs)) 0 (length xs)))
+pub lines-pieces : (line : List ℕ → List ℕ) (xs : List (List ℕ)) → linesOf line xs ≡ pieces (linePiece line xs) 0 (length xs)
+unfolding linesOf pieces
+lines-pieces line [] = refl
+lines-pieces line (x ∷ xs) = ap (λ (t : List ℕ). line x ++ t) (lines-pieces line xs ∙ sym (pieces-later (linePiece line (x ∷ xs)) 0 (length xs)))
 
 -- ---- lengths
 

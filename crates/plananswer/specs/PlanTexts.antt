@@ -33,18 +33,18 @@ operatorFields o children =
 abbrev pub operatorLine : Operator → ℕ → List ℕ
 operatorLine o children = lineText 116 (operatorFields o children)
 
--- the t lines of a tree, in preorder
+-- a line for each operator of a tree, in preorder: by the operator, and how many children it has
 unfoldable mutual
-  pub planLines : Plan → List ℕ
-  planLines (node o ts) = operatorLine o (trees ts) ++ plansLines ts
+  pub planLines : (Operator → ℕ → List ℕ) → Plan → List ℕ
+  planLines line (node o ts) = line o (trees ts) ++ plansLines line ts
 
-  pub plansLines : Plans → List ℕ
-  plansLines none = []
-  plansLines (t ∷ᶠ ts) = planLines t ++ plansLines ts
+  pub plansLines : (Operator → ℕ → List ℕ) → Plans → List ℕ
+  plansLines line none = []
+  plansLines line (t ∷ᶠ ts) = planLines line t ++ plansLines line ts
 
 -- the d line, and the t lines
 unfoldable pub planAnswerText : Answer → List ℕ
-planAnswerText a = numbersLine 100 (a .changed ∷ a .window ∷ a .interleave ∷ a .tracked ∷ []) ++ planLines (a .plan)
+planAnswerText a = numbersLine 100 (a .changed ∷ a .window ∷ a .interleave ∷ a .tracked ∷ []) ++ planLines operatorLine (a .plan)
 
 -- refusal 9, refusal 11, or the answer's bytes
 abbrev pub distributed : Ensured → Outcome

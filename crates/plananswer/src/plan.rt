@@ -5,7 +5,7 @@ ghost use lib.ListN.{length, take};
 ghost use Rattle.text.specs.Write.{Wrote};
 ghost use Rattle.sheet.specs.KeyAnswers.{wrote};
 ghost use Rattle.sheet.specs.Outcomes.{answer, after, within};
-ghost use Rattle.plananswer.specs.RowTexts.{rowLines, headLine, rowsText};
+ghost use Rattle.plananswer.specs.RowTexts.{linesOf, rowLine, headLine, rowsText};
 use crate::line::operator_length;
 use crate::line::put_operator;
 use exchange::row::Row;
@@ -24,7 +24,7 @@ fn head_length(changed: u64, window: u64, interleave: u64, tracked: u64) -> usiz
 // The length of the rows' t lines.
 fn lines_length(rows: &[Row]) -> usize
     requires { ⌜ length (now rows) ≤ 65536 ⌝ }
-    ensures exact { λ r. ⌜ r ≡ length (rowLines (now (rows .entry))) ⌝ }
+    ensures exact { λ r. ⌜ r ≡ length (linesOf rowLine (now (rows .entry))) ⌝ }
     ensures few { λ r. ⌜ r ≤ 12517376 ⌝ }
 {
     let mut n: usize = 0;
@@ -68,8 +68,8 @@ fn put_head(
 
 // The rows' t lines.
 fn put_lines(out: &mut [u8], at: usize, rows: &[Row]) -> usize
-    requires { ⌜ at + length (rowLines (now rows)) ≤ length (now out) ⌝ }
-    ensures { λ r. ⌜ Wrote (now (out .entry)) at (rowLines (now (rows .entry))) (now (out .exit)) r ⌝ }
+    requires { ⌜ at + length (linesOf rowLine (now rows)) ≤ length (now out) ⌝ }
+    ensures { λ r. ⌜ Wrote (now (out .entry)) at (linesOf rowLine (now (rows .entry))) (now (out .exit)) r ⌝ }
 {
     let mut p = at;
     let mut i: usize = 0;

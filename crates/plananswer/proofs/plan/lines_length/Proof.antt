@@ -5,13 +5,14 @@ use native.Mathlib.Omega.{arith}
 use mathlib.Core.Path.{ap}
 use lib.ListN.{length}
 use Rattle.answers.proofs.Pieces.{Adding, adding-first, adding-more, adding-done}
-use Rattle.plananswer.proofs.RowLines.{rowPiece, row-pieces}
+use Rattle.plananswer.specs.RowTexts.{rowLine}
+use Rattle.plananswer.proofs.RowLines.{linePiece, lines-pieces}
 use borrow.Author.Needs.{needs}
 use Rattle.plananswer.proofs.plan.lines_length.Statement.{statement}
 use Rattle.plananswer.proofs.plan.lines_length.Tie as tie
 
 abbrev Inv-loop : tie.InvT-loop
-Inv-loop rows n₀ i₀ n i = Adding (rowPiece rows) (length rows) 0 191 n i
+Inv-loop rows n₀ i₀ n i = Adding (linePiece rowLine rows) (length rows) 0 191 n i
 
 abbrev μ-loop : tie.MeasureT-loop
 μ-loop rows n₀ i₀ n i = length rows - i
@@ -42,7 +43,7 @@ loop-again : tie.Need-loop-again Inv-loop μ-loop
 loop-again c = adding-more _ _ 0 191 _ _ (c .before .before .before .loop .inv) (c .before .before .loop-test .taken) _ (c .operator-length .ensures .0) (c .operator-length .ensures .1)
 
 returns : tie.Need-returns Inv-loop μ-loop
-returns c = let v = c .before .loop .inv in (omega (arith, adding-done _ _ 0 191 _ _ v (c .loop-test .left), ap length (row-pieces (c .before .before .args .rows .now))), omega (arith, v .near, v .within, c .before .before .pre))
+returns c = let v = c .before .loop .inv in (omega (arith, adding-done _ _ 0 191 _ _ v (c .loop-test .left), ap length (lines-pieces rowLine (c .before .before .args .rows .now))), omega (arith, v .near, v .within, c .before .before .pre))
 
 pub lines-length-spec : {M : Type 1} → statement M
 lines-length-spec =

@@ -2,7 +2,7 @@
 -- Assumes nothing.
 use native.Mathlib.Omega.{arith}
 use lib.ListN.{length-append}
-use Rattle.plananswer.specs.RowTexts.{rowLines, headLine, rowsText}
+use Rattle.plananswer.specs.RowTexts.{linesOf, rowLine, headLine, rowsText}
 use borrow.Author.Needs.{needs}
 use Rattle.plananswer.proofs.plan.plan_text_length.Statement.{statement}
 use Rattle.plananswer.proofs.plan.plan_text_length.Tie as tie
@@ -24,7 +24,7 @@ returns c =
       arith,
       c .before .head-length .ensures .0,
       c .lines-length .ensures .0,
-      length-append (headLine (a .changed) (a .window) (a .interleave) (a .tracked)) (rowLines (a .rows .now)),
+      length-append (headLine (a .changed) (a .window) (a .interleave) (a .tracked)) (linesOf rowLine (a .rows .now)),
     )
 
 pub plan-text-length-spec : {M : Type 1} → statement M

@@ -3,19 +3,20 @@
 use Prim.Native.Nat.{_-_}
 use lib.ListN.{length}
 use Rattle.answers.proofs.Pieces.{Writing, writing-first, writing-room, writing-more, writing-done}
-use Rattle.plananswer.proofs.RowLines.{rowPiece, row-pieces}
+use Rattle.plananswer.specs.RowTexts.{rowLine}
+use Rattle.plananswer.proofs.RowLines.{linePiece, lines-pieces}
 use borrow.Author.Needs.{needs}
 use Rattle.plananswer.proofs.plan.put_lines.Statement.{statement}
 use Rattle.plananswer.proofs.plan.put_lines.Tie as tie
 
 abbrev Inv-loop : tie.InvT-loop
-Inv-loop out₀ at rows p₀ i₀ out p i = Writing (rowPiece rows) (length rows) out₀ at out p i
+Inv-loop out₀ at rows p₀ i₀ out p i = Writing (linePiece rowLine rows) (length rows) out₀ at out p i
 
 abbrev μ-loop : tie.MeasureT-loop
 μ-loop out₀ at rows p₀ i₀ out p i = length rows - i
 
 loop-holds : tie.Need-loop-holds Inv-loop μ-loop
-loop-holds c = writing-first _ _ _ _ (rw (row-pieces (c .before .args .rows .now)) at (c .before .pre))
+loop-holds c = writing-first _ _ _ _ (rw (lines-pieces rowLine (c .before .args .rows .now)) at (c .before .pre))
 
 mul-put-operator : tie.Need-mul-put-operator Inv-loop μ-loop
 mul-put-operator c = search needs
@@ -39,7 +40,7 @@ same-length : tie.Need-same-length Inv-loop μ-loop
 same-length c = c .before .loop .inv .owed .room
 
 returns : tie.Need-returns Inv-loop μ-loop
-returns c = rw (row-pieces (c .before .before .before .args .rows .now)) (writing-done _ _ _ _ _ _ _ (c .before .loop .inv) (c .loop-test .left))
+returns c = rw (lines-pieces rowLine (c .before .before .before .args .rows .now)) (writing-done _ _ _ _ _ _ _ (c .before .loop .inv) (c .loop-test .left))
 
 pub put-lines-spec : {M : Type 1} → statement M
 put-lines-spec =

@@ -4,7 +4,7 @@ use Prim.Native.Nat.{ℕ}
 use mathlib.Core.List.{List, _++_}
 use Rattle.text.proofs.Stores.{wrote-then}
 use Rattle.answers.proofs.Pieces.{Owed, owed-all, owed-room, owed-then}
-use Rattle.plananswer.specs.RowTexts.{rowLines, headLine, rowsText}
+use Rattle.plananswer.specs.RowTexts.{linesOf, rowLine, headLine, rowsText}
 use borrow.Author.Needs.{needs}
 use Rattle.plananswer.proofs.plan.put_plan.Statement.{statement}
 use Rattle.plananswer.proofs.plan.put_plan.Tie as tie
@@ -13,7 +13,7 @@ abbrev Head : tie.Start → List ℕ
 Head s = let a = s .args in headLine (a .changed) (a .window) (a .interleave) (a .tracked)
 
 abbrev Lines : tie.Start → List ℕ
-Lines s = rowLines (s .args .rows .now)
+Lines s = linesOf rowLine (s .args .rows .now)
 
 start : (s : tie.Start) → Owed (s .args .out .now) (s .args .at) (Head s ++ Lines s) (s .args .out .now) (s .args .at) (Head s ++ Lines s)
 unfolding rowsText
