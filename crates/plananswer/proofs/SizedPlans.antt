@@ -91,16 +91,19 @@ module _ (m l : ℕ) (kinds : 255 ≤ m) where
 
   module _ (x : Row) (r : RowWithin m x) where
     pub fine-split : (t : Plan) → Fine t → Fine (splitPlan x t)
-    fine-split (node o ts) h = (record {
-      id = h .0 .id;
-      kind = h .0 .kind;
-      count = r .count;
-      keeps = h .0 .keeps;
-      limit = h .0 .limit;
-      order = r .order;
-      mask = h .0 .mask;
-      tracked = h .0 .tracked;
-    }, h .1)
+    fine-split (node o ts) h = (
+      record {
+        id = h .0 .id;
+        kind = h .0 .kind;
+        count = r .count;
+        keeps = h .0 .keeps;
+        limit = h .0 .limit;
+        order = r .order;
+        mask = h .0 .mask;
+        tracked = h .0 .tracked;
+      },
+      h .1,
+    )
 
     pub fine-merge : (t : Plan) → Fine t → Fine (mergeOn x t)
     fine-merge t h = fine-above (newMerge x (root t)) t (record {
