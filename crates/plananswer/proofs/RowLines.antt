@@ -23,7 +23,7 @@ limit-again : (l : Option ℕ) → limitOf (limitMark l) (limitNumber l) ≡ l
 limit-again absent = refl
 limit-again (some l) = refl
 
-lines-append : (line : List ℕ → List ℕ) (xs ys : List (List ℕ)) → linesOf line (xs ++ ys) ≡ linesOf line xs ++ linesOf line ys
+lines-append : {A : Type 0} (line : A → List ℕ) (xs ys : List A) → linesOf line (xs ++ ys) ≡ linesOf line xs ++ linesOf line ys
 unfolding linesOf
 lines-append line [] ys = refl
 lines-append line (x ∷ xs) ys = ap (λ (t : List ℕ). line x ++ t) (lines-append line xs ys) ∙ sym (append-assoc (line x) (linesOf line xs) (linesOf line ys))

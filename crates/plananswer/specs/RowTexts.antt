@@ -12,8 +12,8 @@ use Rattle.plananswer.specs.PlanTexts.{operatorFields, operatorLine}
 abbrev pub ofRow : {A : Type 0} → (Operator → ℕ → A) → List ℕ → A
 ofRow f x = f (operatorOf (unpacked x)) (childrenOf x)
 
--- a line for each row
-unfoldable pub linesOf : (List ℕ → List ℕ) → List (List ℕ) → List ℕ
+-- a line for each entry
+unfoldable pub linesOf : {A : Type 0} → (A → List ℕ) → List A → List ℕ
 linesOf line [] = []
 linesOf line (x ∷ xs) = line x ++ linesOf line xs
 

@@ -23,7 +23,7 @@ use text::write::number_length;
 use text::write::put_line;
 
 // The state of a limit's field, by its mark: 1, empty, where there is none.
-fn limit_state(limited: u64) -> u64
+pub(crate) fn limit_state(limited: u64) -> u64
     ensures { λ r. ⌜ ((l : ℕ) → fieldOf r l ≡ limitField (limitOf limited l)) ⌝ }
 {
     if limited == 0 {
