@@ -1,4 +1,5 @@
 pub mod RowLines
+pub mod SheetRows
 pub mod AnswerLong
 pub mod SizedPlans
 pub mod SizedAnswers

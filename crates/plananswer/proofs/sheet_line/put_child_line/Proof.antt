@@ -4,52 +4,38 @@ use Rattle.plananswer.specs.SheetTexts.{childLine, childRowLine}
 use borrow.Author.Needs.{needs}
 use Rattle.plananswer.proofs.sheet_line.put_child_line.Statement.{statement}
 use Rattle.plananswer.proofs.sheet_line.put_child_line.Tie as tie
-use Rattle.plananswer.proofs.sheet_line.put_child_line.Reads as reads
-use Rattle.plananswer.proofs.sheet_line.put_child_line.Lts as lts
-use Rattle.answers.proofs.line.put_numbers.Reads as put-numbers-reads
 
--- src/sheet_line.rt:76:17
 array-read-t8 : tie.Need-array-read-t8
 array-read-t8 c = search needs
 
--- src/sheet_line.rt:76:23
 array-read-t11 : tie.Need-array-read-t11
 array-read-t11 c = search needs
 
--- src/sheet_line.rt:76:29
 array-read-t14 : tie.Need-array-read-t14
 array-read-t14 c = search needs
 
--- src/sheet_line.rt:76:35
 array-read-t17 : tie.Need-array-read-t17
 array-read-t17 c = search needs
 
--- src/sheet_line.rt:76:41
 array-read-t20 : tie.Need-array-read-t20
 array-read-t20 c = search needs
 
--- src/sheet_line.rt:76:47
 array-read-t23 : tie.Need-array-read-t23
 array-read-t23 c = search needs
 
--- src/sheet_line.rt:76:53
 array-read-t26 : tie.Need-array-read-t26
 array-read-t26 c = search needs
 
--- src/sheet_line.rt:77:30
 slice-aggregate-put-numbers : tie.Need-slice-aggregate-put-numbers
 slice-aggregate-put-numbers c = search needs
 
--- src/sheet_line.rt:77:5
 put-numbers-requires : tie.Need-put-numbers-requires
 unfolding childLine childRowLine
 put-numbers-requires c κs = c .before .before .before .pre
 
--- src/sheet_line.rt:72:1
 same-length : tie.Need-same-length
 same-length c = search needs
 
--- src/sheet_line.rt:72:1
 returns : tie.Need-returns
 unfolding childLine childRowLine
 returns c = c .before .before .put-numbers .ensures

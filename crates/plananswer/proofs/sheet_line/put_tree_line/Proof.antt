@@ -4,29 +4,20 @@ use Rattle.plananswer.specs.SheetTexts.{treeRowLine}
 use borrow.Author.Needs.{needs}
 use Rattle.plananswer.proofs.sheet_line.put_tree_line.Statement.{statement}
 use Rattle.plananswer.proofs.sheet_line.put_tree_line.Tie as tie
-use Rattle.plananswer.proofs.sheet_line.put_tree_line.Reads as reads
-use Rattle.plananswer.proofs.sheet_line.put_tree_line.Lts as lts
-use Rattle.plananswer.proofs.sheet_line.tree_fields.Reads as tree-fields-reads
-use Rattle.text.proofs.write.put_line.Reads as put-line-reads
 
--- src/sheet_line.rt:67:18
 tree-fields-requires : tie.Need-tree-fields-requires
 tree-fields-requires c κs = search needs
 
--- src/sheet_line.rt:68:27
 slice-aggregate-put-line : tie.Need-slice-aggregate-put-line
 slice-aggregate-put-line c = search needs
 
--- src/sheet_line.rt:68:5
 put-line-requires : tie.Need-put-line-requires
 unfolding treeRowLine
 put-line-requires c κs = rw (c .before .before .tree-fields .ensures) (c .before .before .before .before .pre)
 
--- src/sheet_line.rt:63:1
 same-length : tie.Need-same-length
 same-length c = search needs
 
--- src/sheet_line.rt:63:1
 returns : tie.Need-returns
 unfolding treeRowLine
 returns c = rw (c .before .before .before .before .before .tree-fields .ensures) at (c .before .before .put-line .ensures)

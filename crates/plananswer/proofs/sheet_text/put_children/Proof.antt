@@ -8,9 +8,6 @@ use Rattle.plananswer.proofs.RowLines.{linePiece, lines-pieces}
 use borrow.Author.Needs.{needs}
 use Rattle.plananswer.proofs.sheet_text.put_children.Statement.{statement}
 use Rattle.plananswer.proofs.sheet_text.put_children.Tie as tie
-use Rattle.plananswer.proofs.sheet_text.put_children.Reads as reads
-use Rattle.plananswer.proofs.sheet_text.put_children.Lts as lts
-use Rattle.plananswer.proofs.sheet_line.put_child_line.Reads as put-child-line-reads
 
 abbrev Inv-loop : tie.InvT-loop
 Inv-loop out₀ at rows p₀ i₀ out p i = Writing (linePiece childRowLine rows) (length rows) out₀ at out p i
@@ -18,40 +15,31 @@ Inv-loop out₀ at rows p₀ i₀ out p i = Writing (linePiece childRowLine rows
 abbrev μ-loop : tie.MeasureT-loop
 μ-loop out₀ at rows p₀ i₀ out p i = length rows - i
 
--- src/sheet_text.rt:41:5
 loop-holds : tie.Need-loop-holds Inv-loop μ-loop
 loop-holds c = writing-first _ _ _ _ (rw (lines-pieces childRowLine (c .before .args .rows .now)) at (c .before .pre))
 
--- src/sheet_text.rt:42:36
 mul-put-child-line : tie.Need-mul-put-child-line Inv-loop μ-loop
 mul-put-child-line c = search needs
 
--- src/sheet_text.rt:42:36
 shared-slice-copy-out-put-child-line :
     tie.Need-shared-slice-copy-out-put-child-line Inv-loop μ-loop
 shared-slice-copy-out-put-child-line c = search needs
 
--- src/sheet_text.rt:42:9
 put-child-line-requires : tie.Need-put-child-line-requires Inv-loop μ-loop
 put-child-line-requires c κs = writing-room _ _ _ _ _ _ _ (c .before .before .before .loop .inv) (c .before .before .loop-test .taken)
 
--- src/sheet_text.rt:43:9
 add-i : tie.Need-add-i Inv-loop μ-loop
 add-i c = search needs
 
--- src/sheet_text.rt:41:5
 loop-less : tie.Need-loop-less Inv-loop μ-loop
 loop-less c = search needs
 
--- src/sheet_text.rt:41:5
 loop-again : tie.Need-loop-again Inv-loop μ-loop
 loop-again c = writing-more _ _ _ _ _ _ _ (c .before .before .before .before .before .before .loop .inv) (c .before .before .before .before .before .loop-test .taken) _ _ (c .before .before .put-child-line .ensures)
 
--- src/sheet_text.rt:35:1
 same-length : tie.Need-same-length Inv-loop μ-loop
 same-length c = c .before .loop .inv .owed .room
 
--- src/sheet_text.rt:35:1
 returns : tie.Need-returns Inv-loop μ-loop
 returns c = rw (lines-pieces childRowLine (c .before .before .before .args .rows .now)) (writing-done _ _ _ _ _ _ _ (c .before .loop .inv) (c .loop-test .left))
 

@@ -8,9 +8,6 @@ use Rattle.plananswer.proofs.RowLines.{linePiece, lines-pieces}
 use borrow.Author.Needs.{needs}
 use Rattle.plananswer.proofs.sheet_text.put_facts.Statement.{statement}
 use Rattle.plananswer.proofs.sheet_text.put_facts.Tie as tie
-use Rattle.plananswer.proofs.sheet_text.put_facts.Reads as reads
-use Rattle.plananswer.proofs.sheet_text.put_facts.Lts as lts
-use Rattle.plananswer.proofs.sheet_line.put_fact_line.Reads as put-fact-line-reads
 
 abbrev Inv-loop : tie.InvT-loop
 Inv-loop out₀ at rows p₀ i₀ out p i = Writing (linePiece factRowLine rows) (length rows) out₀ at out p i
@@ -18,39 +15,30 @@ Inv-loop out₀ at rows p₀ i₀ out p i = Writing (linePiece factRowLine rows)
 abbrev μ-loop : tie.MeasureT-loop
 μ-loop out₀ at rows p₀ i₀ out p i = length rows - i
 
--- src/sheet_text.rt:55:5
 loop-holds : tie.Need-loop-holds Inv-loop μ-loop
 loop-holds c = writing-first _ _ _ _ (rw (lines-pieces factRowLine (c .before .args .rows .now)) at (c .before .pre))
 
--- src/sheet_text.rt:56:35
 mul-put-fact-line : tie.Need-mul-put-fact-line Inv-loop μ-loop
 mul-put-fact-line c = search needs
 
--- src/sheet_text.rt:56:35
 shared-slice-copy-out-put-fact-line : tie.Need-shared-slice-copy-out-put-fact-line Inv-loop μ-loop
 shared-slice-copy-out-put-fact-line c = search needs
 
--- src/sheet_text.rt:56:9
 put-fact-line-requires : tie.Need-put-fact-line-requires Inv-loop μ-loop
 put-fact-line-requires c κs = writing-room _ _ _ _ _ _ _ (c .before .before .before .loop .inv) (c .before .before .loop-test .taken)
 
--- src/sheet_text.rt:57:9
 add-i : tie.Need-add-i Inv-loop μ-loop
 add-i c = search needs
 
--- src/sheet_text.rt:55:5
 loop-less : tie.Need-loop-less Inv-loop μ-loop
 loop-less c = search needs
 
--- src/sheet_text.rt:55:5
 loop-again : tie.Need-loop-again Inv-loop μ-loop
 loop-again c = writing-more _ _ _ _ _ _ _ (c .before .before .before .before .before .before .loop .inv) (c .before .before .before .before .before .loop-test .taken) _ _ (c .before .before .put-fact-line .ensures)
 
--- src/sheet_text.rt:49:1
 same-length : tie.Need-same-length Inv-loop μ-loop
 same-length c = c .before .loop .inv .owed .room
 
--- src/sheet_text.rt:49:1
 returns : tie.Need-returns Inv-loop μ-loop
 returns c = rw (lines-pieces factRowLine (c .before .before .before .args .rows .now)) (writing-done _ _ _ _ _ _ _ (c .before .loop .inv) (c .loop-test .left))
 
