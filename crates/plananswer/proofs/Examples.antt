@@ -3,11 +3,10 @@
 use mathlib.Core.Path.{_≡_, refl}
 use mathlib.Core.List.{List, [], _∷_, map}
 use mathlib.Core.Option.{some, none as nothing}
-use Prim.Native.Nat.{ℕ}
 use Prim.Native.String.{String}
 use Rattle.text.specs.Write.{digits, decimal, fieldText, fieldsText, lineText}
 use Rattle.text.proofs.Examples.{bytes}
-use Rattle.sheet.specs.KeyAnswers.{Outcome, wrote}
+use Rattle.sheet.specs.KeyAnswers.{wrote}
 use Rattle.exchange.specs.declared.settings.Settings.{Settings}
 use Rattle.exchange.specs.Trees.{node, none, _∷ᶠ_, Plan}
 use Rattle.exchange.specs.Facts.{Facts}

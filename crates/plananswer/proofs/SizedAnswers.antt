@@ -1,7 +1,7 @@
 -- The numbers of an answer of `ensured` are within the sheet's.
 -- Assumes nothing.
 use mathlib.Core.Path.{_≡_, refl, ap}
-use mathlib.Core.Bool.{Bool, true, false, cond, _&&_}
+use mathlib.Core.Bool.{Bool, cond, _&&_}
 use mathlib.Core.Option.{Option, some, none as nothing}
 use mathlib.Core.List.{List, [], _∷_}
 use Prim.Native.Nat.{ℕ, suc, _≤_}
@@ -9,7 +9,7 @@ use native.Mathlib.Omega.{arith}
 use lib.Dec.{eqb, ltb}
 use lib.ListN.{length}
 use Rattle.sheet.specs.Sizes.{Each}
-use Rattle.exchange.specs.Trees.{node, none, _∷ᶠ_, root, trees, Operator, Plan, Plans}
+use Rattle.exchange.specs.Trees.{node, none, _∷ᶠ_, root, Operator, Plan, Plans}
 use Rattle.exchange.specs.declared.settings.Settings.{Settings}
 use Rattle.exchange.specs.Settings.{isSet}
 use Rattle.exchange.specs.Forms.{Form, formNumber, plainForm, splitForm, withTop, withRelationship}
@@ -19,15 +19,14 @@ use Rattle.exchange.specs.Children.{updateEach, updateChildren}
 use Rattle.exchange.specs.States.{Child, ChildState, childrenFrom, withForm, pass, startedBy, started, andThen}
 use Rattle.exchange.specs.Status.{RepartitionRequirementStatus}
 use Rattle.exchange.specs.Step.{splitPlan, mergeOn, keyedOn, roundrobinOn, partitions, addMergeOnTop, addHashOnTop, addRoundrobinOnTop, addRoundrobin, splitAtSource, needsHashRepartition, satisfyDistribution, ensureChild}
-use Rattle.exchange.specs.Relationships.{Enforced, rowMissing, stuck, enforced}
-use Rattle.exchange.specs.Ensure.{Answer, Ensured, missingRow, unenforceable, answered, handled, finished, becomesInterleave, ensuredBy, ensured}
+use Rattle.exchange.specs.Ensure.{Answer, Ensured, missingRow, unenforceable, answered, handled, finished, becomesInterleave, ensured}
 use Rattle.exchange.specs.Skeleton.{below}
 use Rattle.exchange.specs.Partitioning.{workedOf}
 use Rattle.exchange.proofs.Passing.{Holds, HoldsEnsured, holds-then, holds-cond, Alls, Steps, Relates}
 use Rattle.exchange.proofs.Answered.{Finished, Came, leaf, worked, came-always}
 use Rattle.exchange.proofs.OperatorsKept.{of-answer}
-use Rattle.plananswer.specs.Sizes.{Everywhere, OperatorWithin, RowWithin, EntriesWithin, SizedFacts, SizedAnswer}
-use Rattle.plananswer.proofs.SizedPlans.{Fine, Fines, mark-within, root-fine, fine-cond, fine-updates, fine-removed, fine-split, fine-merge, fine-exchange, fine-handled, interleaved-within}
+use Rattle.plananswer.specs.Sizes.{OperatorWithin, RowWithin, EntriesWithin, SizedFacts, SizedAnswer}
+use Rattle.plananswer.proofs.SizedPlans.{Fine, Fines, mark-within, fine-updates, fine-removed, fine-split, fine-merge, fine-exchange, fine-handled, interleaved-within}
 
 -- ---- rows
 

@@ -1,8 +1,7 @@
 -- Whatever a step makes of a tree, its numbers stay within m and its limits within l.
 -- Assumes nothing.
-use mathlib.Core.Path.{_≡_}
 use mathlib.Core.Bool.{Bool, true, false, cond, _&&_}
-use mathlib.Core.Option.{Option, some, none as absent}
+use mathlib.Core.Option.{Option, none as absent}
 use Prim.Native.Nat.{ℕ, _≤_}
 use native.Mathlib.Omega.{arith}
 use lib.Dec.{eqb, ltb}
@@ -13,7 +12,7 @@ use Rattle.exchange.specs.Facts.{NodeFacts, Row}
 use Rattle.exchange.specs.Operators.{isSortPreservingMerge, isRepartition, isOutputRequirement, isTracked, hasOrder, hasLimit, mark, track, trackRoot, above, newMerge, newExchange, limitedSort, requiredSort}
 use Rattle.exchange.specs.Children.{changesDistribution, updateChild, updateEach, updateChildren, isRemoved, removeDistChangingOperators, removeAbove}
 use Rattle.exchange.specs.States.{ChildState}
-use Rattle.exchange.specs.Step.{mergeOn, keyedOn, roundrobinOn, splitOperator, splitPlan}
+use Rattle.exchange.specs.Step.{mergeOn, splitPlan}
 use Rattle.exchange.specs.Replace.{coalesced, relaxed, replaceMerge, replaceOperator, replaceOrderPreservingVariants, replaceTracked}
 use Rattle.exchange.specs.Order.{keptEntries, addSortAbove, outputFetch, isGivenUp, orderRequired, isReplaced, orderNotRequired, handleOrder}
 use Rattle.exchange.specs.Ensure.{interleaved}

@@ -1,7 +1,7 @@
 -- D sheets as text: what is written again from a sheet that was read.
 -- Renders document 01, "Exchange sheet", its formats of the lines D, T, B, F, X and Y, and demand 2, "Sheets written from a read sheet have the same bytes".
 use Prim.Native.Nat.{ℕ}
-use mathlib.Core.List.{List, [], _∷_, _++_, map}
+use mathlib.Core.List.{List, [], _∷_, _++_}
 use Rattle.text.specs.Text.{Field, number}
 use Rattle.text.specs.Write.{lineText}
 use Rattle.sheet.specs.KeyAnswers.{numbersLine}

@@ -51,7 +51,7 @@ fn operator_fields(x: Row) -> [[u64; 2]; 9]
 }
 
 // The length of a row's t line.
-pub fn operator_length(x: Row) -> usize
+pub(crate) fn operator_length(x: Row) -> usize
     ensures exact { λ r. ⌜ r ≡ length (rowLine x) ⌝ }
     ensures few { λ r. ⌜ r ≤ 191 ⌝ }
 {
@@ -63,7 +63,7 @@ pub fn operator_length(x: Row) -> usize
 }
 
 // A row's t line.
-pub fn put_operator(out: &mut [u8], at: usize, x: Row) -> usize
+pub(crate) fn put_operator(out: &mut [u8], at: usize, x: Row) -> usize
     requires { ⌜ at + length (rowLine x) ≤ length (now out) ⌝ }
     ensures { λ r. ⌜ Wrote (now (out .entry)) at (rowLine x) (now (out .exit)) r ⌝ }
 {

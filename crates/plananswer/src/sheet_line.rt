@@ -24,7 +24,7 @@ use exchange::status::ChildRow;
 use text::write::put_line;
 
 // The D line.
-pub fn put_settings(out: &mut [u8], at: usize, s: Settings) -> usize
+pub(crate) fn put_settings(out: &mut [u8], at: usize, s: Settings) -> usize
     requires { ⌜ at + length (numbersLine 68 (settingsNumbers s)) ≤ length (now out) ⌝ }
     ensures { λ r. ⌜ Wrote (now (out .entry)) at (numbersLine 68 (settingsNumbers s)) (now (out .exit)) r ⌝ }
 {
@@ -60,7 +60,7 @@ fn tree_fields(x: Row) -> [[u64; 2]; 8]
 }
 
 // A row's T line.
-pub fn put_tree_line(out: &mut [u8], at: usize, x: Row) -> usize
+pub(crate) fn put_tree_line(out: &mut [u8], at: usize, x: Row) -> usize
     requires { ⌜ at + length (treeRowLine x) ≤ length (now out) ⌝ }
     ensures { λ r. ⌜ Wrote (now (out .entry)) at (treeRowLine x) (now (out .exit)) r ⌝ }
 {
@@ -69,7 +69,7 @@ pub fn put_tree_line(out: &mut [u8], at: usize, x: Row) -> usize
 }
 
 // A row's F line.
-pub fn put_child_line(out: &mut [u8], at: usize, x: ChildRow) -> usize
+pub(crate) fn put_child_line(out: &mut [u8], at: usize, x: ChildRow) -> usize
     requires { ⌜ at + length (childRowLine x) ≤ length (now out) ⌝ }
     ensures { λ r. ⌜ Wrote (now (out .entry)) at (childRowLine x) (now (out .exit)) r ⌝ }
 {
@@ -78,7 +78,7 @@ pub fn put_child_line(out: &mut [u8], at: usize, x: ChildRow) -> usize
 }
 
 // A row's X line.
-pub fn put_fact_line(out: &mut [u8], at: usize, x: FactRow) -> usize
+pub(crate) fn put_fact_line(out: &mut [u8], at: usize, x: FactRow) -> usize
     requires { ⌜ at + length (factRowLine x) ≤ length (now out) ⌝ }
     ensures { λ r. ⌜ Wrote (now (out .entry)) at (factRowLine x) (now (out .exit)) r ⌝ }
 {

@@ -4,7 +4,7 @@ use Prim.Native.Nat.{ℕ, _-_}
 use mathlib.Core.Path.{_≡_}
 use mathlib.Core.List.{List}
 use native.Mathlib.Omega.{arith}
-use lib.ListN.{length, take}
+use lib.ListN.{take}
 use Rattle.answers.proofs.Room.{room-written, room-short}
 use Rattle.plananswer.specs.RowTexts.{rowsText}
 use borrow.Author.Needs.{needs}
