@@ -1,0 +1,4 @@
+pub mod PlanTexts
+pub mod RowTexts
+pub mod SheetTexts
+pub mod Sizes
