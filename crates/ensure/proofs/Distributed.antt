@@ -36,6 +36,12 @@ ensured-leaf : (s : Settings) (f : Facts) (t : Plan) → hasChildren s f (update
 unfolding ensured
 ensured-leaf s f t e = rw e
 
+-- an answer fits the room
+pub sheet-fits : (s : Settings) (f : Facts) (src : List (List ℕ)) (count room : ℕ) (p : Sheet src count) → count ≤ 8 → 2 * length src + 24 ≤ room → (a : Answer)
+    → ensured s f (p .tree) ≡ answered a → length (flatten (a .plan)) ≤ room
+sheet-fits s f src count room p few roomy a e =
+    omega (arith, answer-lines s f (p .tree) a e, lines-rows (a .plan), lines-rows (p .tree), p .counted, tree-in src 0 (p .tree) (p .rest) (p .stands))
+
 module _ (src src₁ : List (List ℕ)) (up : Becomes updateChildren src 0 src₁) where
   abbrev after : Plan → List (List ℕ)
   after t = drop (0 + length (flatten (updateChildren t))) src
@@ -98,8 +104,5 @@ module _ (src src₁ : List (List ℕ)) (up : Becomes updateChildren src 0 src�
           rest = w .rest;
           stands = ap (λ (i : ℕ). drop i src₁) (found (updateChildren t) (after t) stands) ∙ w .stands;
           counted = p .counted;
-          fits = λ a e.
-              let bound : lines (a .plan) ≤ 2 * lines t + 3 * trees (below (workedOf t)) =
-              answer-lines s f t a (ensured-worked s f t (has-children s f (updateChildren t) (after t) stands n) ∙ e) in
-              omega (arith, bound, lines-rows (a .plan), lines-rows t, p .counted, few, roomy, tree-in src 0 t (p .rest) (p .stands));
+          fits = λ a e. sheet-fits s f src count room p few roomy a (ensured-worked s f t (has-children s f (updateChildren t) (after t) stands n) ∙ e);
         }

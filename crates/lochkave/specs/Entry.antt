@@ -1,6 +1,7 @@
 -- What the entry points decide on a sheet's bytes, and with so much room for the output.
 -- Renders document 01, "The Rust harness calls the decisions on byte slices", refusal 12, and demand 2, "Sheets written from a read sheet have the same bytes".
 use Prim.Native.Nat.{ℕ}
+use mathlib.Core.Path.{_≡_}
 use mathlib.Core.List.{List}
 use mathlib.Core.Bool.{cond}
 use lib.Dec.{eqb}
@@ -10,7 +11,7 @@ use Rattle.keys.specs.Inputs.{JoinSheet}
 use Rattle.sheet.specs.KeySheets.{Reading, sheet, turned, readKeySheet, readJoinSheet}
 use Rattle.sheet.specs.KeyAnswers.{Outcome, refused, wrote, adjustDecision, inputsDecision, decision}
 use Rattle.sheet.specs.KeyTexts.{keySheetText, joinSheetText}
-use Rattle.sheet.specs.Outcomes.{within}
+use Rattle.sheet.specs.Outcomes.{answer, after, within}
 
 -- a sheet that was read, written again
 abbrev pub keyAgain : Reading KeySheet → Outcome
@@ -38,3 +39,7 @@ inputsOutcome s room = within room (inputsDecision s)
 -- `lochkave_rewrite`
 abbrev pub rewriteOutcome : List ℕ → ℕ → Outcome
 rewriteOutcome s room = within room (rewriting s)
+
+-- that number is returned, and those bytes are left
+abbrev pub Gives : Outcome → ℕ → List ℕ → List ℕ → Type 0
+Gives o r before left = (r ≡ answer o) × (left ≡ after o before)

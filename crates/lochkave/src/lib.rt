@@ -1,6 +1,7 @@
 // The entry points on byte slices, for C and Rust: a sheet's bytes and a lent output.
 // The result is a refusal's number × 2^32 + its line, or how many bytes were written at the front of the output.
 mod again;
+mod plan;
 
 ghost use mathlib.Core.Path.{_≡_};
 ghost use lib.ListN.{length};

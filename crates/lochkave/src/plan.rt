@@ -1,0 +1,54 @@
+// A D sheet that was read: decided, and its answer written.
+use ensure::distribution::ensure_distribution;
+use ensure::outcome::Ensured;
+use exchange::fact::FactRow;
+use exchange::partitioning::NodeRow;
+use exchange::row::Row;
+use exchange::settings::Settings;
+use exchange::status::ChildRow;
+use plananswer::plan::write_plan;
+ghost use mathlib.Core.Path.{_≡_};
+ghost use mathlib.Core.List.{List, _++_};
+ghost use Prim.Native.Nat.{ℕ, _+_, _*_, _≤_};
+ghost use lib.ListN.{length, take};
+ghost use Rattle.sheet.specs.Outcomes.{within};
+ghost use Rattle.exchange.specs.Trees.{Plan};
+ghost use Rattle.exchange.specs.Rows.{flatten};
+ghost use Rattle.exchange.specs.Ensure.{ensured};
+ghost use Rattle.ensure.specs.Outcomes.{factsBy};
+ghost use Rattle.ensure.specs.Lent.{Known, Sheet};
+ghost use Rattle.plananswer.specs.PlanTexts.{distributed};
+ghost use Rattle.lochkave.specs.Entry.{Gives};
+
+// Decides on the tree at the front of `src`, and writes the answer.
+pub(crate) fn answer_plan(
+    s: Settings,
+    b: NodeRow,
+    masks: &[u64],
+    facts: &[ChildRow],
+    index: &[u64],
+    rows: &[FactRow],
+    n: usize,
+    src: &mut [Row],
+    mid: &mut [Row],
+    dst: &mut [Row],
+    out: &mut [u8],
+) -> u64
+    requires { ⌜ Known (now facts) (now rows) (now index) n ⌝ }
+    requires { ⌜ (length (now facts) ≤ 8) × (length (now src) + 2 ≤ length (now mid)) × (2 * length (now src) + 24 ≤ length (now dst)) × (length (now dst) ≤ 65536) ⌝ }
+    requires { ⌜ Sheet (now src) (length (now facts)) ⌝ }
+    ensures { λ r. ⌜ ((t : Plan) (rest : List (List ℕ)) → now (src .entry) ≡ flatten t ++ rest → Gives (within (length (now (out .entry))) (distributed (ensured s (factsBy b (now (facts .entry)) (take n (now (rows .entry))) (now (masks .entry))) t))) r (now (out .entry)) (now (out .exit))) ⌝ }
+{
+    let done = ensure_distribution(s, b, masks, facts, index, rows, n, src, mid, &mut *dst);
+    match done {
+        Ensured::Missing => return 38654705664,
+        Ensured::Unenforceable => return 47244640256,
+        Ensured::Answered {
+            changed,
+            window,
+            interleave,
+            tracked,
+            lines,
+        } => return write_plan(changed, window, interleave, tracked, &*dst, lines, out),
+    }
+}
