@@ -1,0 +1,5 @@
+pub mod Shapes
+pub mod PlanLines
+pub mod PlanSheets
+pub mod PlanTexts
+pub mod PlanAnswers
