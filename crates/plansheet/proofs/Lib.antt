@@ -1,1 +1,4 @@
 pub mod Examples
+pub mod Overs
+pub mod Shaped
+pub mod Turns

@@ -3,3 +3,4 @@ pub mod PlanLines
 pub mod PlanSheets
 pub mod PlanTexts
 pub mod PlanAnswers
+pub mod ReadRows

@@ -36,7 +36,7 @@ abbrev pub treeShape : Shape
 treeShape = record {
   letter = 84;
   heads = plain ∷ plain ∷ plain ∷ limit ∷ plain ∷ plain ∷ plain ∷ plain ∷ [];
-  sizes = any ∷ any ∷ any ∷ any ∷ any ∷ any ∷ any ∷ 8 ∷ [];
+  sizes = [];
   codes = any ∷ any ∷ 1 ∷ any ∷ any ∷ 1 ∷ 2 ∷ [];
 }
 

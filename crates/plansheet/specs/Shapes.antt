@@ -6,7 +6,7 @@ use mathlib.Core.Bool.{Bool, true, false, not, _&&_, _||_}
 use mathlib.Core.Option.{Option, none, some}
 use lib.Dec.{eqb, leb, ltb}
 use lib.ListN.{length, getD}
-use Rattle.text.specs.Text.{Field, empty, stateOf}
+use Rattle.text.specs.Text.{Field, number, stateOf}
 use Rattle.text.specs.Bounds.{Bound}
 use Rattle.sheet.specs.Lines.{Kind, counted, oneLess, never}
 use Rattle.sheet.specs.KeyLines.{at, values}
@@ -63,7 +63,7 @@ abbrev pub kindAt : List Field → ℕ
 kindAt fs = at fs 0
 
 abbrev pub limitAt : List Field → Field
-limitAt fs = getD fs 3 empty
+limitAt fs = getD fs 3 (number 0)
 
 abbrev pub childrenAt : List Field → ℕ
 childrenAt fs = at fs 7
@@ -76,6 +76,10 @@ exchangeLimited kind state = not (eqb state 1) && (eqb kind 3 || eqb kind 4)
 abbrev pub ruleFits : List (List ℕ) → ℕ → ℕ → Bool
 ruleFits rules kind n = leb (getD (getD rules kind []) 0 0) n && leb n (getD (getD rules kind []) 1 0)
 
+-- "8 children a node"
+abbrev pub mostChildren : ℕ
+mostChildren = 8
+
 -- at most so many lines; kinds are those that have a rule; each line owes its children, and the run ends when no tree is owed
 abbrev pub treeLine : Shape → List (List ℕ) → ℕ → Kind
 treeLine h rules most = record {
@@ -83,7 +87,7 @@ treeLine h rules most = record {
   heads = h .heads;
   width = 0;
   malformed = λ fs. exchangeLimited (kindAt fs) (stateOf (limitAt fs));
-  large = λ seen fs. leb most seen || overAny (h .sizes) (values fs);
+  large = λ seen fs. leb most seen || (ltb mostChildren (childrenAt fs) || overAny (h .sizes) (values fs));
   undefined = λ fs. leb (length rules) (kindAt fs) || overAny (h .codes) (values fs);
   unfit = λ fs. not (ruleFits rules (kindAt fs) (childrenAt fs));
   stops = counted;

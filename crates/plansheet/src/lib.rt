@@ -1,4 +1,3 @@
 // D sheets: read with refusals 1 to 4 and 6 to 8.
-pub fn placeholder(x: u64) -> u64 {
-    x
-}
+pub mod shape;
+pub mod tree;
