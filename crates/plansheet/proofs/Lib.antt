@@ -2,3 +2,4 @@ pub mod Examples
 pub mod Overs
 pub mod Shaped
 pub mod Turns
+pub mod FineLines

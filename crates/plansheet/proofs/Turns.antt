@@ -57,7 +57,7 @@ module _ (k : Kind) (owed seen line at : ℕ) where
       (ls : List (List ℕ)) (x : Option (List Field)) → firstOf (k .letter) ls ≡ x → k .stops owed x ≡ false →
       rowsOf k owed seen line at ls
       ≡ cond (eqb (lineNumber k seen (nextOf at ls) x) 0) (before (fieldsOf x) (rowsOf k (k .owes owed (fieldsOf x)) (suc seen) (suc line) (nextOf at ls) (tail ls)))
-        (refused (lineNumber k seen (nextOf at ls) x) line)
+      (refused (lineNumber k seen (nextOf at ls) x) line)
   unfolding rowsOf firstOf lineNumber
   rows-line [] x e f = let f′ : k .stops owed none ≡ false = rw (← e) at f in rw (f′, ← e)
   rows-line (l ∷ ls) x e f = rw (e, f)

@@ -1,0 +1,93 @@
+-- What holds of a line that nothing turns back, of the n-th of its run; and what its rows are.
+-- Assumes nothing.
+use mathlib.Core.Path.{_≡_, refl, sym, ap, _∙_}
+use Prim.Native.Nat.{ℕ, zero, suc, _+_, _-_, _≤_, _<_}
+use native.Mathlib.Omega.{arith}
+use mathlib.Core.List.{List, [], _∷_, _++_, map}
+use mathlib.Core.Bool.{Bool, true, false, cond, not, _&&_, _||_}
+use mathlib.Core.Option.{Option, some}
+use lib.Dec.{leb, ltb}
+use lib.ListN.{length, getD, take, drop, length-append, length-map}
+use borrow.Author.Tests.{ltb-false, leb-false}
+use Rattle.text.specs.Text.{Field, lineAt, line, lineFields, row}
+use Rattle.text.specs.Bounds.{fits}
+use Rattle.text.specs.Read.{storedIn}
+use Rattle.text.proofs.Answers.{rows-held}
+use Rattle.text.proofs.Limits.{fits-length}
+use Rattle.sheet.specs.Lines.{Kind, mostBytes, fieldsFit, tooManyEntries, lineNumber}
+use Rattle.sheet.specs.KeyLines.{at, values}
+use Rattle.sheet.proofs.KeyRows.{either-false}
+use Rattle.plansheet.specs.Shapes.{Shape, overAny, treeLine, kindAt, childrenAt, mostChildren}
+use Rattle.plansheet.specs.PlanSheets.{operatorRow, operatorRows}
+use Rattle.plansheet.specs.ReadRows.{boundOf, shapeOf}
+use Rattle.plansheet.proofs.Shaped.{fit-fixed}
+use Rattle.plansheet.proofs.Turns.{Made}
+
+pub record FineAt (k : Kind) (seen next : ℕ) (fs : List Field) : Type 0 where
+  pub fit : fieldsFit k fs ≡ true
+  pub formed : k .malformed fs ≡ false
+  pub within : next ≤ mostBytes
+  pub few : tooManyEntries k fs ≡ false
+  pub small : k .large seen fs ≡ false
+  pub defined : k .undefined fs ≡ false
+  pub suited : k .unfit fs ≡ false
+
+number·at :
+    (a b o f l d u : Bool) → _≡_ {A = ℕ} (cond a (cond b 2 (cond (o || (f || l)) 3 (cond d 4 (cond u 6 0)))) 2) 0 →
+    (a ≡ true) × (b ≡ false) × (o ≡ false) × (f ≡ false) × (l ≡ false) × (d ≡ false) × (u ≡ false)
+number·at false b o f l d u e = absurd (omega arith)
+number·at true true o f l d u e = absurd (omega arith)
+number·at true false true f l d u e = absurd (omega arith)
+number·at true false false true l d u e = absurd (omega arith)
+number·at true false false false true d u e = absurd (omega arith)
+number·at true false false false false true u e = absurd (omega arith)
+number·at true false false false false false true e = absurd (omega arith)
+number·at true false false false false false false e = (refl, refl, refl, refl, refl, refl, refl)
+
+pub fine-at : (k : Kind) (seen next : ℕ) (fs : List Field) → lineNumber k seen next (some fs) ≡ 0 → FineAt k seen next fs
+unfolding lineNumber
+fine-at k seen next fs e =
+    let p = number·at (fieldsFit k fs) (k .malformed fs) (ltb mostBytes next) (tooManyEntries k fs) (k .large seen fs) (k .undefined fs) (k .unfit fs) e in
+    record { fit = p .0; formed = p .1; within = ltb-false mostBytes next (p .2); few = p .3; small = p .4; defined = p .5; suited = p .6 }
+
+-- a line of fixed fields has as many as bounds
+module _ (bs : List (List ℕ)) (k : Kind) (w : k .width ≡ 0) (heads : k .heads ≡ map boundOf bs) (seen next : ℕ) (fs : List Field) (z : lineNumber k seen next (some fs) ≡ 0) where
+  pub fine-long : length fs ≡ length bs
+  fine-long = fits-length (k .heads) fs (sym (fit-fixed k w fs) ∙ fine-at k seen next fs z .fit) ∙ ap length heads ∙ length-map bs boundOf
+
+  -- its rows are in the room lent
+  pub fine-rows :
+      (letter : ℕ) (s : List ℕ) (p : ℕ) → lineAt letter s p ≡ some fs → (out out′ : List (List ℕ)) → out′ ≡ storedIn out (lineFields letter (line (drop p s))) →
+      length bs ≤ length out → (count : ℕ) → count ≡ length fs → take (count - 0) out′ ≡ map row fs
+  fine-rows letter s p is out out′ stored room count counts =
+      let n : count - 0 ≡ length fs = omega arith in
+      let m = fine-long in
+      rw n (rows-held letter s p fs is out out′ stored (omega arith))
+
+-- ---- tree lines
+
+-- it is not one too many, and has at most eight children
+pub tree-small :
+    (h : Shape) (rules : List (List ℕ)) (most seen next : ℕ) (fs : List Field) → lineNumber (treeLine h rules most) seen next (some fs) ≡ 0 →
+    (seen < most) × (childrenAt fs ≤ mostChildren)
+tree-small h rules most seen next fs z =
+    let f = fine-at (treeLine h rules most) seen next fs z in
+    let p = either-false (leb most seen) (ltb mostChildren (childrenAt fs) || overAny (h .sizes) (values fs)) (f .small) in
+    let q = either-false (ltb mostChildren (childrenAt fs)) (overAny (h .sizes) (values fs)) (p .1) in
+    (leb-false most seen (p .0), ltb-false mostChildren (childrenAt fs) (q .0))
+
+rows-long : (id : ℕ) (rs : List (List Field)) → length (operatorRows id rs) ≡ length rs
+unfolding operatorRows
+rows-long id [] = refl
+rows-long id (fs ∷ rs) = ap suc (rows-long (suc id) rs)
+
+rows-more : (id : ℕ) (rs : List (List Field)) (fs : List Field) → operatorRows id (rs ++ (fs ∷ [])) ≡ operatorRows id rs ++ (operatorRow (length rs + id) fs ∷ [])
+unfolding operatorRows
+rows-more id [] fs = let e : 0 + id ≡ id = omega arith in rw e
+rows-more id (gs ∷ rs) fs =
+    let e : length rs + suc id ≡ suc (length rs) + id = omega arith in
+    ap (λ (ys : List (List ℕ)). operatorRow id gs ∷ ys) (rows-more (suc id) rs fs ∙ rw e)
+
+pub operators-made : Made (operatorRows 1) (λ n fs. operatorRow (n + 1) fs)
+unfolding operatorRows
+operators-made = record { empty = refl; more = rows-more 1; long = rows-long 1 }
