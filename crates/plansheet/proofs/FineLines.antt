@@ -5,11 +5,12 @@ use Prim.Native.Nat.{ℕ, zero, suc, _+_, _-_, _≤_, _<_}
 use native.Mathlib.Omega.{arith}
 use mathlib.Core.List.{List, [], _∷_, _++_, map}
 use mathlib.Core.Bool.{Bool, true, false, cond, not, _&&_, _||_}
-use mathlib.Core.Option.{Option, some}
+use mathlib.Core.Option.{Option, none, some}
 use lib.Dec.{leb, ltb}
-use lib.ListN.{length, getD, take, drop, length-append, length-map}
+use lib.ListN.{length, getD, take, drop, length-append, length-map, drop-of-length-le}
+use lib.Seq.{drop-cons}
 use borrow.Author.Tests.{ltb-false, leb-false}
-use Rattle.text.specs.Text.{Field, lineAt, line, lineFields, row}
+use Rattle.text.specs.Text.{Field, lineAt, line, lineFields, row, valueOf}
 use Rattle.text.specs.Bounds.{fits}
 use Rattle.text.specs.Read.{storedIn}
 use Rattle.text.proofs.Answers.{rows-held}
@@ -17,10 +18,10 @@ use Rattle.text.proofs.Limits.{fits-length}
 use Rattle.sheet.specs.Lines.{Kind, mostBytes, fieldsFit, tooManyEntries, lineNumber}
 use Rattle.sheet.specs.KeyLines.{at, values}
 use Rattle.sheet.proofs.KeyRows.{either-false}
-use Rattle.plansheet.specs.Shapes.{Shape, overAny, treeLine, kindAt, childrenAt, mostChildren}
+use Rattle.plansheet.specs.Shapes.{Shape, overAny, isNone, treeLine, kindAt, childrenAt, mostChildren}
 use Rattle.plansheet.specs.PlanSheets.{operatorRow, operatorRows}
-use Rattle.plansheet.specs.ReadRows.{boundOf, shapeOf}
-use Rattle.plansheet.proofs.Shaped.{fit-fixed}
+use Rattle.plansheet.specs.ReadRows.{boundOf, shapeOf, valuesFrom, numberRows}
+use Rattle.plansheet.proofs.Shaped.{fit-fixed, value-at}
 use Rattle.plansheet.proofs.Turns.{Made}
 
 pub record FineAt (k : Kind) (seen next : ℕ) (fs : List Field) : Type 0 where
@@ -91,3 +92,49 @@ rows-more id (gs ∷ rs) fs =
 pub operators-made : Made (operatorRows 1) (λ n fs. operatorRow (n + 1) fs)
 unfolding operatorRows
 operators-made = record { empty = refl; more = rows-more 1; long = rows-long 1 }
+
+-- ---- lines of numbers
+
+map-last : (rs : List (List Field)) (fs : List Field) → numberRows (rs ++ (fs ∷ [])) ≡ numberRows rs ++ (values fs ∷ [])
+map-last [] fs = refl
+map-last (gs ∷ rs) fs = ap (λ (ys : List (List ℕ)). values gs ∷ ys) (map-last rs fs)
+
+pub numbers-made : Made numberRows (λ n fs. values fs)
+numbers-made = record { empty = refl; more = map-last; long = λ rs. length-map rs values }
+
+values-at : (fs : List Field) (i : ℕ) → getD (values fs) i 0 ≡ at fs i
+values-at [] i = refl
+values-at (f ∷ fs) zero = refl
+values-at (f ∷ fs) (suc i) = values-at fs i
+
+values-from : (n i : ℕ) (fs : List Field) → length fs ≡ i + n → valuesFrom i n (map row fs) ≡ drop i (values fs)
+values-from zero i fs e = sym (drop-of-length-le (values fs) {i = i} (rw (length-map fs valueOf) (omega arith)))
+values-from (suc n) i fs e =
+    ap (λ (v : ℕ). v ∷ valuesFrom (suc i) n (map row fs)) (value-at fs i ∙ sym (values-at fs i))
+    ∙ ap (λ (ys : List ℕ). getD (values fs) i 0 ∷ ys) (values-from n (suc i) fs (omega arith))
+    ∙ sym (drop-cons (values fs) i 0 (rw (length-map fs valueOf) (omega arith)))
+
+-- a line of n numbers
+pub values-all : (n : ℕ) (fs : List Field) → length fs ≡ n → valuesFrom 0 n (map row fs) ≡ values fs
+values-all n fs e = values-from n 0 fs (omega arith)
+
+-- ---- number 1 is of no line
+
+one·at : (a b o d u : Bool) → _≡_ {A = ℕ} (cond a (cond b 2 (cond o 3 (cond d 4 (cond u 6 0)))) 2) 1 → ⊥
+one·at false b o d u e = omega arith
+one·at true true o d u e = omega arith
+one·at true false true d u e = omega arith
+one·at true false false true u e = omega arith
+one·at true false false false true e = omega arith
+one·at true false false false false e = omega arith
+
+pub one-none : (k : Kind) (seen next : ℕ) (x : Option (List Field)) → lineNumber k seen next x ≡ 1 → isNone x ≡ true
+unfolding lineNumber
+one-none k seen next none e = refl
+one-none k seen next (some fs) e =
+    absurd (one·at (fieldsFit k fs) (k .malformed fs) (ltb mostBytes next || (tooManyEntries k fs || k .large seen fs)) (k .undefined fs) (k .unfit fs) e)
+
+pub other-some : (k : Kind) (seen next : ℕ) (x : Option (List Field)) → (lineNumber k seen next x ≡ 1 → ⊥) → isNone x ≡ false
+unfolding lineNumber
+other-some k seen next none h = absurd (h refl)
+other-some k seen next (some fs) h = refl

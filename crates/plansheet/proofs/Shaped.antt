@@ -11,22 +11,25 @@ use types.Run.{OneOf}
 use denote.Enum.Declared.{tagOf}
 use Rattle.text.proofs.bounds.Judged as JT
 use lib.Dec.{eqb, leb, ltb}
-use lib.ListN.{length, getD, take, drop, length-drop, length-map, take-append-drop, drop-of-length-le, List·getD-map}
+use lib.ListN.{length, getD, take, drop, length-drop, length-map, take-append-drop, drop-of-length-le, List·getD-map, replicate}
 use mathlib.Core.List.{_++_, append-nil}
 use borrow.Author.Tests.{eqb-true, eqb-false, eq-eqb, ne-eqb, lt-ltb, le-ltb, le-leb, lt-leb}
-use Rattle.text.specs.Text.{Field, number, empty, valueOf, stateOf, row}
-use Rattle.text.specs.Bounds.{Bound, boundRow, fits, fitsRows, allowsAll, judged}
+use Rattle.text.specs.Text.{Field, number, empty, valueOf, stateOf, row, greatest}
+use Rattle.text.specs.Bounds.{Bound, boundRow, fits, fitsRows, allows, allowsAll, judged}
 use Rattle.text.specs.declared.bounds.Judged.{Judged}
 use Rattle.text.specs.declared.bounds.Judged.the-variants as J
-use Rattle.text.proofs.Answers.{Passed, Failed, failed, judged-none}
-use Rattle.text.proofs.Limits.{fits-rows, fits-length}
+use Rattle.text.specs.Read.{lineRead}
+use Rattle.text.specs.declared.line.Line.the-variants as LL
+use Rattle.text.proofs.Answers.{Opened, wrong-none, Passed, Failed, failed, judged-none}
+use Rattle.text.proofs.Limits.{fits-rows, fits-length, all-largest}
 use Rattle.sheet.specs.Lines.{Kind, plain, mostBytes, mostEntries, wholeEntries, fieldsFit, tooManyEntries, lineNumber, fieldsOf}
 use Rattle.sheet.specs.KeyLines.{at, values}
 use Rattle.sheet.specs.Reading.{rowValues, readBy}
 use Rattle.sheet.specs.declared.line.Read.the-variants.{Line, Refused}
 use Rattle.sheet.proofs.ReadLines.{row-values}
-use Rattle.plansheet.specs.Shapes.{Shape, overAny, fixedLine, treeLine, exchangeLimited, ruleFits, mostChildren, kindAt, limitAt, childrenAt}
-use Rattle.plansheet.specs.ReadRows.{boundOf, Bounded, shapeOf, judgedNumber, shapeNumber, treeNumber, valueAt, stateAt, fieldsRow}
+use Rattle.plansheet.specs.Shapes.{Shape, overAny, fixedLine, comingLine, treeLine, exchangeLimited, ruleFits, mostChildren, kindAt, limitAt, childrenAt}
+use Rattle.plansheet.specs.ReadRows.{boundOf, Bounded, shapeOf, judgedNumber, shapeNumber, masksNumber, treeNumber, valueAt, stateAt, fieldsRow}
+use Rattle.plansheet.specs.PlanLines.{twoTo, maskLine}
 use Rattle.plansheet.specs.PlanSheets.{operatorRow}
 
 -- ---- of fields that are within their bounds
@@ -240,3 +243,85 @@ pub not-line : (j : Judged) → OneOf (1 ∷ 2 ∷ []) (tagOf JT.the-type j) →
 not-line (J.Line count next) h e = ⊎-elim (λ z. omega arith) (λ z. omega arith) h
 not-line J.Unfit h e = omega arith
 not-line J.Wrong h e = omega arith
+
+-- ---- lines that come
+
+pub coming-number : (h : Shape) (seen next : ℕ) (x : Option (List Field)) → lineNumber (comingLine h) seen next x ≡ lineNumber (fixedLine h) seen next x
+unfolding lineNumber
+coming-number h seen next none = refl
+coming-number h seen next (some fs) = refl
+
+-- ---- masks
+
+count·at : (t : Bool) (n m : ℕ) → eqb n m ≡ t → eqb (suc n) (suc m) ≡ t
+count·at true n m e = eq-eqb (suc n) (suc m) (ap suc (eqb-true n m e))
+count·at false n m e = let ne : n ≡ m → ⊥ = eqb-false n m e in ne-eqb (suc n) (suc m) (λ z. ne (omega arith))
+
+and·at : (a b c : Bool) → a && (b && c) ≡ b && (a && c)
+and·at true true c = refl
+and·at true false c = refl
+and·at false true c = refl
+and·at false false c = refl
+
+plain-fits : (n : ℕ) (fs : List Field) → fits (replicate n plain) fs ≡ eqb (length fs) n && allowsAll plain fs
+unfolding fits allowsAll
+plain-fits zero [] = refl
+plain-fits zero (f ∷ fs) = rw (ne-eqb (suc (length fs)) 0 (λ z. omega arith))
+plain-fits (suc n) [] = rw (ne-eqb 0 (suc n) (λ z. omega arith))
+plain-fits (suc n) (f ∷ fs) =
+    ap (λ (b : Bool). allows plain f && b) (plain-fits n fs) ∙ and·at (allows plain f) (eqb (length fs) n) (allowsAll plain fs)
+    ∙ ap (λ (b : Bool). b && (allows plain f && allowsAll plain fs)) (sym (count·at (eqb (length fs) n) (length fs) n refl))
+
+or-none : (a : Bool) → a || false ≡ a
+or-none true = refl
+or-none false = refl
+
+masks-codes : (n seen next : ℕ) (fs : List Field) → codesNumber (maskLine n) seen next fs ≡ cond (ltb mostBytes next) 3 0
+unfolding overAny
+masks-codes n seen next fs = rw (or-none (ltb mostBytes next))
+
+pub masks-line :
+    (n seen next : ℕ) (fs : List Field) →
+    lineNumber (maskLine n) seen next (some fs) ≡ masksNumber (twoTo n) (length fs) (greatest 0 (map stateOf fs)) (greatest 0 (map valueOf fs)) next
+masks-line n seen next fs =
+    number-fixed (maskLine n) refl fs seen next ∙ rw (plain-fits (twoTo n) fs, all-largest plain fs, masks-codes n seen next fs)
+
+module _ (sets count worst largest next : ℕ) where
+  abbrev M : ℕ
+  M = masksNumber sets count worst largest next
+
+  pub masks-count : (count ≡ sets → ⊥) → 2 ≡ M
+  masks-count h = rw (ne-eqb count sets h)
+
+  module _ (a : count ≡ sets) where
+    pub masks-state : 0 < worst → 2 ≡ M
+    masks-state h = rw (eq-eqb count sets a, lt-leb worst 0 h)
+
+    module _ (b : worst ≤ 0) where
+      pub masks-value : 65535 < largest → 2 ≡ M
+      masks-value h = rw (eq-eqb count sets a, le-leb worst 0 b, lt-leb largest 65535 h)
+
+      module _ (d : largest ≤ 65535) where
+        pub masks-long : mostBytes < next → 3 ≡ M
+        masks-long h = rw (eq-eqb count sets a, le-leb worst 0 b, le-leb largest 65535 d, lt-ltb mostBytes next h)
+
+        pub masks-fine : next ≤ mostBytes → 0 ≡ M
+        masks-fine h = rw (eq-eqb count sets a, le-leb worst 0 b, le-leb largest 65535 d, le-ltb mostBytes next h)
+
+-- what `line_at` answered of a Y line
+module _ (n seen next : ℕ) (x : Option (List Field)) where
+  pub masks-wrong : LL.Wrong ≡ lineRead next x → Refused 1 ≡ readBy (lineNumber (maskLine n) seen next x) next x
+  unfolding lineNumber
+  masks-wrong e = rw (wrong-none next x e)
+
+  module _ (count worst largest after : ℕ) (o : Opened next x count worst largest after) (m sets : ℕ) (s : sets ≡ twoTo n) (is : m ≡ masksNumber sets count worst largest after) where
+    masks-is : lineNumber (maskLine n) seen next x ≡ m
+    masks-is =
+        ap (lineNumber (maskLine n) seen next) (o .is) ∙ masks-line n seen next (o .fs)
+        ∙ sym (is ∙ (λ i. masksNumber (s i) (o .counts i) (o .states i) (o .values i) (o .goes i)))
+
+    pub masks-turned : (m ≡ 0 → ⊥) → Refused m ≡ readBy (lineNumber (maskLine n) seen next x) next x
+    masks-turned h = rw (masks-is, ne-eqb m 0 h)
+
+    pub masks-read : m ≡ 0 → Line count after ≡ readBy (lineNumber (maskLine n) seen next x) next x
+    masks-read h = rw (masks-is, eq-eqb m 0 h, o .is) (λ i. Line (o .counts i) (o .goes i))

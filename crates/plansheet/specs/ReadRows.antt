@@ -1,8 +1,8 @@
 -- What the reading functions are given and answer: a line's description as rows of numbers, the number of a line, and rows that are left in the room lent.
 use mathlib.Core.Path.{_≡_}
-use Prim.Native.Nat.{ℕ, _+_, _≤_}
+use Prim.Native.Nat.{ℕ, zero, suc, _+_, _≤_}
 use mathlib.Core.List.{List, [], _∷_, map}
-use mathlib.Core.Bool.{cond, not, _||_}
+use mathlib.Core.Bool.{cond, not, _&&_, _||_}
 use mathlib.Core.Option.{Option}
 use lib.Dec.{eqb, leb, ltb}
 use lib.ListN.{length, getD, drop}
@@ -12,6 +12,7 @@ use Rattle.text.specs.Bounds.{Bound, boundRow}
 use Rattle.text.specs.declared.bounds.Judged.{Judged}
 use Rattle.text.specs.declared.bounds.Judged.the-variants as J
 use Rattle.sheet.specs.Lines.{Kind, Run, read, refused, mostBytes, rowsOf}
+use Rattle.sheet.specs.KeyLines.{values}
 use Rattle.sheet.specs.Reading.{rowValues}
 use Rattle.plansheet.specs.Shapes.{Shape, overAny, exchangeLimited, ruleFits, mostChildren}
 use Rattle.plansheet.specs.PlanSheets.{operatorRows}
@@ -58,6 +59,10 @@ treeNumber sizes codes rules most seen next rs =
     (cond (leb (length rules) (valueAt rs 0) || overAny codes (rowValues rs)) 4
     (cond (not (ruleFits rules (valueAt rs 0) (valueAt rs 7))) 6 0)))
 
+-- a Y line's, of so many masks, by its count of fields and their largest state and value: 2, 3 or 0
+abbrev pub masksNumber : ℕ → ℕ → ℕ → ℕ → ℕ → ℕ
+masksNumber sets count worst largest next = cond (eqb count sets && (leb worst 0 && leb largest 65535)) (cond (ltb mostBytes next) 3 0) 2
+
 -- ---- rows
 
 -- a tree line's fields as an operator's row
@@ -65,6 +70,15 @@ abbrev pub fieldsRow : ℕ → List (List ℕ) → List ℕ
 fieldsRow id rs =
     id ∷ valueAt rs 0 ∷ valueAt rs 1 ∷ valueAt rs 2 ∷ cond (eqb (stateAt rs 3) 0) 1 0 ∷ valueAt rs 3
     ∷ valueAt rs 4 ∷ 0 ∷ valueAt rs 5 ∷ valueAt rs 6 ∷ valueAt rs 7 ∷ []
+
+-- so many values from a place on
+abbrev pub valuesFrom : ℕ → ℕ → List (List ℕ) → List ℕ
+valuesFrom i zero rs = []
+valuesFrom i (suc n) rs = valueAt rs i ∷ valuesFrom (suc i) n rs
+
+-- each line's numbers
+abbrev pub numberRows : List (List Field) → List (List ℕ)
+numberRows rs = map values rs
 
 -- how many rows, the place after them and the number of the line there; or a refusal and its line
 abbrev pub rowsBy : Run → Rows
