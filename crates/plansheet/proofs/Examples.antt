@@ -26,7 +26,7 @@ use Rattle.sheet.specs.Lines.{lineNumber, rowsOf}
 use Rattle.sheet.specs.KeySheets.{Reading, sheet, turned}
 use Rattle.plansheet.specs.Shapes.{overAny}
 use Rattle.plansheet.specs.PlanLines.{twoTo}
-use Rattle.plansheet.specs.PlanSheets.{PlanSheet, operatorRows, planOf, childCount, readFacts, readPlan}
+use Rattle.plansheet.specs.PlanSheets.{PlanSheet, operatorRows, planOf, childCount, readMasks, readChildren, readFacts, readPlan}
 use Rattle.plansheet.specs.PlanTexts.{linesText, factsText, planText}
 use Rattle.plansheet.specs.PlanAnswers.{planAnswer}
 
@@ -130,7 +130,7 @@ sheets =
     ∷ []
 
 pub read-again : map (λ (r : Example). told (readPlan (bytes (r .sheet)))) sheets ≡ map expected sheets
-unfolding until onto parts run field fields line lineFields firstOf fits allowsAll digits decimal fieldText fieldsText lineText packedRow flatten grow withinBits allWithinBits isRepeated noneRepeated childNumbered rowsFit factsFit removeDistChangingOperators childrenFrom lineNumber rowsOf overAny twoTo operatorRows planOf childCount readFacts readPlan linesText factsText planText
+unfolding until onto parts run field fields line lineFields firstOf fits allowsAll digits decimal fieldText fieldsText lineText packedRow flatten grow withinBits allWithinBits isRepeated noneRepeated childNumbered rowsFit factsFit removeDistChangingOperators childrenFrom lineNumber rowsOf overAny twoTo operatorRows planOf childCount readMasks readChildren readFacts readPlan linesText factsText planText
 read-again = refl
 
 abbrev pub decisions : List Example
@@ -179,5 +179,5 @@ decided (turned n l) = n ∷ l ∷ []
 decided (sheet x) = head (planAnswer x)
 
 pub heads-decided : map (λ (r : Example). decided (readPlan (bytes (r .sheet)))) decisions ≡ map (λ (r : Example). r .said) decisions
-unfolding until onto parts run field fields line lineFields firstOf fits allowsAll digits decimal fieldText fieldsText lineText packedRow flatten grow withinBits allWithinBits isRepeated noneRepeated childNumbered rowsFit factsFit removeDistChangingOperators childrenFrom lineNumber rowsOf overAny twoTo operatorRows planOf childCount readFacts readPlan rowOf anyUnspecified updateEach eachOf needsAlignment ensureChild givenSet anyGivable round rounds replaceOrderPreservingVariants keptEntries handleOrder allLayouts childStates handled finished ensured planAnswer
+unfolding until onto parts run field fields line lineFields firstOf fits allowsAll digits decimal fieldText fieldsText lineText packedRow flatten grow withinBits allWithinBits isRepeated noneRepeated childNumbered rowsFit factsFit removeDistChangingOperators childrenFrom lineNumber rowsOf overAny twoTo operatorRows planOf childCount readMasks readChildren readFacts readPlan rowOf anyUnspecified updateEach eachOf needsAlignment ensureChild givenSet anyGivable round rounds replaceOrderPreservingVariants keptEntries handleOrder allLayouts childStates handled finished ensured planAnswer
 heads-decided = refl

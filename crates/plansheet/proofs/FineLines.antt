@@ -1,7 +1,7 @@
 -- What holds of a line that nothing turns back, of the n-th of its run; and what its rows are.
 -- Assumes nothing.
 use mathlib.Core.Path.{_≡_, refl, sym, ap, _∙_}
-use Prim.Native.Nat.{ℕ, zero, suc, _+_, _-_, _≤_, _<_}
+use Prim.Native.Nat.{ℕ, zero, suc, _+_, _-_, _*_, _≤_, _<_}
 use native.Mathlib.Omega.{arith}
 use mathlib.Core.List.{List, [], _∷_, _++_, map}
 use mathlib.Core.Bool.{Bool, true, false, cond, not, _&&_, _||_}
@@ -19,6 +19,7 @@ use Rattle.sheet.specs.Lines.{Kind, mostBytes, fieldsFit, tooManyEntries, lineN
 use Rattle.sheet.specs.KeyLines.{at, values}
 use Rattle.sheet.proofs.KeyRows.{either-false}
 use Rattle.plansheet.specs.Shapes.{Shape, overAny, isNone, treeLine, kindAt, childrenAt, mostChildren}
+use Rattle.plansheet.specs.PlanLines.{twoTo}
 use Rattle.plansheet.specs.PlanSheets.{operatorRow, operatorRows}
 use Rattle.plansheet.specs.ReadRows.{boundOf, shapeOf, valuesFrom, numberRows}
 use Rattle.plansheet.proofs.Shaped.{fit-fixed, value-at}
@@ -138,3 +139,22 @@ pub other-some : (k : Kind) (seen next : ℕ) (x : Option (List Field)) → (lin
 unfolding lineNumber
 other-some k seen next none h = absurd (h refl)
 other-some k seen next (some fs) h = refl
+
+-- at most eight children have at most 256 sets
+two·at : (n : ℕ) → twoTo (suc n) ≡ 2 * twoTo n
+unfolding twoTo
+two·at n = refl
+
+two-more : (n m : ℕ) → n ≤ m → twoTo n ≤ twoTo m
+unfolding twoTo
+two-more zero zero h = omega arith
+two-more zero (suc m) h = omega (arith, two-more zero m (omega arith))
+two-more (suc n) zero h = absurd (omega arith)
+two-more (suc n) (suc m) h = omega (arith, two-more n m (omega arith))
+
+two-eight : twoTo 8 ≡ 256
+unfolding twoTo
+two-eight = refl
+
+pub two-small : (n : ℕ) → n ≤ 8 → twoTo n ≤ 256
+two-small n h = omega (arith, two-more n 8 h, two-eight)

@@ -4,3 +4,4 @@ pub mod PlanSheets
 pub mod PlanTexts
 pub mod PlanAnswers
 pub mod ReadRows
+pub mod ReadPlans

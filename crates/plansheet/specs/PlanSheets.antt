@@ -85,28 +85,53 @@ abbrev pub withRows : {A : Type 0} → Run → (List (List Field) → ℕ → �
 withRows (refused n l) rest = turned n l
 withRows (read rs ls l p) rest = rest rs l p ls
 
+-- the lines after the tree
+pub record FactLines : Type 0 where
+  pub node : List Field
+  pub children : List (List Field)
+  pub rows : List (List Field)
+  pub masks : List Field
+
+-- Y, and nothing more
+unfoldable pub readMasks : List Field → List (List Field) → List (List Field) → ℕ → ℕ → ℕ → List (List ℕ) → Reading FactLines
+readMasks b fs xs n line at ls =
+    withRows (rowsOf (maskLine n) 1 0 line at ls) (λ ys l p ls.
+    cond (atEnd ls) (sheet (record { node = b; children = fs; rows = xs; masks = headOf ys })) (turned 1 l))
+
+-- F for each of n children, X rows, and what follows
+unfoldable pub readChildren : List Field → ℕ → ℕ → ℕ → List (List ℕ) → Reading FactLines
+readChildren b n line at ls =
+    withRows (rowsOf childLine n 0 line at ls) (λ fs l p ls.
+    withRows (rowsOf factLine 0 0 l p ls) (λ xs l p ls. readMasks b fs xs n l p ls))
+
+-- B, and what follows
+unfoldable pub readFacts : ℕ → ℕ → ℕ → List (List ℕ) → Reading FactLines
+readFacts n line at ls = withRows (rowsOf nodeLine 1 0 line at ls) (λ bs l p ls. readChildren (headOf bs) n l p ls)
+
+-- ---- the sheet
+
+abbrev pub factsOf : FactLines → Facts
+factsOf g = record {
+  node = nodeFacts (values (g .node));
+  children = childrenRows (g .children);
+  rows = factRows (g .rows);
+  masks = values (g .masks);
+}
+
+abbrev pub planSheet : List Field → Plan → FactLines → PlanSheet
+planSheet d t g = record { settings = settingsOf (values d); plan = t; facts = factsOf g }
+
 -- "target or batch out of range", and then what X rows and Y masks do not fit
 abbrev pub judgedPlan : PlanSheet → Reading PlanSheet
 judgedPlan x = cond (settingsFit (x .settings)) (cond (factsFit (x .settings) (x .facts) (x .plan)) (sheet x) (turned 8 0)) (turned 7 0)
 
-abbrev pub planSheet : List Field → Plan → List Field → List (List Field) → List (List Field) → List Field → PlanSheet
-planSheet d t b fs xs y = record {
-  settings = settingsOf (values d);
-  plan = t;
-  facts = record { node = nodeFacts (values b); children = childrenRows fs; rows = factRows xs; masks = values y };
-}
-
--- the lines after the tree: B, F for each child, X rows, Y, and nothing more
-unfoldable pub readFacts : List Field → Plan → ℕ → ℕ → List (List ℕ) → Reading PlanSheet
-readFacts d t line at ls =
-    withRows (rowsOf nodeLine 1 0 line at ls) (λ bs l p ls.
-    withRows (rowsOf childLine (childCount t) 0 l p ls) (λ fs l p ls.
-    withRows (rowsOf factLine 0 0 l p ls) (λ xs l p ls.
-    withRows (rowsOf (maskLine (childCount t)) 1 0 l p ls) (λ ys l p ls.
-    cond (atEnd ls) (judgedPlan (planSheet d t (headOf bs) fs xs (headOf ys))) (turned 1 l)))))
+abbrev pub withFacts : List Field → Plan → Reading FactLines → Reading PlanSheet
+withFacts d t (turned n l) = turned n l
+withFacts d t (sheet g) = judgedPlan (planSheet d t g)
 
 -- D, T lines until the tree is complete, and what follows
 unfoldable pub readPlan : List ℕ → Reading PlanSheet
 readPlan s =
     withRows (rowsOf settingsLine 1 0 1 0 (parts 10 s)) (λ ds l p ls.
-    withRows (rowsOf planLine 1 0 l p ls) (λ ts l p ls. readFacts (headOf ds) (planOf ts) l p ls))
+    withRows (rowsOf planLine 1 0 l p ls) (λ ts l p ls.
+    withFacts (headOf ds) (planOf ts) (readFacts (childCount (planOf ts)) l p ls)))

@@ -149,9 +149,11 @@ loop-again c =
     let k = c .before .before .before .before .before .before .before .before .before .before .before .before .args .children in
     let h : l .n < k = c .before .before .before .before .before .before .before .before .before .loop-test .taken in
     let g : k - l .n ≡ 0 → ⊥ = λ z. omega arith in
-    let f : k - (l .n + 1) ≡ k - l .n - 1 = omega arith in
-    (head-more numberRows _ numbers-made childLine _ _ _ _ _ _ _ _ (l .inv .0) _ _ (took (c .before .before .before)) (ne-eqb _ _ g) _ (ap (set (l .rows) (l .n)) (row-is c)) _ f,
-     omega arith, omega (arith, l .inv .2, c .before .before .before .before .before .before .before .child-line .kept .1 .1 .0))
+    let f : k - (l .n + 1) ≡ k - l .n - 1 = omega arith in (
+      head-more numberRows _ numbers-made childLine _ _ _ _ _ _ _ _ (l .inv .0) _ _ (took (c .before .before .before)) (ne-eqb _ _ g) _ (ap (set (l .rows) (l .n)) (row-is c)) _ f,
+      omega arith,
+      omega (arith, l .inv .2, c .before .before .before .before .before .before .before .child-line .kept .1 .1 .0),
+    )
 
 same-length-3 : tie.Need-same-length-3 Inv-loop μ-loop
 same-length-3 c = c .before .loop .inv .2

@@ -171,9 +171,10 @@ loop-less c = omega (arith, room (c .before .before .before .before .before .bef
 
 loop-again : tie.Need-loop-again Inv-loop μ-loop
 loop-again c =
-    let l = c .before .before .before .before .before .before .before .before .before .before .before .before .loop in
-    (head-more numberRows _ numbers-made factLine _ _ _ _ _ _ _ _ (l .inv .0) _ _ (took (c .before .before .before .before .before .before)) refl _ (c .before .put-fact .ensures ∙ ap (set (l .rows) (l .n)) (row-is (c .before .before))) 0 refl,
-     omega (arith, l .inv .1, c .before .before .before .before .before .before .before .before .before .before .fact-line .kept .1 .1 .0))
+    let l = c .before .before .before .before .before .before .before .before .before .before .before .before .loop in (
+      head-more numberRows _ numbers-made factLine _ _ _ _ _ _ _ _ (l .inv .0) _ _ (took (c .before .before .before .before .before .before)) refl _ (c .before .put-fact .ensures ∙ ap (set (l .rows) (l .n)) (row-is (c .before .before))) 0 refl,
+      omega (arith, l .inv .1, c .before .before .before .before .before .before .before .before .before .before .fact-line .kept .1 .1 .0),
+    )
 
 pub read-facts-spec : {M : Type 1} → statement M
 read-facts-spec =
