@@ -6,3 +6,5 @@ pub mod FineLines
 pub mod Singles
 pub mod CountedRuns
 pub mod Wholes
+pub mod RunCases
+pub mod OneTree

@@ -12,7 +12,8 @@ use Rattle.sheet.specs.KeyLines.{values}
 use Rattle.sheet.specs.Reading.{rowValues}
 use Rattle.sheet.specs.ListLines.{numberOf}
 use Rattle.sheet.specs.declared.line.Read.the-variants as L
-use Rattle.plansheet.specs.PlanLines.{settingsShape, settingsLine}
+use Rattle.plansheet.specs.PlanLines.{settingsShape, settingsLine, planLine}
+use Rattle.plansheet.specs.ReadRows.{runFrom}
 use Rattle.plansheet.proofs.Turns.{Taken, taken}
 use Rattle.plansheet.proofs.Singles.{single-next, single-long, single-values, single-part}
 use Rattle.plansheet.proofs.Wholes.{head-back, head-on, head-is, tree-left}
@@ -100,7 +101,7 @@ returns-2 c =
     let s = c .before .before .before .before .before .before .before .before .before .before .before .before .before .before .before .before .before .before .before in
     rw (head-on (S s) _ _ (took d)) (
       c .before .before .read-plan-tree .ensures .0,
-      tree-left (S s) _ (s .args .head .now) _ (s .args .rows .now) _
+      tree-left (S s) (runFrom planLine 1 (S s) 2 (d .before .r .given .0 .1 .0)) (s .args .head .now) _ (s .args .rows .now) (c .before .before .read-plan-tree .last .1 .1 .1 .1 .0)
           (c .before .before .before .before .before .before .before .copy-values .ensures ∙ ap (sets (s .args .head .now) 0) (vals d ∙ ap values (sym (head-is (S s) _ _ (took d)))))
           (ap length (head-is (S s) _ _ (took d)) ∙ sym (took d .counts) ∙ long d) (c .before .before .read-plan-tree .ensures .1),
     )
