@@ -8,3 +8,4 @@ pub mod CountedRuns
 pub mod Wholes
 pub mod RunCases
 pub mod OneTree
+pub mod Fitting

@@ -5,3 +5,4 @@ pub mod PlanTexts
 pub mod PlanAnswers
 pub mod ReadRows
 pub mod ReadPlans
+pub mod FitRows
