@@ -1,0 +1,11 @@
+pub mod Examples
+pub mod Overs
+pub mod Shaped
+pub mod Turns
+pub mod FineLines
+pub mod Singles
+pub mod CountedRuns
+pub mod Wholes
+pub mod RunCases
+pub mod OneTree
+pub mod Fitting

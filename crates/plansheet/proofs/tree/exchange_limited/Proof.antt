@@ -1,0 +1,19 @@
+-- `plansheet::tree::exchange_limited` meets its contract, by its tests.
+-- Assumes nothing.
+use borrow.Author.Tests.{eq-eqb, ne-eqb}
+use Rattle.plansheet.proofs.tree.exchange_limited.Statement.{statement}
+use Rattle.plansheet.proofs.tree.exchange_limited.Tie as tie
+use Rattle.plansheet.proofs.tree.exchange_limited.Reads as reads
+use Rattle.plansheet.proofs.tree.exchange_limited.Lts as lts
+
+returns : tie.Need-returns
+returns c = rw (eq-eqb _ _ (c .if1 .taken))
+
+returns-2 : tie.Need-returns-2
+returns-2 c = rw (ne-eqb _ _ (c .before .if1 .left), eq-eqb _ _ (c .if2 .taken))
+
+returns-3 : tie.Need-returns-3
+returns-3 c = rw (ne-eqb _ _ (c .before .if1 .left), ne-eqb _ _ (c .if2 .left))
+
+pub exchange-limited-spec : {M : Type 1} → statement M
+exchange-limited-spec = tie.close (tie.spec returns returns-2 returns-3)

@@ -1,0 +1,8 @@
+pub mod Shapes
+pub mod PlanLines
+pub mod PlanSheets
+pub mod PlanTexts
+pub mod PlanAnswers
+pub mod ReadRows
+pub mod ReadPlans
+pub mod FitRows
