@@ -18,10 +18,9 @@ use Rattle.exchange.specs.Ensure.{Answer, Ensured, missingRow, unenforceable, a
 use Rattle.exchange.specs.Sizes.{lines}
 use Rattle.exchange.specs.Skeleton.{below}
 use Rattle.exchange.specs.Partitioning.{workedOf}
-use Rattle.exchange.proofs.AnswerLines.{answer-536}
+use Rattle.exchange.proofs.AnswerLines.{lines-rows, answer-536}
 use Rattle.plananswer.specs.PlanTexts.{planAnswerText, distributed}
 use Rattle.plananswer.specs.Sizes.{SizedFacts, SizedAnswer, operatorMost, planAnswerMost}
-use Rattle.plananswer.proofs.RowLines.{rows-count}
 use Rattle.plananswer.proofs.AnswerLong.{plan-answer-long}
 use Rattle.plananswer.proofs.SizedAnswers.{plan-answer-sized}
 
@@ -32,7 +31,7 @@ room-suffices room (wrote bs) h k = rw (le-ltb room (length bs) (omega arith))
 
 module _ (s : Settings) (f : Facts) (t : Plan) (few : lines t ≤ 256) (children : trees (below (workedOf t)) ≤ 8) where
   pub plan-answer-rows : (a : Answer) → ensured s f t ≡ answered a → length (flatten (a .plan)) ≤ 536
-  plan-answer-rows a e = omega (arith, rows-count (a .plan), answer-536 s f t a few children e)
+  plan-answer-rows a e = omega (arith, lines-rows (a .plan), answer-536 s f t a few children e)
 
   -- numbers up to m have at most d + 1 digits, limits up to l at most e + 1
   pub plan-answer-most : (m d l e : ℕ) → m < 10 ^ suc d → l < 10 ^ suc e → 536 ≤ m

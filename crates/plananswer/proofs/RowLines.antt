@@ -2,18 +2,20 @@
 -- Assumes nothing.
 use mathlib.Core.Path.{_≡_, refl, sym, ap, _∙_}
 use mathlib.Core.List.{List, [], _∷_, _++_, append-assoc}
+use mathlib.Core.Bool.{Bool, true, false, cond}
 use mathlib.Core.Option.{Option, some, none as absent}
 use Prim.Native.Nat.{ℕ, suc, _+_, _≤_}
 use native.Mathlib.Omega.{arith}
+use lib.Dec.{eqb}
 use lib.ListN.{length, getD, take, drop, length-append}
 use lib.Seq.{sets, sets-eq, take-at}
-use Rattle.text.specs.Text.{Field, number}
+use Rattle.text.specs.Text.{Field, number, empty}
 use Rattle.text.specs.Write.{decimal, fieldText, fieldsText}
 use Rattle.text.proofs.Lengths.{line-length}
 use Rattle.exchange.specs.Trees.{node, none, _∷ᶠ_, trees, Operator, Plan, Plans}
 use Rattle.exchange.specs.Rows.{limitMark, limitNumber, limitOf, rowOf, flatten, flattens}
-use Rattle.exchange.specs.Sizes.{lines, liness}
 use Rattle.exchange.specs.Ensure.{Answer}
+use Rattle.plansheet.specs.PlanTexts.{limitField as markedLimit}
 use Rattle.answers.proofs.Pieces.{pieces, pieces-later}
 use Rattle.plananswer.specs.PlanTexts.{limitField, operatorFields, operatorLine, planLines, plansLines, planAnswerText}
 use Rattle.plananswer.specs.RowTexts.{ofRow, linesOf, rowLine, headLine, rowsText}
@@ -48,16 +50,13 @@ module _ (line : Operator → ℕ → List ℕ) where
         ∙ ap (λ (x : List ℕ). x ++ linesOf (ofRow line) (flattens ts)) (plan-lines t)
         ∙ ap (λ (x : List ℕ). planLines line t ++ x) (plans-lines ts)
 
-mutual
-  unfolding flatten lines
-
-  -- a row for each line
-  pub rows-count : (t : Plan) → length (flatten t) ≡ lines t
-  rows-count (node o ts) = ap suc (rows-counts ts)
-
-  rows-counts : (ts : Plans) → length (flattens ts) ≡ liness ts
-  rows-counts none = refl
-  rows-counts (t ∷ᶠ ts) = omega (arith, length-append (flatten t) (flattens ts), rows-count t, rows-counts ts)
+-- a limit's field by its mark
+pub limit-same : (m l : ℕ) → limitField (limitOf m l) ≡ markedLimit m l
+limit-same m l = go (eqb m 0)
+  where
+    go : (b : Bool) → limitField (cond b absent (some l)) ≡ cond b empty (number l)
+    go true = refl
+    go false = refl
 
 -- an answer's text is that of its numbers and the rows of its tree
 pub rows-answer : (a : Answer) → rowsText (a .changed) (a .window) (a .interleave) (a .tracked) (flatten (a .plan)) ≡ planAnswerText a

@@ -5,7 +5,8 @@ ghost use Prim.Native.Nat.{_+_, _≤_};
 ghost use lib.ListN.{length};
 ghost use Rattle.text.specs.Write.{rowField, Wrote};
 ghost use Rattle.sheet.specs.KeyAnswers.{numbersLine};
-ghost use Rattle.plananswer.specs.SheetTexts.{settingsNumbers, treeRowFields, treeRowLine, childRowLine, factRowLine};
+ghost use Rattle.plansheet.specs.PlanTexts.{settingsNumbers, rowFields};
+ghost use Rattle.plananswer.specs.SheetTexts.{treeRowLine, childRowLine, factRowLine};
 use crate::line::limit_state;
 use answers::line::put_numbers;
 use exchange::fact::FactRow;
@@ -44,7 +45,7 @@ pub(crate) fn put_settings(out: &mut [u8], at: usize, s: Settings) -> usize
 
 // The fields of a row's T line, a state and a value each.
 fn tree_fields(x: Row) -> [[u64; 2]; 8]
-    ensures { λ r. ⌜ map rowField r ≡ treeRowFields x ⌝ }
+    ensures { λ r. ⌜ map rowField r ≡ rowFields x ⌝ }
 {
     let state = limit_state(x[LIMITED]);
     [

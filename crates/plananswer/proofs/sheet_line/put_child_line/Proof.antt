@@ -1,6 +1,6 @@
 -- `put_child_line` meets its contract: a line of seven numbers.
 -- Assumes nothing.
-use Rattle.plananswer.specs.SheetTexts.{childLine, childRowLine}
+use Rattle.plananswer.specs.SheetTexts.{childRowLine}
 use borrow.Author.Needs.{needs}
 use Rattle.plananswer.proofs.sheet_line.put_child_line.Statement.{statement}
 use Rattle.plananswer.proofs.sheet_line.put_child_line.Tie as tie
@@ -30,14 +30,14 @@ slice-aggregate-put-numbers : tie.Need-slice-aggregate-put-numbers
 slice-aggregate-put-numbers c = search needs
 
 put-numbers-requires : tie.Need-put-numbers-requires
-unfolding childLine childRowLine
+unfolding childRowLine
 put-numbers-requires c κs = c .before .before .before .pre
 
 same-length : tie.Need-same-length
 same-length c = search needs
 
 returns : tie.Need-returns
-unfolding childLine childRowLine
+unfolding childRowLine
 returns c = c .before .before .put-numbers .ensures
 
 pub put-child-line-spec : {M : Type 1} → statement M

@@ -1,6 +1,6 @@
 -- `put_fact_line` meets its contract: a line of thirteen numbers.
 -- Assumes nothing.
-use Rattle.plananswer.specs.SheetTexts.{factLine, factRowLine}
+use Rattle.plananswer.specs.SheetTexts.{factRowLine}
 use borrow.Author.Needs.{needs}
 use Rattle.plananswer.proofs.sheet_line.put_fact_line.Statement.{statement}
 use Rattle.plananswer.proofs.sheet_line.put_fact_line.Tie as tie
@@ -48,14 +48,14 @@ slice-aggregate-put-numbers : tie.Need-slice-aggregate-put-numbers
 slice-aggregate-put-numbers c = search needs
 
 put-numbers-requires : tie.Need-put-numbers-requires
-unfolding factLine factRowLine
+unfolding factRowLine
 put-numbers-requires c κs = c .before .before .before .pre
 
 same-length : tie.Need-same-length
 same-length c = search needs
 
 returns : tie.Need-returns
-unfolding factLine factRowLine
+unfolding factRowLine
 returns c = c .before .before .put-numbers .ensures
 
 pub put-fact-line-spec : {M : Type 1} → statement M

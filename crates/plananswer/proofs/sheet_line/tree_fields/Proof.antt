@@ -1,6 +1,7 @@
 -- `tree_fields` meets its contract: the limit's field goes by its mark.
 -- Assumes nothing.
 use lib.ListN.{getD}
+use Rattle.plananswer.proofs.RowLines.{limit-same}
 use borrow.Author.Needs.{needs}
 use Rattle.plananswer.proofs.sheet_line.tree_fields.Statement.{statement}
 use Rattle.plananswer.proofs.sheet_line.tree_fields.Tie as tie
@@ -36,7 +37,7 @@ array-read-t36 : tie.Need-array-read-t36
 array-read-t36 c = search needs
 
 returns : tie.Need-returns
-returns c = rw (c .limit-state .ensures (getD (c .before .args .t1) 5 0))
+returns c = rw (c .limit-state .ensures (getD (c .before .args .t1) 5 0), limit-same (getD (c .before .args .t1) 4 0) (getD (c .before .args .t1) 5 0))
 
 pub tree-fields-spec : {M : Type 1} → statement M
 tree-fields-spec =

@@ -7,7 +7,8 @@ use Rattle.sheet.specs.KeyAnswers.{numbersLine}
 use Rattle.exchange.specs.FactRows.{nodeFacts}
 use Rattle.answers.proofs.Pieces.{Due, due-all, due-room, due-then, due-none}
 use Rattle.plananswer.specs.RowTexts.{linesOf}
-use Rattle.plananswer.specs.SheetTexts.{settingsNumbers, nodeNumbers, treeRowLine, childRowLine, factRowLine, sheetRowsText}
+use Rattle.plansheet.specs.PlanTexts.{settingsNumbers, nodeNumbers}
+use Rattle.plananswer.specs.SheetTexts.{treeRowLine, childRowLine, factRowLine, sheetRowsText}
 use Rattle.plananswer.proofs.SheetRows.{sheet-parts}
 use borrow.Author.Needs.{needs}
 use Rattle.plananswer.proofs.sheet_text.put_plan_sheet.Statement.{statement}
