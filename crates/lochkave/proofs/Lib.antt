@@ -1,2 +1,4 @@
 pub mod Entries
 pub mod PlanAnswered
+pub mod Marked
+pub mod PlanBounded

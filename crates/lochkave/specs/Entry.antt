@@ -9,7 +9,10 @@ use lib.ListN.{getD}
 use Rattle.keys.specs.Adjust.{KeySheet}
 use Rattle.keys.specs.Inputs.{JoinSheet}
 use Rattle.sheet.specs.KeySheets.{Reading, sheet, turned, readKeySheet, readJoinSheet}
-use Rattle.sheet.specs.KeyAnswers.{Outcome, refused, wrote, adjustDecision, inputsDecision, decision}
+use Rattle.sheet.specs.KeyAnswers.{Outcome, refused, wrote, adjustDecision, inputsDecision}
+use Rattle.plansheet.specs.PlanSheets.{PlanSheet, readPlan}
+use Rattle.plansheet.specs.PlanTexts.{planText}
+use Rattle.lochkave.specs.Decision.{planDecision, decision}
 use Rattle.sheet.specs.KeyTexts.{keySheetText, joinSheetText}
 use Rattle.sheet.specs.Outcomes.{answer, after, within}
 
@@ -22,9 +25,15 @@ abbrev pub joinAgain : Reading JoinSheet → Outcome
 joinAgain (turned n l) = refused n l
 joinAgain (sheet x) = wrote (joinSheetText x)
 
+abbrev pub planAgain : Reading PlanSheet → Outcome
+planAgain (turned n l) = refused n l
+planAgain (sheet x) = wrote (planText x)
+
 -- by the first byte, as `decision`
 unfoldable pub rewriting : List ℕ → Outcome
-rewriting s = cond (eqb (getD s 0 0) 75) (keyAgain (readKeySheet s)) (cond (eqb (getD s 0 0) 73) (joinAgain (readJoinSheet s)) (refused 1 1))
+rewriting s =
+    cond (eqb (getD s 0 0) 75) (keyAgain (readKeySheet s))
+    (cond (eqb (getD s 0 0) 73) (joinAgain (readJoinSheet s)) (cond (eqb (getD s 0 0) 68) (planAgain (readPlan s)) (refused 1 1)))
 
 -- with the room of an output: `lochkave_decide`, and the functions for one kind of sheet
 abbrev pub outcome : List ℕ → ℕ → Outcome
@@ -35,6 +44,9 @@ adjustOutcome s room = within room (adjustDecision s)
 
 abbrev pub inputsOutcome : List ℕ → ℕ → Outcome
 inputsOutcome s room = within room (inputsDecision s)
+
+abbrev pub distributionOutcome : List ℕ → ℕ → Outcome
+distributionOutcome s room = within room (planDecision s)
 
 -- `lochkave_rewrite`
 abbrev pub rewriteOutcome : List ℕ → ℕ → Outcome

@@ -21,7 +21,7 @@ ghost use Rattle.plananswer.specs.PlanTexts.{distributed};
 ghost use Rattle.lochkave.specs.Entry.{Gives};
 
 // Decides on the tree at the front of `src`, and writes the answer.
-pub(crate) fn answer_plan(
+fn answer_plan(
     s: Settings,
     b: NodeRow,
     masks: &[u64],
@@ -51,4 +51,95 @@ pub(crate) fn answer_plan(
             lines,
         } => return write_plan(changed, window, interleave, tracked, &*dst, lines, out),
     }
+}
+
+// The same of up to 32 lines, with rooms of its own.
+fn answer_few(
+    s: Settings,
+    b: NodeRow,
+    masks: &[u64],
+    facts: &[ChildRow],
+    index: &[u64],
+    rows: &[FactRow],
+    n: usize,
+    src: &mut [Row],
+    out: &mut [u8],
+) -> u64
+    requires { ⌜ Known (now facts) (now rows) (now index) n ⌝ }
+    requires { ⌜ (length (now facts) ≤ 8) × (length (now src) ≤ 32) ⌝ }
+    requires { ⌜ Sheet (now src) (length (now facts)) ⌝ }
+    ensures { λ r. ⌜ ((t : Plan) (rest : List (List ℕ)) → now (src .entry) ≡ flatten t ++ rest → Gives (within (length (now (out .entry))) (distributed (ensured s (factsBy b (now (facts .entry)) (take n (now (rows .entry))) (now (masks .entry))) t))) r (now (out .entry)) (now (out .exit))) ⌝ }
+{
+    let mut mid = [[0u64; 11]; 34];
+    let mut dst = [[0u64; 11]; 88];
+    answer_plan(
+        s,
+        b,
+        masks,
+        facts,
+        index,
+        rows,
+        n,
+        src,
+        &mut mid,
+        &mut dst,
+        out,
+    )
+}
+
+// The same of up to 256 lines.
+fn answer_many(
+    s: Settings,
+    b: NodeRow,
+    masks: &[u64],
+    facts: &[ChildRow],
+    index: &[u64],
+    rows: &[FactRow],
+    n: usize,
+    src: &mut [Row],
+    out: &mut [u8],
+) -> u64
+    requires { ⌜ Known (now facts) (now rows) (now index) n ⌝ }
+    requires { ⌜ (length (now facts) ≤ 8) × (length (now src) ≤ 256) ⌝ }
+    requires { ⌜ Sheet (now src) (length (now facts)) ⌝ }
+    ensures { λ r. ⌜ ((t : Plan) (rest : List (List ℕ)) → now (src .entry) ≡ flatten t ++ rest → Gives (within (length (now (out .entry))) (distributed (ensured s (factsBy b (now (facts .entry)) (take n (now (rows .entry))) (now (masks .entry))) t))) r (now (out .entry)) (now (out .exit))) ⌝ }
+{
+    let mut mid = [[0u64; 11]; 258];
+    let mut dst = [[0u64; 11]; 536];
+    answer_plan(
+        s,
+        b,
+        masks,
+        facts,
+        index,
+        rows,
+        n,
+        src,
+        &mut mid,
+        &mut dst,
+        out,
+    )
+}
+
+// Decides on the tree in `src` and writes the answer: rooms for few lines are cleared in less time.
+pub(crate) fn answer_tree(
+    s: Settings,
+    b: NodeRow,
+    masks: &[u64],
+    facts: &[ChildRow],
+    index: &[u64],
+    rows: &[FactRow],
+    n: usize,
+    src: &mut [Row],
+    out: &mut [u8],
+) -> u64
+    requires { ⌜ Known (now facts) (now rows) (now index) n ⌝ }
+    requires { ⌜ (length (now facts) ≤ 8) × (length (now src) ≤ 256) ⌝ }
+    requires { ⌜ Sheet (now src) (length (now facts)) ⌝ }
+    ensures { λ r. ⌜ ((t : Plan) (rest : List (List ℕ)) → now (src .entry) ≡ flatten t ++ rest → Gives (within (length (now (out .entry))) (distributed (ensured s (factsBy b (now (facts .entry)) (take n (now (rows .entry))) (now (masks .entry))) t))) r (now (out .entry)) (now (out .exit))) ⌝ }
+{
+    if src.len() <= 32 {
+        return answer_few(s, b, masks, facts, index, rows, n, src, out);
+    }
+    answer_many(s, b, masks, facts, index, rows, n, src, out)
 }

@@ -6,8 +6,7 @@ use native.Mathlib.Omega.{arith}
 use mathlib.Core.List.{List, [], _∷_, map}
 use mathlib.Core.Bool.{true, false}
 use mathlib.Core.Option.{Option, none, some}
-use lib.Dec.{eqb}
-use lib.ListN.{length, getD, length-map, length-append}
+use lib.ListN.{length, length-map, length-append}
 use borrow.Author.Tests.{le-leb}
 use Rattle.text.specs.Text.{number}
 use Rattle.text.specs.Bounds.{Bound, allowsAll}
@@ -15,10 +14,9 @@ use Rattle.text.proofs.Lengths.{line-bound, all-short}
 use Rattle.keys.specs.Expressions.{Expression, sameExpr}
 use Rattle.keys.specs.Adjust.{KeySheet, KeyAnswer, Projected, Adjustment, answered, nameNotFound, adjustInputKeysOrdering}
 use Rattle.keys.specs.Inputs.{JoinSheet, JoinAnswer, reorderJoinKeysToInputs}
-use Rattle.keys.proofs.Truths.{by-test}
 use Rattle.sheet.specs.Lines.{mostBytes}
 use Rattle.sheet.specs.KeySheets.{Reading, sheet, turned, readKeySheet, readJoinSheet}
-use Rattle.sheet.specs.KeyAnswers.{Outcome, refused, wrote, numbersLine, exprNumbers, exprsLine, projectedNumbers, childLines, keyAnswerText, joinAnswerText, adjusted, keyOutcome, joinOutcome, adjustDecision, inputsDecision, decision}
+use Rattle.sheet.specs.KeyAnswers.{Outcome, refused, wrote, numbersLine, exprNumbers, exprsLine, projectedNumbers, childLines, keyAnswerText, joinAnswerText, adjusted, keyOutcome, joinOutcome, adjustDecision, inputsDecision}
 use Rattle.sheet.specs.Sizes.{Each, Few, Within, PlacedWithin, NumberList, ExprList, InputList, SizedKeySheet, SizedKeyAnswer, SizedJoinSheet, SizedJoinAnswer, lineMost, keyAnswerMost, joinAnswerMost}
 use Rattle.sheet.specs.LegalSheets.{LegalExpr, LegalExprs, LegalInput, LegalKeySheet, LegalJoinSheet}
 use Rattle.sheet.proofs.Entries.{each-weaker, few-weaker}
@@ -171,7 +169,3 @@ adjust-fits s = key-fits s (readKeySheet s) refl
 pub inputs-fits : (s : List ℕ) → Fits (inputsDecision s)
 unfolding inputsDecision
 inputs-fits s = join-fits s (readJoinSheet s) refl
-
-pub decision-fits : (s : List ℕ) → Fits (decision s)
-unfolding decision
-decision-fits s = by-test Fits (eqb (getD s 0 0) 75) (λ t. adjust-fits s) (λ t. by-test Fits (eqb (getD s 0 0) 73) (λ u. inputs-fits s) (λ u. tt))

@@ -30,7 +30,7 @@ cases·at true false false false true = omega arith
 cases·at true false false false false = omega arith
 cases·at false b c d e = omega arith
 
-number-few : (k : Kind) (seen next : ℕ) (x : Option (List Field)) → lineNumber k seen next x ≤ 6
+pub number-few : (k : Kind) (seen next : ℕ) (x : Option (List Field)) → lineNumber k seen next x ≤ 6
 unfolding lineNumber
 number-few k seen next none = omega arith
 number-few k seen next (some fs) = cases·at (fieldsFit k fs) (k .malformed fs) (ltb mostBytes next || (tooManyEntries k fs || k .large seen fs)) (k .undefined fs) (k .unfit fs)

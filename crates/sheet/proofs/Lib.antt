@@ -14,7 +14,6 @@ pub mod Accepted
 pub mod KeyAccepted
 pub mod LegalRows
 pub mod LegalSheets
-pub mod Marked
 pub mod TriedSizes
 pub mod KeySizes
 pub mod JoinSizes

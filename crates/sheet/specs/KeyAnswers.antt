@@ -1,10 +1,7 @@
--- K and I answers as text, and the decision on a sheet's bytes.
+-- K and I answers as text, and the decisions on the bytes of such sheets.
 -- Renders document 01, "Answer: `k,changed,report`", "Answer `i,report,followed`", and refusal 10.
 use Prim.Native.Nat.{ℕ}
 use mathlib.Core.List.{List, [], _∷_, _++_, map}
-use mathlib.Core.Bool.{cond}
-use lib.Dec.{eqb}
-use lib.ListN.{getD}
 use Rattle.text.specs.Text.{number}
 use Rattle.text.specs.Write.{lineText}
 use Rattle.keys.specs.Expressions.{Expression, sameExpr}
@@ -64,7 +61,3 @@ adjustDecision s = keyOutcome (readKeySheet s)
 
 unfoldable pub inputsDecision : List ℕ → Outcome
 inputsDecision s = joinOutcome (readJoinSheet s)
-
--- by the first byte: a K sheet, an I sheet; anything else is a wrong first line
-unfoldable pub decision : List ℕ → Outcome
-decision s = cond (eqb (getD s 0 0) 75) (adjustDecision s) (cond (eqb (getD s 0 0) 73) (inputsDecision s) (refused 1 1))

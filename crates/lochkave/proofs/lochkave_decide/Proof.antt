@@ -1,6 +1,6 @@
 -- `lochkave::lochkave_decide` meets its contract. By the first byte (`Entries`).
 -- Assumes nothing.
-use Rattle.sheet.specs.KeyAnswers.{decision}
+use Rattle.lochkave.specs.Decision.{decision}
 use Rattle.lochkave.proofs.Entries.{first-none, first-key, first-join, first-other}
 use borrow.Author.Needs.{needs}
 use Rattle.lochkave.proofs.lochkave_decide.Statement.{statement}
