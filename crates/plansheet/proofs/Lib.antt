@@ -9,3 +9,4 @@ pub mod Wholes
 pub mod RunCases
 pub mod OneTree
 pub mod Fitting
+pub mod FitTrees
