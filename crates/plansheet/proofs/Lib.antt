@@ -10,3 +10,6 @@ pub mod RunCases
 pub mod OneTree
 pub mod Fitting
 pub mod FitTrees
+pub mod Crowded
+pub mod PlanFitted
+pub mod PlanWhole
