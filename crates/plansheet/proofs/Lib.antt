@@ -9,3 +9,7 @@ pub mod Wholes
 pub mod RunCases
 pub mod OneTree
 pub mod Fitting
+pub mod FitTrees
+pub mod Crowded
+pub mod PlanFitted
+pub mod PlanWhole

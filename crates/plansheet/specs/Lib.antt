@@ -6,3 +6,4 @@ pub mod PlanAnswers
 pub mod ReadRows
 pub mod ReadPlans
 pub mod FitRows
+pub mod PlanRooms

@@ -118,20 +118,20 @@ factsOf g = record {
   masks = values (g .masks);
 }
 
-abbrev pub planSheet : List Field → Plan → FactLines → PlanSheet
-planSheet d t g = record { settings = settingsOf (values d); plan = t; facts = factsOf g }
+abbrev pub planSheet : Settings → Plan → FactLines → PlanSheet
+planSheet s t g = record { settings = s; plan = t; facts = factsOf g }
 
 -- "target or batch out of range", and then what X rows and Y masks do not fit
 abbrev pub judgedPlan : PlanSheet → Reading PlanSheet
 judgedPlan x = cond (settingsFit (x .settings)) (cond (factsFit (x .settings) (x .facts) (x .plan)) (sheet x) (turned 8 0)) (turned 7 0)
 
-abbrev pub withFacts : List Field → Plan → Reading FactLines → Reading PlanSheet
-withFacts d t (turned n l) = turned n l
-withFacts d t (sheet g) = judgedPlan (planSheet d t g)
+abbrev pub withFacts : Settings → Plan → Reading FactLines → Reading PlanSheet
+withFacts s t (turned n l) = turned n l
+withFacts s t (sheet g) = judgedPlan (planSheet s t g)
 
 -- D, T lines until the tree is complete, and what follows
 unfoldable pub readPlan : List ℕ → Reading PlanSheet
 readPlan s =
     withRows (rowsOf settingsLine 1 0 1 0 (parts 10 s)) (λ ds l p ls.
     withRows (rowsOf planLine 1 0 l p ls) (λ ts l p ls.
-    withFacts (headOf ds) (planOf ts) (readFacts (childCount (planOf ts)) l p ls)))
+    withFacts (settingsOf (values (headOf ds))) (planOf ts) (readFacts (childCount (planOf ts)) l p ls)))

@@ -3,8 +3,14 @@ ghost use mathlib.Core.Path.{_≡_};
 ghost use mathlib.Core.List.{List, _++_, map};
 ghost use Prim.Native.Nat.{ℕ, _+_, _≤_, _<_};
 ghost use lib.ListN.{length, take, drop};
+ghost use Rattle.exchange.specs.Trees.{node, trees, Operator, Plans};
+ghost use Rattle.exchange.specs.declared.settings.Settings.{Settings};
+ghost use Rattle.exchange.specs.Facts.{NodeFacts};
+ghost use Rattle.exchange.specs.FactRows.{childFacts, factRow};
+ghost use Rattle.exchange.specs.Rows.{flattens};
+ghost use Rattle.exchange.specs.Runs.{StandAll};
 ghost use Rattle.exchange.specs.Found.{indexOf};
-ghost use Rattle.exchange.specs.Fit.{withinBits, allWithinBits};
+ghost use Rattle.exchange.specs.Fit.{withinBits, allWithinBits, workedFits};
 ghost use Rattle.plansheet.specs.FitRows.{countFitsBy, childFitsBy, rowFitsBy, factRowsFit, Placed, foundAt};
 use exchange::fact::CHILD;
 use exchange::fact::CONST;
@@ -17,6 +23,7 @@ use exchange::fact::fact_row;
 use exchange::form::relationship_of;
 use exchange::form::split_of;
 use exchange::form::top_of;
+use exchange::places::child_places;
 use exchange::row::Row;
 use exchange::row::node_at;
 use exchange::status::ChildRow;
@@ -150,4 +157,39 @@ pub fn rows_fit(
         i += 1;
     }
     true
+}
+
+// Whether the first n X rows and the masks fit the tree whose worked node stands at `worked`; each of its children has an F row.
+pub fn facts_fit(
+    target: u64,
+    rows: &[Row],
+    worked: usize,
+    facts: &[ChildRow],
+    index: &[u64],
+    xs: &[FactRow],
+    n: usize,
+    masks: &[u64],
+) -> bool
+    requires { ⌜ StandAll (now rows) (worked + 1) (length (now facts)) ⌝ }
+    requires { ⌜ (worked < length (now rows)) × (length (now facts) ≤ 8) × (n ≤ length (now xs)) × (now index ≡ indexOf (take n (now xs))) ⌝ }
+    ensures { λ r. ⌜ ((s : Settings) (o : Operator) (b : NodeFacts) (ts : Plans) (rest : List (List ℕ)) → s .target ≡ target → trees ts ≡ length (now (facts .entry)) → drop (worked + 1) (now (rows .entry)) ≡ flattens ts ++ rest → r ≡ workedFits s (record { node = b; children = map childFacts (now (facts .entry)); rows = map factRow (take n (now (xs .entry))); masks = now (masks .entry) }) (node o ts)) ⌝ }
+{
+    let children = facts.len() as u64;
+    let mut places = [0u64; 8];
+    let mut needs = [0u64; 8];
+    let mut counts = [0u64; 8];
+    child_places(
+        rows,
+        worked + 1,
+        children,
+        &mut places,
+        &mut needs,
+        &mut counts,
+        0,
+    );
+    let end = facts.len();
+    if !rows_fit(target, rows, &places[0..end], facts, index, xs, n) {
+        return false;
+    }
+    masks_fit(children, masks)
 }

@@ -3,5 +3,6 @@ pub mod facts;
 pub mod fit;
 pub mod line;
 pub mod lines;
+pub mod plan;
 pub mod shape;
 pub mod tree;
