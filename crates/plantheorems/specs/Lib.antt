@@ -1,0 +1,3 @@
+pub mod Everywhere
+pub mod LegalPlans
+pub mod RunKinds
