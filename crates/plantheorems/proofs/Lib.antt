@@ -1,2 +1,4 @@
 pub mod Runs
 pub mod TreeRows
+pub mod FieldFacts
+pub mod TreeLines
