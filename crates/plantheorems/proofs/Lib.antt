@@ -2,3 +2,5 @@ pub mod Runs
 pub mod TreeRows
 pub mod FieldFacts
 pub mod TreeLines
+pub mod TreeLaw
+pub mod TreeText

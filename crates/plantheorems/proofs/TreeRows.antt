@@ -75,11 +75,11 @@ mutual
 abbrev pub idOf : List ℕ → ℕ
 idOf r = getD r 0 0
 
-map-append : {A B : Type 0} (f : A → B) (xs ys : List A) → map f (xs ++ ys) ≡ map f xs ++ map f ys
+pub map-append : {A B : Type 0} (f : A → B) (xs ys : List A) → map f (xs ++ ys) ≡ map f xs ++ map f ys
 map-append f [] ys = refl
 map-append {B = B} f (x ∷ xs) ys = ap (λ (zs : List B). f x ∷ zs) (map-append f xs ys)
 
-id-row : (o : Operator) (n : ℕ) → idOf (rowOf o n) ≡ o .id
+pub id-row : (o : Operator) (n : ℕ) → idOf (rowOf o n) ≡ o .id
 unfolding rowOf
 id-row o n = refl
 
