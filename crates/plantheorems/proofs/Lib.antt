@@ -4,3 +4,5 @@ pub mod FieldFacts
 pub mod TreeLines
 pub mod TreeLaw
 pub mod TreeText
+pub mod PlanKinds
+pub mod FactsRead
