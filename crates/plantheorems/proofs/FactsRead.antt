@@ -19,7 +19,7 @@ use Rattle.plansheet.specs.Shapes.{fixedLine}
 use Rattle.plansheet.specs.PlanLines.{nodeShape, nodeLine, childShape, childLine, factShape, factLine, maskShape, maskLine}
 use Rattle.plansheet.specs.PlanSheets.{FactLines, withRows, readMasks, readChildren, readFacts}
 use Rattle.plansheet.specs.PlanTexts.{linesText}
-use Rattle.plantheorems.proofs.Runs.{run-written, run-read, Legal}
+use Rattle.plantheorems.proofs.Runs.{Legal, Ran, run-written, run-read}
 use Rattle.plantheorems.proofs.PlanKinds.{node-plain, child-plain, fact-plain, mask-plain, fixed-each, fixed-count, fixed-legal, coming-each, coming-legal, one-row, first-each, one-text, one-read, other-letter}
 
 -- ---- a run that was read, and what followed
@@ -96,27 +96,37 @@ record ChildrenRead (b : List Field) (n at : ℕ) (s : List ℕ) (g : FactLines)
   within : at ≤ mostBytes → at + length s ≤ mostBytes
   is : b ≡ g .node
 
-children-read : (b : List Field) (n line at : ℕ) (s : List ℕ) (g : FactLines) → readChildren b n line at (parts 10 s) ≡ sheet g → ChildrenRead b n at s g
-unfolding readChildren
-children-read b n line at s g e =
-    let w = went (rowsOf childLine n 0 line at (parts 10 s)) (λ fs l p ls. withRows (rowsOf factLine 0 0 l p ls) (λ xs l p ls. readMasks b fs xs n l p ls)) g e in
-    let r = run-written childLine child-plain n 0 line at s (w .rows) (w .lines) (w .line) (w .place) (w .was) in
-    let v = went (rowsOf factLine 0 0 (w .line) (w .place) (w .lines)) (λ xs l p ls. readMasks b (w .rows) xs n l p ls) g (w .on) in
-    let q = run-written factLine fact-plain 0 0 (w .line) (w .place) (r .rest) (v .rows) (v .lines) (v .line) (v .place) (rw (← r .lines) (v .was)) in
-    let m = masks-read b (w .rows) (v .rows) n (v .line) (v .place) (q .rest) g (rw (← q .lines) (v .on)) in
-    let h : factLinesOf b (w .rows) (v .rows) (m .y) ≡ g = m .is in
-    let t : s ≡ linesText 70 (w .rows) ++ (linesText 88 (v .rows) ++ lineText 89 (m .y)) =
-    r .text ∙ ap (λ (ys : List ℕ). linesText 70 (w .rows) ++ ys) (q .text ∙ ap (λ (ys : List ℕ). linesText 88 (v .rows) ++ ys) (m .text)) in
-    let fine : Fine nodeLine b → FineFacts n (factLinesOf b (w .rows) (v .rows) (m .y)) = λ f. record {
-      node = f;
-      children = fixed-each childShape _ n 0 (w .rows) (r .legal);
-      counted = fixed-count childShape _ n 0 (w .rows) (r .legal);
-      rows = coming-each factShape _ 0 0 (v .rows) (q .legal);
-      masks = m .fine;
-    } in
-    let long : at ≤ mostBytes → at + length s ≤ mostBytes =
-    λ k. omega (arith, m .within (q .within (r .within k)), r .place, q .place, ap length (r .text), ap length (q .text), length-append (linesText 70 (w .rows)) (r .rest), length-append (linesText 88 (v .rows)) (q .rest)) in
-    record { fine = subst (λ (y : FactLines). Fine nodeLine b → FineFacts n y) h fine; text = t ∙ ap childrenText h; within = long; is = ap (λ (y : FactLines). y .node) h }
+module _ (b : List Field) (n line at : ℕ) (s : List ℕ) (g : FactLines) where
+  children-made :
+      (fs xs : List (List Field)) (ls ms : List (List ℕ)) (l p k o : ℕ) (r : Ran childLine n 0 line at s fs ls l p) (q : Ran factLine 0 0 l p (r .rest) xs ms k o) →
+      MasksRead b fs xs n o (q .rest) g → ChildrenRead b n at s g
+  children-made fs xs ls ms l p k o r q m =
+      let y : List Field = m .y in
+      let h : factLinesOf b fs xs y ≡ g = m .is in
+      let t : s ≡ linesText 70 fs ++ (linesText 88 xs ++ lineText 89 y) = r .text ∙ ap (λ (ys : List ℕ). linesText 70 fs ++ ys) (q .text ∙ ap (λ (ys : List ℕ). linesText 88 xs ++ ys) (m .text)) in
+      let fine : Fine nodeLine b → FineFacts n (factLinesOf b fs xs y) = λ f. record {
+        node = f;
+        children = fixed-each childShape _ n 0 fs (r .legal);
+        counted = fixed-count childShape _ n 0 fs (r .legal);
+        rows = coming-each factShape _ 0 0 xs (q .legal);
+        masks = m .fine;
+      } in
+      record {
+        fine = subst (λ (z : FactLines). Fine nodeLine b → FineFacts n z) h fine;
+        text = t ∙ ap childrenText h;
+        within = λ w. omega (arith, m .within (q .within (r .within w)), r .place, q .place, ap length (r .text), ap length (q .text), length-append (linesText 70 fs) (r .rest), length-append (linesText 88 xs) (q .rest));
+        is = ap (λ (z : FactLines). z .node) h;
+      }
+
+  children-read : readChildren b n line at (parts 10 s) ≡ sheet g → ChildrenRead b n at s g
+  unfolding readChildren
+  children-read e =
+      let w = went (rowsOf childLine n 0 line at (parts 10 s)) (λ fs l p ls. withRows (rowsOf factLine 0 0 l p ls) (λ xs l p ls. readMasks b fs xs n l p ls)) g e in
+      let r = run-written childLine child-plain n 0 line at s (w .rows) (w .lines) (w .line) (w .place) (w .was) in
+      let v = went (rowsOf factLine 0 0 (w .line) (w .place) (w .lines)) (λ xs l p ls. readMasks b (w .rows) xs n l p ls) g (w .on) in
+      let q = run-written factLine fact-plain 0 0 (w .line) (w .place) (r .rest) (v .rows) (v .lines) (v .line) (v .place) (rw (← r .lines) (v .was)) in
+      children-made (w .rows) (v .rows) (w .lines) (v .lines) (w .line) (w .place) (v .line) (v .place) r q
+      (masks-read b (w .rows) (v .rows) n (v .line) (v .place) (q .rest) g (rw (← q .lines) (v .on)))
 
 -- ---- B, and what follows
 
