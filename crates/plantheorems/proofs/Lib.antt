@@ -6,3 +6,4 @@ pub mod TreeLaw
 pub mod TreeText
 pub mod PlanKinds
 pub mod FactsRead
+pub mod LineValues
