@@ -7,3 +7,5 @@ pub mod TreeText
 pub mod PlanKinds
 pub mod FactsRead
 pub mod LineValues
+pub mod PlanAccepted
+pub mod PlanRoundTrip
