@@ -9,3 +9,4 @@ pub mod FactsRead
 pub mod LineValues
 pub mod PlanAccepted
 pub mod PlanRoundTrip
+pub mod PlanSizes

@@ -1,3 +1,4 @@
 pub mod Everywhere
 pub mod LegalPlans
+pub mod PlanSizes
 pub mod RunKinds
