@@ -10,3 +10,5 @@ pub mod LineValues
 pub mod PlanAccepted
 pub mod PlanRoundTrip
 pub mod PlanSizes
+pub mod RunTurns
+pub mod PlanRefused

@@ -2,3 +2,4 @@ pub mod Everywhere
 pub mod LegalPlans
 pub mod PlanSizes
 pub mod RunKinds
+pub mod PlanRefusals
