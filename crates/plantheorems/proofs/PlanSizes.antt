@@ -30,6 +30,7 @@ use Rattle.plantheorems.proofs.PlanRoundTrip.{plan-read-legal}
 module _ (P : ℕ → Type 0) where
   mutual
     unfolding ids
+
     every-id : (t : Plan) → Each P (ids t) → Every (λ o n. P (o .id)) t
     every-id (node o ts) h = (h .0, every-ids ts (h .1))
 

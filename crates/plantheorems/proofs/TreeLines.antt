@@ -167,8 +167,16 @@ module _ (seen : ℕ) (o : Operator) (n : ℕ) (l : LegalOperator o n) where
       let t = l .tracked in
       let d = l .need in
       let w = few in
-      rw (le-leb (o .kind) 65535 (omega arith), le-leb (o .count) 65535 (l .count), le-leb (o .keeps) 65535 (omega arith), long .0, le-leb (o .order) 65535 (l .order),
-      le-leb (o .tracked) 65535 (omega arith), le-leb (o .need) 65535 (omega arith), le-leb n 65535 (omega arith))
+      rw (
+        le-leb (o .kind) 65535 (omega arith),
+        le-leb (o .count) 65535 (l .count),
+        le-leb (o .keeps) 65535 (omega arith),
+        long .0,
+        le-leb (o .order) 65535 (l .order),
+        le-leb (o .tracked) 65535 (omega arith),
+        le-leb (o .need) 65535 (omega arith),
+        le-leb n 65535 (omega arith),
+      )
 
   codes-fit : overAny (treeShape .codes) (values (rowFields (rowOf o n))) ≡ false
   unfolding rowOf

@@ -65,6 +65,7 @@ module _ (P Q : Operator → ℕ → Type 0) (f : (o : Operator) (n : ℕ) → P
 
 mutual
   unfolding lines
+
   pub lines-rows : (t : Plan) → lines t ≡ length (flatten t)
   lines-rows (node o ts) = omega (arith, liness-rows ts, ap length (flatten-node o ts))
 
@@ -85,6 +86,7 @@ id-row o n = refl
 
 mutual
   unfolding ids
+
   pub ids-rows : (t : Plan) → ids t ≡ map idOf (flatten t)
   ids-rows (node o ts) = sym (ap (map idOf) (flatten-node o ts) ∙ (λ i. id-row o (trees ts) i ∷ sym (idss-rows ts) i))
 
@@ -101,6 +103,7 @@ worked·at P false t u h k = h
 module _ (P : Operator → ℕ → Type 0) where
   mutual
     unfolding removeDistChangingOperators
+
     pub every-worked : (t : Plan) → Every P t → Every P (removeDistChangingOperators t)
     every-worked (node o ts) h = worked·at P (isRemoved o) (node o ts) (removeAbove (node o ts) ts) h (every-above (node o ts) ts h (h .1))
 

@@ -72,6 +72,7 @@ children-at o n owed = refl
 module _ (x : Option (List Field)) where
   mutual
     unfolding lines
+
     pub tree-legal :
         (t : Plan) (owed seen : ℕ) (rs : List (List Field)) → Every LegalOperator t → seen + lines t ≤ mostLines →
         Legal planLine x owed (seen + lines t) rs → Legal planLine x (suc owed) seen (map rowFields (flatten t) ++ rs)
