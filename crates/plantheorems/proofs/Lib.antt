@@ -12,3 +12,5 @@ pub mod PlanRoundTrip
 pub mod PlanSizes
 pub mod RunTurns
 pub mod PlanRefused
+pub mod SheetTrees
+pub mod PlanNumbers

@@ -97,7 +97,7 @@ module _ (s : List ℕ) (x : PlanSheet) where
       let m = made (headOf (w .rows)) (planOf (v .rows)) (readFacts (childCount (planOf (v .rows))) (v .line) (v .place) (v .lines)) x (v .on) in
       let f = facts-read (childCount (planOf (v .rows))) (v .line) (v .place) (q .rest) (m .lines) (rw (← q .lines) (m .was)) in
       accepted·by (w .rows) (v .rows) (w .lines) (v .lines) (w .line) (w .place) (v .line) (v .place) r q
-      (tree-law (w .line) (w .place) (w .lines) (v .rows) (v .lines) (v .line) (v .place) _ (v .was) (q .legal)) m f
+      (tree-law (w .line) (w .place) (r .rest) (v .rows) (v .lines) (v .line) (v .place) (rw (← r .lines) (v .was))) m f
 
 -- ---- and back
 

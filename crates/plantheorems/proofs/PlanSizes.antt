@@ -9,7 +9,6 @@ use Rattle.exchange.specs.Trees.{node, none as nothing, _∷ᶠ_, trees, Operat
 use Rattle.exchange.specs.Facts.{ChildFacts, Row}
 use Rattle.exchange.specs.Sizes.{lines}
 use Rattle.exchange.specs.Skeleton.{below}
-use Rattle.exchange.specs.Children.{updateChildren}
 use Rattle.exchange.specs.Partitioning.{workedOf}
 use Rattle.sheet.specs.KeySheets.{sheet}
 use Rattle.sheet.specs.LegalSheets.{Small}
@@ -20,7 +19,7 @@ use Rattle.plansheet.specs.PlanSheets.{PlanSheet, readPlan}
 use Rattle.plantheorems.specs.Everywhere.{Every, Everys, ids, idss, placesFrom}
 use Rattle.plantheorems.specs.LegalPlans.{LongLimit, LegalOperator, LegalChild, LegalRow, LegalPlan}
 use Rattle.plantheorems.specs.PlanSizes.{LimitWithin, OperatorWithin, RowWithin, SizedPlan}
-use Rattle.plantheorems.proofs.TreeRows.{each-first, each-last, every-weaker, every-worked, every-updated, root-children}
+use Rattle.plantheorems.proofs.TreeRows.{each-first, each-last, every-weaker, every-worked-on, root-children}
 use Rattle.plantheorems.proofs.TreeLines.{suits-few}
 use Rattle.plantheorems.proofs.TreeLaw.{worked-same}
 use Rattle.plantheorems.proofs.PlanRoundTrip.{plan-read-legal}
@@ -31,7 +30,7 @@ module _ (P : ℕ → Type 0) where
   mutual
     unfolding ids
 
-    every-id : (t : Plan) → Each P (ids t) → Every (λ o n. P (o .id)) t
+    pub every-id : (t : Plan) → Each P (ids t) → Every (λ o n. P (o .id)) t
     every-id (node o ts) h = (h .0, every-ids ts (h .1))
 
     every-ids : (ts : Plans) → Each P (idss ts) → Everys (λ o n. P (o .id)) ts
@@ -90,7 +89,7 @@ legal-sizes x l =
       operators =
           every-weaker (λ o n. (o .id ≤ 256) × LegalOperator o n) (λ o n. OperatorWithin 65535 4294967295 o) operator-within t (every-both (λ o n. o .id ≤ 256) LegalOperator t small (l .operators));
       children = eight;
-      few = root-children (λ n. n ≤ 8) (workedOf t) (every-worked (λ o n. n ≤ 8) (updateChildren t) (every-updated (λ n. n ≤ 8) t eight));
+      few = root-children (λ n. n ≤ 8) (workedOf t) (every-worked-on (λ o n. n ≤ 8) (λ m o n h. h) t eight);
       counted = l .facts .counted ∙ sym (worked-same t);
       entries = each-weaker LegalChild (λ (f : ChildFacts). f .entries ≤ 8) (λ f h. h .entries) (x .facts .children) (l .facts .children);
       rows = each-weaker LegalRow (RowWithin 65535 4294967295) row-within (x .facts .rows) (l .facts .rows);

@@ -8,6 +8,7 @@ use mathlib.Core.Bool.{Bool, true, false, cond}
 use mathlib.Core.Option.{Option}
 use lib.ListN.{length}
 use Rattle.text.specs.Text.{Field, parts}
+use Rattle.text.specs.Lines.{firstOf}
 use Rattle.exchange.specs.Trees.{node, none, _∷ᶠ_, trees, Operator, Plan, Plans}
 use Rattle.exchange.specs.Rows.{flatten}
 use Rattle.exchange.specs.Sizes.{lines}
@@ -24,8 +25,9 @@ use Rattle.plansheet.specs.PlanTexts.{rowFields, treeRows}
 use Rattle.plansheet.proofs.OneTree.{one-tree, few-lines}
 use Rattle.plantheorems.specs.Everywhere.{Every, ids, placesFrom}
 use Rattle.plantheorems.specs.LegalPlans.{LegalOperator}
-use Rattle.plantheorems.proofs.Runs.{Legal, stop, more}
-use Rattle.plantheorems.proofs.TreeRows.{OfRow, every-operator, every-weaker, lines-rows, idOf, ids-rows, every-worked, every-updated, root-children}
+use Rattle.plantheorems.proofs.Runs.{Legal, stop, more, run-written}
+use Rattle.plantheorems.proofs.PlanKinds.{tree-plain}
+use Rattle.plantheorems.proofs.TreeRows.{OfRow, every-operator, every-weaker, lines-rows, idOf, ids-rows, update-trees, every-worked-on, root-children}
 use Rattle.plantheorems.proofs.TreeLines.{suits-few, line-legal, line-again}
 
 -- ---- rows of legal lines
@@ -57,11 +59,6 @@ rows-ids id (fs ∷ rs) = ap (λ (ns : List ℕ). id ∷ ns) (rows-ids (suc id) 
 removed·at : (b : Bool) (t u v w : Plan) → trees (below t) ≡ trees (below v) → trees (below u) ≡ trees (below w) → trees (below (cond b t u)) ≡ trees (below (cond b v w))
 removed·at true t u v w e f = e
 removed·at false t u v w e f = f
-
-update-trees : (ts : Plans) → trees (updateEach ts) ≡ trees ts
-unfolding updateEach
-update-trees none = refl
-update-trees (t ∷ᶠ ts) = ap suc (update-trees ts)
 
 above-same : (o p : Operator) (ts : Plans) → trees (below (removeAbove (node o ts) ts)) ≡ trees (below (removeAbove (node p ts) ts))
 unfolding removeDistChangingOperators
@@ -97,21 +94,23 @@ pub record OneTree (rs : List (List Field)) : Type 0 where
   pub again : treeRows (planOf rs) ≡ rs
 
 pub tree-law :
-    (line at : ℕ) (ls : List (List ℕ)) (rs : List (List Field)) (ms : List (List ℕ)) (l p : ℕ) (x : Option (List Field)) →
-    rowsOf planLine 1 0 line at ls ≡ read rs ms l p → Legal planLine x 1 0 rs → OneTree rs
-tree-law line at ls rs ms l p x e legal =
+    (line at : ℕ) (s : List ℕ) (rs : List (List Field)) (ms : List (List ℕ)) (l p : ℕ) →
+    rowsOf planLine 1 0 line at (parts 10 s) ≡ read rs ms l p → OneTree rs
+tree-law line at s rs ms l p e =
     let t : Plan = planOf rs in
-    let flat : flatten t ≡ operatorRows 1 rs = one-tree treeShape childRules mostLines line at ls rs ms l p e in
+    let x : Option (List Field) = firstOf 84 ms in
+    let legal : Legal planLine x 1 0 rs = run-written planLine tree-plain 1 0 line at s rs ms l p e .legal in
+    let flat : flatten t ≡ operatorRows 1 rs = one-tree treeShape childRules mostLines line at (parts 10 s) rs ms l p e in
     let all : Every LegalOperator t = every-operator LegalOperator t (rw flat (rows-legal x 1 0 rs legal 1)) in
     let eight : Every (λ o n. n ≤ 8) t = every-weaker LegalOperator (λ o n. n ≤ 8) (λ o n h. suits-few (o .kind) n (h .children)) t all in
     record {
       rows = sym flat;
       only = λ u h. same-tree u t [] [] (ap (λ (ys : List (List ℕ)). ys ++ []) (sym h ∙ sym flat));
       long = lines-rows t ∙ ap length flat ∙ rows-count 1 rs;
-      few = omega (arith, few-lines treeShape childRules mostLines 1 0 line at ls rs ms l p e (omega arith));
+      few = omega (arith, few-lines treeShape childRules mostLines 1 0 line at (parts 10 s) rs ms l p e (omega arith));
       operators = all;
       numbered = ids-rows t ∙ ap (map idOf) flat ∙ rows-ids 1 rs;
       children = eight;
-      worked = root-children (λ n. n ≤ 8) (workedOf t) (every-worked (λ o n. n ≤ 8) (updateChildren t) (every-updated (λ n. n ≤ 8) t eight));
+      worked = root-children (λ n. n ≤ 8) (workedOf t) (every-worked-on (λ o n. n ≤ 8) (λ m o n h. h) t eight);
       again = ap (map rowFields) flat ∙ rows-again x 1 0 rs legal 1;
     }

@@ -10,7 +10,9 @@ use Rattle.exchange.specs.Trees.{node, none, _∷ᶠ_, trees, Operator, Plan, P
 use Rattle.exchange.specs.Rows.{unpacked, childrenOf, operatorOf, rowOf, flatten, flattens, grow}
 use Rattle.exchange.specs.Sizes.{lines, liness}
 use Rattle.exchange.specs.Skeleton.{below}
+use Rattle.exchange.specs.Operators.{track}
 use Rattle.exchange.specs.Children.{isRemoved, updateChild, updateEach, updateChildren, removeDistChangingOperators, removeAbove}
+use Rattle.exchange.specs.Partitioning.{workedOf}
 use Rattle.exchange.proofs.TreeRows.{flatten-node, flattens-none, flattens-cons, row-operator, row-children}
 use Rattle.exchange.proofs.Grown.{grow-flatten}
 use Rattle.sheet.specs.Sizes.{Each}
@@ -115,18 +117,23 @@ module _ (P : Operator → ℕ → Type 0) where
 pub root-children : (P : ℕ → Type 0) (t : Plan) → Every (λ o n. P n) t → P (trees (below t))
 root-children P (node o ts) h = h .0
 
-update-trees : (ts : Plans) → trees (updateEach ts) ≡ trees ts
+pub update-trees : (ts : Plans) → trees (updateEach ts) ≡ trees ts
 unfolding updateEach
 update-trees none = refl
 update-trees (t ∷ᶠ ts) = ap suc (update-trees ts)
 
-every-update : (P : ℕ → Type 0) (t : Plan) → Every (λ o n. P n) t → Every (λ o n. P n) (updateChild t)
-every-update P (node o ts) h = h
+module _ (P : Operator → ℕ → Type 0) (f : (m : ℕ) (o : Operator) (n : ℕ) → P o n → P (track m o) n) where
+  every-update : (t : Plan) → Every P t → Every P (updateChild t)
+  every-update (node o ts) h = (f _ o (trees ts) (h .0), h .1)
 
-every-updates : (P : ℕ → Type 0) (ts : Plans) → Everys (λ o n. P n) ts → Everys (λ o n. P n) (updateEach ts)
-unfolding updateEach
-every-updates P none h = tt
-every-updates P (t ∷ᶠ ts) h = (every-update P t (h .0), every-updates P ts (h .1))
+  every-updates : (ts : Plans) → Everys P ts → Everys P (updateEach ts)
+  unfolding updateEach
+  every-updates none h = tt
+  every-updates (t ∷ᶠ ts) h = (every-update t (h .0), every-updates ts (h .1))
 
-pub every-updated : (P : ℕ → Type 0) (t : Plan) → Every (λ o n. P n) t → Every (λ o n. P n) (updateChildren t)
-every-updated P (node o ts) h = (subst P (sym (update-trees ts)) (h .0), every-updates P ts (h .1))
+  pub every-updated : (t : Plan) → Every P t → Every P (updateChildren t)
+  every-updated (node o ts) h = (subst (P (track 0 o)) (sym (update-trees ts)) (f 0 o (trees ts) (h .0)), every-updates ts (h .1))
+
+  -- so what holds of every operator, whatever its mark, holds of those that the step works on
+  pub every-worked-on : (t : Plan) → Every P t → Every P (workedOf t)
+  every-worked-on t h = every-worked P (updateChildren t) (every-updated t h)
