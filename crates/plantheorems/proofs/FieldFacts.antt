@@ -1,11 +1,11 @@
 -- Lines of fixed fields: their numbers are within the shape's bounds, sizes and codes, and numbers within these make a fine line.
 -- Assumes nothing.
-use mathlib.Core.Path.{_≡_, refl, sym, ap, _∙_}
+use mathlib.Core.Path.{_≡_, refl, sym, _∙_}
 use Prim.Native.Nat.{ℕ, zero, suc, _*_, _≤_, _<_}
 use native.Mathlib.Omega.{arith}
 use mathlib.Core.List.{List, [], _∷_, map}
-use mathlib.Core.Bool.{Bool, true, false, _&&_, _||_}
-use lib.Dec.{ltb, leb}
+use mathlib.Core.Bool.{true, false}
+use lib.Dec.{ltb}
 use lib.ListN.{length, getD, drop, length-drop}
 use borrow.Author.Tests.{ltb-false, le-ltb, le-leb, leb-true}
 use Rattle.text.specs.Text.{Field, number, empty, malformed, valueOf}

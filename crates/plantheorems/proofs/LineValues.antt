@@ -1,15 +1,15 @@
 -- The D, B, F, X and Y lines and their values: a fine line's value is legal and is written as it stood; a legal value's line is fine and its value again.
 -- Assumes nothing.
 use mathlib.Core.Path.{_≡_, refl, sym, ap, subst, _∙_}
-use Prim.Native.Nat.{ℕ, zero, suc, _+_, _≤_}
+use Prim.Native.Nat.{ℕ, zero, suc, _+_}
 use native.Mathlib.Omega.{arith}
-use mathlib.Core.List.{List, [], _∷_, map}
-use mathlib.Core.Bool.{Bool, true, false, _&&_}
+use mathlib.Core.List.{List, [], _∷_}
+use mathlib.Core.Bool.{true, _&&_}
 use lib.Dec.{leb}
 use lib.ListN.{length, getD, length-map, replicate}
 use borrow.Author.Tests.{leb-true, le-leb}
 use Rattle.text.specs.Text.{Field, number, empty, malformed, valueOf}
-use Rattle.text.specs.Bounds.{Bound, allows, fits}
+use Rattle.text.specs.Bounds.{allows, fits}
 use Rattle.text.proofs.Exact.{both}
 use Rattle.exchange.specs.declared.settings.Settings.{Settings}
 use Rattle.exchange.specs.Settings.{leastTarget, mostTarget, leastBatch, settingsFit}
@@ -21,7 +21,6 @@ use Rattle.sheet.specs.LegalSheets.{Small}
 use Rattle.sheet.specs.Sizes.{Each}
 use Rattle.sheet.proofs.InTurn.{Fine}
 use Rattle.sheet.proofs.Numbers.{filled, spelled, spelled-out}
-use Rattle.sheet.proofs.LegalRows.{values-numbers, small-fits}
 use Rattle.plansheet.specs.Shapes.{Shape, fixedLine}
 use Rattle.plansheet.specs.PlanLines.{settingsShape, settingsLine, nodeShape, nodeLine, childShape, childLine, factShape, maskShape, maskLine, twoTo}
 use Rattle.plansheet.specs.PlanSheets.{settingsOf, childrenRows, factRows}

@@ -1,9 +1,9 @@
 -- A D sheet that was read: its lines are fine, they are the text, and the sheet is theirs; and such lines are read.
 -- Assumes nothing.
-use mathlib.Core.Path.{_≡_, refl, sym, ap, _∙_}
+use mathlib.Core.Path.{_≡_, refl, ap, _∙_}
 use Prim.Native.Nat.{ℕ, _+_, _≤_}
 use native.Mathlib.Omega.{arith}
-use mathlib.Core.List.{List, [], _∷_, _++_}
+use mathlib.Core.List.{List, _++_}
 use mathlib.Core.Bool.{Bool, true, false, cond}
 use lib.ListN.{length, length-append}
 use Rattle.text.specs.Text.{Field, parts}
@@ -12,7 +12,7 @@ use Rattle.text.specs.Write.{lineText}
 use Rattle.exchange.specs.Trees.{Plan}
 use Rattle.exchange.specs.Settings.{settingsFit}
 use Rattle.exchange.specs.Fit.{factsFit}
-use Rattle.sheet.specs.Lines.{read, mostBytes, rowsOf}
+use Rattle.sheet.specs.Lines.{mostBytes, rowsOf}
 use Rattle.sheet.specs.KeySheets.{Reading, sheet, turned, headOf}
 use Rattle.sheet.proofs.InTurn.{Fine}
 use Rattle.plansheet.specs.PlanLines.{settingsShape, settingsLine, planLine}

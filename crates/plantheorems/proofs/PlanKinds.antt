@@ -4,8 +4,8 @@ use mathlib.Core.Path.{_≡_, refl, sym, ap, subst, _∙_}
 use Prim.Native.Nat.{ℕ, zero, suc, _+_, _-_, _≤_}
 use native.Mathlib.Omega.{arith}
 use mathlib.Core.List.{List, [], _∷_, _++_, append-nil}
-use mathlib.Core.Bool.{Bool, true, false}
-use mathlib.Core.Option.{Option, none, some}
+use mathlib.Core.Bool.{true, false}
+use mathlib.Core.Option.{Option, none}
 use lib.Dec.{eqb}
 use lib.ListN.{length, replicate}
 use borrow.Author.Tests.{eqb-true, eqb-false, eq-eqb, ne-eqb}
@@ -14,12 +14,12 @@ use Rattle.text.specs.Lines.{firstOf}
 use Rattle.text.specs.Write.{fieldsText, lineText}
 use Rattle.text.proofs.Places.{first-cons}
 use Rattle.text.proofs.RoundTrip.{parts-line}
-use Rattle.sheet.specs.Lines.{Kind, read, mostBytes, plain, rowsOf}
+use Rattle.sheet.specs.Lines.{read, mostBytes, plain, rowsOf}
 use Rattle.sheet.specs.KeySheets.{headOf}
 use Rattle.sheet.specs.Sizes.{Each}
 use Rattle.sheet.proofs.InTurn.{readable, Fine}
 use Rattle.plansheet.specs.Shapes.{Shape, fixedLine, comingLine}
-use Rattle.plansheet.specs.PlanLines.{settingsLine, planLine, nodeLine, childLine, factShape, factLine, maskLine, twoTo}
+use Rattle.plansheet.specs.PlanLines.{settingsLine, planLine, nodeLine, childLine, factLine, maskLine, twoTo}
 use Rattle.plansheet.specs.PlanTexts.{linesText}
 use Rattle.plantheorems.proofs.Runs.{Plain, Legal, stop, more, run-read}
 

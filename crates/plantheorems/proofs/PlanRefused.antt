@@ -1,7 +1,7 @@
 -- A D sheet is turned back by the first wrong line, or else where settings, then facts do not fit; and accepted exactly when none of these holds.
 -- Assumes nothing.
 use mathlib.Core.Path.{_≡_, refl, sym, ap, _∙_}
-use mathlib.Core.Logic.{_⊎_, inl, inr, _↔_}
+use mathlib.Core.Logic.{inl, inr, _↔_}
 use Prim.Native.Nat.{ℕ, suc}
 use native.Mathlib.Omega.{arith}
 use mathlib.Core.List.{List, [], _∷_, _++_}
@@ -11,17 +11,15 @@ use lib.ListN.{length, drop}
 use Rattle.text.specs.Text.{Field, parts}
 use Rattle.text.specs.Lines.{firstOf}
 use Rattle.exchange.specs.Trees.{Plan}
-use Rattle.exchange.specs.Settings.{settingsFit}
-use Rattle.exchange.specs.Fit.{factsFit}
 use Rattle.sheet.specs.Lines.{Kind, Run, read, refused, rowsOf, fieldsOf, atEnd}
 use Rattle.sheet.specs.KeySheets.{Reading, sheet, turned, headOf, ended}
 use Rattle.sheet.specs.SheetLines.{inTurn}
-use Rattle.sheet.specs.Refusals.{lineNumbers, lineRows, NoLine, FirstLine, TurnedBack}
+use Rattle.sheet.specs.Refusals.{lineRows, NoLine, FirstLine, TurnedBack}
 use Rattle.sheet.proofs.Refused.{judged, turn-judged, refused-exactly, accepted-exactly}
 use Rattle.plansheet.specs.PlanLines.{settingsShape, settingsLine, planLine, nodeShape, nodeLine, childLine, factLine, maskShape, maskLine}
 use Rattle.plansheet.specs.PlanSheets.{PlanSheet, FactLines, planOf, childCount, withRows, readMasks, readChildren, readFacts, planSheet, judgedPlan, withFacts, readPlan}
 use Rattle.plantheorems.specs.RunKinds.{runKinds}
-use Rattle.plantheorems.specs.PlanRefusals.{childKinds, afterChildren, rowKinds, afterRows, factKinds, factLinesIn, treeKinds, planIn, afterTree, planKinds, planNumbers, planSheetIn, planSettingsFit, planFactsFit, OutOfRange, Unfit, PlanTurned}
+use Rattle.plantheorems.specs.PlanRefusals.{factKinds, factLinesIn, treeKinds, planIn, afterTree, planKinds, planNumbers, planSheetIn, planSettingsFit, planFactsFit, PlanTurned}
 use Rattle.plantheorems.proofs.RunTurns.{run-in-turn, one-in-turn, with-turn}
 use Rattle.plantheorems.proofs.FactsRead.{factLinesOf}
 

@@ -1,35 +1,29 @@
 -- Reading and writing D sheets are inverse, and a sheet is read exactly from the text of a legal one.
 -- Assumes nothing.
-use mathlib.Core.Path.{_≡_, refl, sym, ap, subst, _∙_}
+use mathlib.Core.Path.{_≡_, sym, ap, subst, _∙_}
 use mathlib.Core.Logic.{_↔_}
-use Prim.Native.Nat.{ℕ, _≤_}
+use Prim.Native.Nat.{ℕ}
 use native.Mathlib.Omega.{arith}
 use mathlib.Core.List.{List, _++_}
-use lib.ListN.{length, length-map}
+use lib.ListN.{length-map}
 use Rattle.text.specs.Text.{Field, parts}
 use Rattle.text.specs.Lines.{firstOf}
 use Rattle.exchange.specs.Trees.{Plan}
-use Rattle.exchange.specs.declared.settings.Settings.{Settings}
 use Rattle.exchange.specs.Facts.{Facts}
 use Rattle.exchange.specs.Settings.{settingsFit}
 use Rattle.exchange.specs.Fit.{factsFit}
 use Rattle.exchange.specs.Sizes.{lines}
-use Rattle.sheet.specs.Lines.{mostBytes}
-use Rattle.sheet.specs.KeyLines.{values}
 use Rattle.sheet.specs.KeySheets.{sheet}
-use Rattle.sheet.proofs.InTurn.{Fine}
 use Rattle.sheet.proofs.LegalRows.{values-numbers}
-use Rattle.plansheet.specs.PlanLines.{mostLines}
-use Rattle.plansheet.specs.PlanSheets.{PlanSheet, FactLines, planOf, childCount, settingsOf, factsOf, planSheet, judgedPlan, readPlan}
+use Rattle.plansheet.specs.PlanSheets.{PlanSheet, FactLines, planOf, childCount, factsOf, planSheet, judgedPlan, readPlan}
 use Rattle.plansheet.specs.PlanTexts.{numberFields, settingsNumbers, treeRows, nodeNumbers, childFields, factFields, linesText, factsText, planText}
-use Rattle.sheet.specs.KeyAnswers.{numbersLine}
 use Rattle.text.specs.Write.{lineText}
-use Rattle.plantheorems.specs.Everywhere.{ids, placesFrom}
+use Rattle.plantheorems.specs.Everywhere.{placesFrom}
 use Rattle.plantheorems.specs.LegalPlans.{LegalFacts, LegalPlan}
 use Rattle.plantheorems.proofs.TreeText.{plan-back, whole-legal}
 use Rattle.plantheorems.proofs.FactsRead.{FineFacts, linesOf}
 use Rattle.plantheorems.proofs.LineValues.{settings-again, node-again, children-again, rows-again, masks-again, settings-legal, node-legal, children-legal, rows-legal, masks-small, masks-count, settings-fit, settings-fine, node-fine, children-fine, rows-fine, masks-fine, children-back, rows-back}
-use Rattle.plantheorems.proofs.PlanAccepted.{Accepted, sheetLines, accepted, lines-read}
+use Rattle.plantheorems.proofs.PlanAccepted.{accepted, lines-read}
 
 -- ---- what was read is written as it stood
 

@@ -1,17 +1,15 @@
 -- What was read is within the sizes: numbers up to 65535, limits up to 4294967295, eight children, 256 lines.
 -- Assumes nothing.
-use mathlib.Core.Path.{_≡_, refl, sym, ap, subst, _∙_}
+use mathlib.Core.Path.{_≡_, sym, ap, subst, _∙_}
 use Prim.Native.Nat.{ℕ, zero, suc, _+_, _≤_}
 use native.Mathlib.Omega.{arith}
-use mathlib.Core.List.{List, [], _∷_, _++_}
+use mathlib.Core.List.{List}
 use mathlib.Core.Option.{Option, none, some}
-use Rattle.exchange.specs.Trees.{node, none as nothing, _∷ᶠ_, trees, Operator, Plan, Plans}
+use Rattle.exchange.specs.Trees.{node, none as nothing, _∷ᶠ_, Operator, Plan, Plans}
 use Rattle.exchange.specs.Facts.{ChildFacts, Row}
 use Rattle.exchange.specs.Sizes.{lines}
-use Rattle.exchange.specs.Skeleton.{below}
 use Rattle.exchange.specs.Partitioning.{workedOf}
 use Rattle.sheet.specs.KeySheets.{sheet}
-use Rattle.sheet.specs.LegalSheets.{Small}
 use Rattle.sheet.specs.Sizes.{Each}
 use Rattle.sheet.proofs.Entries.{each-weaker}
 use Rattle.plansheet.specs.PlanLines.{twoTo}

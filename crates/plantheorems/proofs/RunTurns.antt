@@ -1,8 +1,7 @@
 -- A run of any kind is a line of each of its kinds in turn, and one run after the other is the lines of both in turn.
 -- Assumes nothing.
-use mathlib.Core.Path.{_≡_, refl, sym, ap, _∙_}
+use mathlib.Core.Path.{_≡_, refl, sym, _∙_}
 use Prim.Native.Nat.{ℕ, zero, suc}
-use native.Mathlib.Omega.{arith}
 use mathlib.Core.List.{List, [], _∷_, _++_, tail}
 use mathlib.Core.Bool.{Bool, true, false, cond}
 use mathlib.Core.Option.{Option, none, some}
@@ -10,8 +9,8 @@ use lib.Dec.{eqb}
 use lib.ListN.{length, drop}
 use Rattle.text.specs.Text.{Field}
 use Rattle.text.specs.Lines.{firstOf, nextOf}
-use Rattle.sheet.specs.Lines.{Kind, Run, read, refused, before, lineNumber, fieldsOf, rowsOf, atEnd}
-use Rattle.sheet.specs.KeySheets.{Reading, sheet, turned, ended}
+use Rattle.sheet.specs.Lines.{Kind, Run, read, refused, before, lineNumber, fieldsOf, rowsOf}
+use Rattle.sheet.specs.KeySheets.{Reading, ended}
 use Rattle.sheet.specs.SheetLines.{inTurn}
 use Rattle.sheet.specs.Refusals.{lineRows}
 use Rattle.sheet.proofs.Chained.{ended-before}

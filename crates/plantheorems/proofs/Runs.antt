@@ -5,15 +5,14 @@ use Prim.Native.Nat.{ℕ, suc, _+_, _≤_}
 use native.Mathlib.Omega.{arith}
 use native.Mathlib.Nat.{add-zero}
 use mathlib.Core.List.{List, [], _∷_, _++_, append-assoc, tail}
-use mathlib.Core.Bool.{Bool, true, false, cond}
+use mathlib.Core.Bool.{true, false}
 use mathlib.Core.Option.{Option, none, some}
 use lib.ListN.{length, drop, length-append}
 use Rattle.text.specs.Text.{Field, parts, after}
 use Rattle.text.specs.Lines.{firstOf, nextOf}
-use Rattle.text.specs.Bounds.{widest, allowsAll}
 use Rattle.text.specs.Write.{fieldsText, lineText}
 use Rattle.text.proofs.RoundTrip.{first-back}
-use Rattle.sheet.specs.Lines.{Kind, Run, read, refused, before, mostBytes, lineNumber, rowsOf}
+use Rattle.sheet.specs.Lines.{Kind, read, before, mostBytes, lineNumber, rowsOf}
 use Rattle.sheet.proofs.InTurn.{readable, Counted, Fine}
 use Rattle.sheet.proofs.RowsAgain.{fine-wide, not-turned, lines-of, next-of, text-of}
 use Rattle.plansheet.specs.PlanTexts.{linesText}

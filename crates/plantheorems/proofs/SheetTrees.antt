@@ -1,7 +1,7 @@
 -- What demand 3's theorems ask of a tree, every sheet that was read has: ids from 1, one child under a merge, a coalesce and a repartition.
 -- Assumes nothing.
-use mathlib.Core.Path.{_≡_, refl, sym, ap, subst, _∙_}
-use Prim.Native.Nat.{ℕ, zero, suc, _+_, _≤_}
+use mathlib.Core.Path.{_≡_, refl, sym, subst}
+use Prim.Native.Nat.{ℕ, zero, suc, _≤_}
 use native.Mathlib.Omega.{arith}
 use mathlib.Core.List.{List, [], _∷_}
 use mathlib.Core.Bool.{Bool, true, false, cond, _&&_, _||_}
@@ -12,14 +12,14 @@ use Rattle.exchange.specs.Trees.{node, none, _∷ᶠ_, trees, root, Operator, P
 use Rattle.exchange.specs.Facts.{ChildFacts}
 use Rattle.exchange.specs.Sizes.{lines}
 use Rattle.exchange.specs.Skeleton.{below, isAddedSort}
-use Rattle.exchange.specs.Limits.{OwnsLimit, Owned, Owneds, isDistChanging, OneBelow, OneBelows}
+use Rattle.exchange.specs.Limits.{Owned, Owneds, isDistChanging, OneBelow, OneBelows}
 use Rattle.exchange.specs.States.{childrenFrom}
 use Rattle.exchange.specs.Partitioning.{workedOf, childrenOf, noneAdded}
 use Rattle.sheet.specs.KeySheets.{sheet}
 use Rattle.sheet.specs.Sizes.{Each}
 use Rattle.plansheet.specs.PlanSheets.{PlanSheet, readPlan}
 use Rattle.plantheorems.specs.Everywhere.{Every, Everys, placesFrom}
-use Rattle.plantheorems.specs.LegalPlans.{suits, LegalOperator, LegalPlan}
+use Rattle.plantheorems.specs.LegalPlans.{LegalOperator, LegalPlan}
 use Rattle.plantheorems.proofs.TreeRows.{every-worked-on}
 use Rattle.plantheorems.proofs.PlanSizes.{every-id}
 use Rattle.plantheorems.proofs.PlanRoundTrip.{plan-read-legal}

@@ -1,9 +1,9 @@
 -- Tree lines that were read are those of exactly one tree, whose operators are legal: at most 256, each with at most eight children.
 -- Assumes nothing.
 use mathlib.Core.Path.{_≡_, refl, sym, ap, _∙_}
-use Prim.Native.Nat.{ℕ, zero, suc, _+_, _≤_}
+use Prim.Native.Nat.{ℕ, suc, _≤_}
 use native.Mathlib.Omega.{arith}
-use mathlib.Core.List.{List, [], _∷_, _++_, append-nil, map}
+use mathlib.Core.List.{List, [], _∷_, _++_, map}
 use mathlib.Core.Bool.{Bool, true, false, cond}
 use mathlib.Core.Option.{Option}
 use lib.ListN.{length}
@@ -14,13 +14,13 @@ use Rattle.exchange.specs.Rows.{flatten}
 use Rattle.exchange.specs.Sizes.{lines}
 use Rattle.exchange.specs.Skeleton.{below}
 use Rattle.exchange.specs.Operators.{track}
-use Rattle.exchange.specs.Children.{isRemoved, updateEach, updateChildren, removeDistChangingOperators, removeAbove}
+use Rattle.exchange.specs.Children.{isRemoved, updateEach, removeDistChangingOperators, removeAbove}
 use Rattle.exchange.specs.Partitioning.{workedOf}
 use Rattle.exchange.proofs.Grown.{one-tree as same-tree}
-use Rattle.sheet.specs.Lines.{Run, read, rowsOf}
+use Rattle.sheet.specs.Lines.{read, rowsOf}
 use Rattle.sheet.specs.Sizes.{Each}
 use Rattle.plansheet.specs.PlanLines.{treeShape, childRules, mostLines, planLine}
-use Rattle.plansheet.specs.PlanSheets.{operatorRow, operatorRows, planOf, childCount}
+use Rattle.plansheet.specs.PlanSheets.{operatorRows, planOf, childCount}
 use Rattle.plansheet.specs.PlanTexts.{rowFields, treeRows}
 use Rattle.plansheet.proofs.OneTree.{one-tree, few-lines}
 use Rattle.plantheorems.specs.Everywhere.{Every, ids, placesFrom}

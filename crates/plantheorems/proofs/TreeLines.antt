@@ -1,31 +1,30 @@
 -- A T line and its operator: a fine line is that of a legal operator and is written as it stood; a legal operator's line is fine.
 -- Assumes nothing.
-use mathlib.Core.Path.{_≡_, refl, sym, ap, _∙_}
-use Prim.Native.Nat.{ℕ, zero, suc, _+_, _≤_, _<_}
+use mathlib.Core.Path.{_≡_, refl, sym, _∙_}
+use Prim.Native.Nat.{ℕ, zero, suc, _≤_, _<_}
 use native.Mathlib.Omega.{arith}
 use mathlib.Core.List.{List, [], _∷_}
-use mathlib.Core.Bool.{Bool, true, false, cond, not, _&&_, _||_}
+use mathlib.Core.Bool.{Bool, true, false, cond, _&&_, _||_}
 use mathlib.Core.Option.{Option, none, some}
 use lib.Dec.{eqb, ltb, leb}
 use lib.ListN.{length, getD}
-use borrow.Author.Tests.{eqb-true, eqb-false, eq-eqb, ne-eqb, leb-true, leb-false, le-leb, lt-leb, le-ltb, not-false}
+use borrow.Author.Tests.{eqb-true, eqb-false, leb-true, leb-false, le-leb, lt-leb, le-ltb, not-false}
 use Rattle.text.specs.Text.{Field, number, empty, malformed, stateOf, valueOf}
 use Rattle.text.specs.Bounds.{Bound, allows, fits}
 use Rattle.text.proofs.Exact.{both}
 use Rattle.text.proofs.Limits.{fits-length}
 use Rattle.exchange.specs.Trees.{Operator}
 use Rattle.exchange.specs.Operators.{isPresent}
-use Rattle.exchange.specs.Rows.{unpacked, childrenOf, limitMark, limitNumber, limitOf, nodeOf, operatorOf, rowOf}
+use Rattle.exchange.specs.Rows.{limitMark, limitNumber, limitOf, rowOf}
 use Rattle.sheet.specs.Lines.{plain}
 use Rattle.sheet.specs.KeyLines.{at, values}
-use Rattle.sheet.specs.LegalSheets.{Small}
 use Rattle.sheet.proofs.InTurn.{Fine}
 use Rattle.sheet.proofs.KeyRows.{either-false}
 use Rattle.sheet.proofs.Numbers.{spelled, spelled-out}
 use Rattle.plansheet.specs.Shapes.{overAny, limitAt, kindAt, childrenAt, exchangeLimited, ruleFits, mostChildren}
 use Rattle.plansheet.specs.PlanLines.{treeShape, childRules, mostLines, planLine, limit}
 use Rattle.plansheet.specs.PlanSheets.{operatorRow}
-use Rattle.plansheet.specs.PlanTexts.{limitField, operatorFields, rowFields}
+use Rattle.plansheet.specs.PlanTexts.{limitField, rowFields}
 use Rattle.plansheet.proofs.Shaped.{fit-fixed}
 use Rattle.plantheorems.specs.RunKinds.{placed}
 use Rattle.plantheorems.specs.LegalPlans.{LongLimit, suits, LegalOperator}

@@ -1,24 +1,21 @@
 -- What holds of every operator of a tree holds of each of its rows, and the other way; ids and lines by the rows; the worked node's children.
 -- Assumes nothing.
 use mathlib.Core.Path.{_≡_, refl, sym, ap, subst, _∙_}
-use Prim.Native.Nat.{ℕ, zero, suc, _+_, _≤_}
+use Prim.Native.Nat.{ℕ, suc}
 use native.Mathlib.Omega.{arith}
-use mathlib.Core.List.{List, [], _∷_, _++_, append-nil, map}
+use mathlib.Core.List.{List, [], _∷_, _++_, map}
 use mathlib.Core.Bool.{Bool, true, false, cond}
 use lib.ListN.{length, getD, length-append}
 use Rattle.exchange.specs.Trees.{node, none, _∷ᶠ_, trees, Operator, Plan, Plans}
-use Rattle.exchange.specs.Rows.{unpacked, childrenOf, operatorOf, rowOf, flatten, flattens, grow}
+use Rattle.exchange.specs.Rows.{unpacked, childrenOf, operatorOf, rowOf, flatten, flattens}
 use Rattle.exchange.specs.Sizes.{lines, liness}
 use Rattle.exchange.specs.Skeleton.{below}
 use Rattle.exchange.specs.Operators.{track}
 use Rattle.exchange.specs.Children.{isRemoved, updateChild, updateEach, updateChildren, removeDistChangingOperators, removeAbove}
 use Rattle.exchange.specs.Partitioning.{workedOf}
 use Rattle.exchange.proofs.TreeRows.{flatten-node, flattens-none, flattens-cons, row-operator, row-children}
-use Rattle.exchange.proofs.Grown.{grow-flatten}
 use Rattle.sheet.specs.Sizes.{Each}
-use Rattle.sheet.proofs.Entries.{each-append}
-use Rattle.plansheet.specs.PlanSheets.{firstPlan, planOf, beneath, childCount, operatorRows}
-use Rattle.plantheorems.specs.Everywhere.{Every, Everys, ids, idss, placesFrom}
+use Rattle.plantheorems.specs.Everywhere.{Every, Everys, ids, idss}
 
 -- ---- each of two lists
 

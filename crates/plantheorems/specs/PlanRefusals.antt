@@ -6,7 +6,7 @@ use Prim.Native.Nat.{ℕ}
 use mathlib.Core.List.{List, [], _∷_, _++_}
 use mathlib.Core.Bool.{Bool, true, false}
 use lib.ListN.{length, drop}
-use Rattle.text.specs.Text.{Field, parts}
+use Rattle.text.specs.Text.{parts}
 use Rattle.text.specs.Lines.{firstOf}
 use Rattle.exchange.specs.Trees.{Plan}
 use Rattle.exchange.specs.Settings.{settingsFit}
