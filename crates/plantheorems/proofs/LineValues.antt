@@ -72,11 +72,11 @@ settings-legal d f e =
     let code = fine-code settingsShape d f in
     let value = fine-value settingsShape d f in
     record {
-      least = leb-true leastTarget (getD ns 0 0) (p .0);
-      target = leb-true (getD ns 0 0) mostTarget (q .0);
+      leastTarget = leb-true leastTarget (getD ns 0 0) (p .0);
+      mostTarget = leb-true (getD ns 0 0) mostTarget (q .0);
       roundrobin = code 1 (omega arith);
       split = code 2 (omega arith);
-      some = leb-true leastBatch (getD ns 3 0) (q .1);
+      leastBatch = leb-true leastBatch (getD ns 3 0) (q .1);
       batch = value 3;
       estimates = code 4 (omega arith);
       subset = value 5;
@@ -155,11 +155,11 @@ masks-count n y f = length-map y valueOf ∙ fine-count (maskShape n) y f ∙ pl
 -- ---- fine lines of legal values
 
 pub settings-fit : (s : Settings) → LegalSettings s → settingsFit s ≡ true
-settings-fit s l = rw (le-leb leastTarget (s .target) (l .least), le-leb (s .target) mostTarget (l .target), le-leb leastBatch (s .batch) (l .some))
+settings-fit s l = rw (le-leb leastTarget (s .target) (l .leastTarget), le-leb (s .target) mostTarget (l .mostTarget), le-leb leastBatch (s .batch) (l .leastBatch))
 
 pub settings-fine : (s : Settings) → LegalSettings s → Fine settingsLine (numberFields (settingsNumbers s))
 settings-fine s l =
-    let a = l .target in
+    let a = l .mostTarget in
     let b = l .roundrobin in
     let c = l .split in
     let d = l .batch in

@@ -12,7 +12,7 @@ use Rattle.exchange.specs.Trees.{node, none, _∷ᶠ_, trees, root, Operator, P
 use Rattle.exchange.specs.Facts.{ChildFacts}
 use Rattle.exchange.specs.Sizes.{lines}
 use Rattle.exchange.specs.Skeleton.{below, isAddedSort}
-use Rattle.exchange.specs.Limits.{Owned, Owneds, isDistChanging, OneBelow, OneBelows}
+use Rattle.exchange.specs.Limits.{OwnsLimit, Owned, Owneds, isDistChanging, OneBelow, OneBelows}
 use Rattle.exchange.specs.States.{childrenFrom}
 use Rattle.exchange.specs.Partitioning.{workedOf, childrenOf, noneAdded}
 use Rattle.sheet.specs.KeySheets.{sheet}
@@ -20,7 +20,7 @@ use Rattle.sheet.specs.Sizes.{Each}
 use Rattle.plansheet.specs.PlanSheets.{PlanSheet, readPlan}
 use Rattle.plantheorems.specs.Everywhere.{Every, Everys, placesFrom}
 use Rattle.plantheorems.specs.LegalPlans.{LegalOperator, LegalPlan}
-use Rattle.plantheorems.proofs.TreeRows.{every-worked-on}
+use Rattle.plantheorems.proofs.TreeRows.{every-gives, every-worked-on}
 use Rattle.plantheorems.proofs.PlanSizes.{every-id}
 use Rattle.plantheorems.proofs.PlanRoundTrip.{plan-read-legal}
 
@@ -39,13 +39,11 @@ legal-placed x l = every-id (λ i. 1 ≤ i) (x .plan) (subst (Each (λ i. 1 ≤ 
 
 -- ---- whose limits they are
 
-mutual
-  owned : (t : Plan) → Every Placed t → Owned t
-  owned (node o ts) h = (λ e. ne-eqb (o .id) 0 (λ z. let p = h .0 in omega arith), owneds ts (h .1))
+owns : (o : Operator) → 1 ≤ o .id → OwnsLimit o
+owns o h e = ne-eqb (o .id) 0 (λ z. omega arith)
 
-  owneds : (ts : Plans) → Everys Placed ts → Owneds ts
-  owneds none h = tt
-  owneds (t ∷ᶠ ts) h = (owned t (h .0), owneds ts (h .1))
+owned : (t : Plan) → Every Placed t → Owned t
+owned = every-gives Placed Owned Owneds (λ o ts h k. (owns o h, k)) tt (λ t ts h k. (h, k))
 
 -- ---- one child
 
@@ -63,13 +61,8 @@ suits-one o n l e =
     let p = both (leb 1 (o .kind)) (leb (o .kind) 4) e in
     one·at (o .kind) n (eqb (o .kind) 5) (eqb (o .kind) 6) (eqb (o .kind) 0) (eqb (o .kind) 9) refl refl refl refl (leb-true 1 (o .kind) (p .0)) (leb-true (o .kind) 4 (p .1)) (l .children)
 
-mutual
-  one-below : (t : Plan) → Every LegalOperator t → OneBelow t
-  one-below (node o ts) h = (suits-one o (trees ts) (h .0), one-belows ts (h .1))
-
-  one-belows : (ts : Plans) → Everys LegalOperator ts → OneBelows ts
-  one-belows none h = tt
-  one-belows (t ∷ᶠ ts) h = (one-below t (h .0), one-belows ts (h .1))
+one-below : (t : Plan) → Every LegalOperator t → OneBelow t
+one-below = every-gives LegalOperator OneBelow OneBelows (λ o ts h k. (suits-one o (trees ts) h, k)) tt (λ t ts h k. (h, k))
 
 -- ---- no sort on the sheet counts as one that was put in
 

@@ -91,6 +91,7 @@ pub record OneTree (rs : List (List Field)) : Type 0 where
   pub numbered : ids (planOf rs) ≡ placesFrom 1 (length rs)
   pub children : Every (λ o n. n ≤ 8) (planOf rs)
   pub worked : trees (below (workedOf (planOf rs))) ≤ 8
+  pub asked : childCount (planOf rs) ≤ 8
   pub again : treeRows (planOf rs) ≡ rs
 
 pub tree-law :
@@ -103,6 +104,7 @@ tree-law line at s rs ms l p e =
     let flat : flatten t ≡ operatorRows 1 rs = one-tree treeShape childRules mostLines line at (parts 10 s) rs ms l p e in
     let all : Every LegalOperator t = every-operator LegalOperator t (rw flat (rows-legal x 1 0 rs legal 1)) in
     let eight : Every (λ o n. n ≤ 8) t = every-weaker LegalOperator (λ o n. n ≤ 8) (λ o n h. suits-few (o .kind) n (h .children)) t all in
+    let worked : trees (below (workedOf t)) ≤ 8 = root-children (λ n. n ≤ 8) (workedOf t) (every-worked-on (λ o n. n ≤ 8) (λ m o n h. h) t eight) in
     record {
       rows = sym flat;
       only = λ u h. same-tree u t [] [] (ap (λ (ys : List (List ℕ)). ys ++ []) (sym h ∙ sym flat));
@@ -111,6 +113,7 @@ tree-law line at s rs ms l p e =
       operators = all;
       numbered = ids-rows t ∙ ap (map idOf) flat ∙ rows-ids 1 rs;
       children = eight;
-      worked = root-children (λ n. n ≤ 8) (workedOf t) (every-worked-on (λ o n. n ≤ 8) (λ m o n h. h) t eight);
+      worked = worked;
+      asked = omega (arith, worked-same t);
       again = ap (map rowFields) flat ∙ rows-again x 1 0 rs legal 1;
     }

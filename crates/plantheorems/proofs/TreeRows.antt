@@ -60,6 +60,17 @@ module _ (P Q : Operator → ℕ → Type 0) (f : (o : Operator) (n : ℕ) → P
     every-weakers none h = tt
     every-weakers (t ∷ᶠ ts) h = (every-weaker t (h .0), every-weakers ts (h .1))
 
+-- a predicate that goes over trees and runs of trees, by what holds of every operator
+module _ (P : Operator → ℕ → Type 0) (S : Plan → Type 0) (Ss : Plans → Type 0)
+    (one : (o : Operator) (ts : Plans) → P o (trees ts) → Ss ts → S (node o ts)) (empty : Ss none) (more : (t : Plan) (ts : Plans) → S t → Ss ts → Ss (t ∷ᶠ ts)) where
+  mutual
+    pub every-gives : (t : Plan) → Every P t → S t
+    every-gives (node o ts) h = one o ts (h .0) (every-gives-all ts (h .1))
+
+    every-gives-all : (ts : Plans) → Everys P ts → Ss ts
+    every-gives-all none h = empty
+    every-gives-all (t ∷ᶠ ts) h = more t ts (every-gives t (h .0)) (every-gives-all ts (h .1))
+
 -- ---- lines and ids
 
 mutual

@@ -34,11 +34,11 @@ LongLimit (some l) = Long l
 
 -- "target 1..4096, batch from 1, subset and files numbers, else marks"
 pub record LegalSettings (s : Settings) : Type 0 where
-  pub least : 1 ≤ s .target
-  pub target : s .target ≤ 4096
+  pub leastTarget : 1 ≤ s .target
+  pub mostTarget : s .target ≤ 4096
   pub roundrobin : Mark (s .roundrobin)
   pub split : Mark (s .split)
-  pub some : 1 ≤ s .batch
+  pub leastBatch : 1 ≤ s .batch
   pub batch : Small (s .batch)
   pub estimates : Mark (s .estimates)
   pub subset : Small (s .subset)
@@ -63,6 +63,7 @@ pub record LegalOperator (o : Operator) (n : ℕ) : Type 0 where
   pub need : o .need ≤ 2
   pub children : suits (o .kind) n ≡ true
 
+-- a B line: marks
 pub record LegalNode (b : NodeFacts) : Type 0 where
   pub friendly : Mark (b .friendly)
   pub window : Mark (b .window)
@@ -79,6 +80,7 @@ pub record LegalChild (f : ChildFacts) : Type 0 where
   pub splits : Mark (f .splits)
   pub entries : f .entries ≤ 8
 
+-- an X row: numbers and marks; whether its child, form and count fit is asked of the whole sheet
 pub record LegalRow (x : Row) : Type 0 where
   pub child : Small (x .child)
   pub form : Small (x .form)
