@@ -1,0 +1,16 @@
+pub mod Runs
+pub mod TreeRows
+pub mod FieldFacts
+pub mod TreeLines
+pub mod TreeLaw
+pub mod TreeText
+pub mod PlanKinds
+pub mod FactsRead
+pub mod LineValues
+pub mod PlanAccepted
+pub mod PlanRoundTrip
+pub mod PlanSizes
+pub mod RunTurns
+pub mod PlanRefused
+pub mod SheetTrees
+pub mod PlanNumbers

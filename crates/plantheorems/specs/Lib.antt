@@ -1,0 +1,5 @@
+pub mod Everywhere
+pub mod LegalPlans
+pub mod PlanSizes
+pub mod RunKinds
+pub mod PlanRefusals

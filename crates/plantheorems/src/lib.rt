@@ -1,0 +1,1 @@
+// Theorems about the definitions of D sheets; there is no function here.
