@@ -14,3 +14,4 @@ pub mod RunTurns
 pub mod PlanRefused
 pub mod SheetTrees
 pub mod PlanNumbers
+pub mod PlanDecided

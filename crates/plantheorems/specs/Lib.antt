@@ -3,3 +3,4 @@ pub mod LegalPlans
 pub mod PlanSizes
 pub mod RunKinds
 pub mod PlanRefusals
+pub mod PlanDecisions
