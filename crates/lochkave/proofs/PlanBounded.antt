@@ -12,13 +12,15 @@ use borrow.Author.Tests.{eqb-true, ltb-false}
 use Rattle.text.specs.Text.{Field, parts}
 use Rattle.text.specs.Lines.{firstOf, nextOf}
 use Rattle.sheet.specs.Lines.{Kind, Run, read, refused, mostBytes, fieldsFit, tooManyEntries, lineNumber, before, fieldsOf, rowsOf, atEnd}
+use Rattle.sheet.specs.KeyLines.{values}
 use Rattle.sheet.specs.KeySheets.{Reading, sheet, turned, headOf}
 use Rattle.sheet.proofs.Bounded.{number-few}
 use Rattle.exchange.specs.Trees.{Plan}
+use Rattle.exchange.specs.declared.settings.Settings.{Settings}
 use Rattle.exchange.specs.Settings.{settingsFit}
 use Rattle.exchange.specs.Fit.{factsFit}
 use Rattle.plansheet.specs.PlanLines.{settingsLine, planLine, nodeLine, childLine, factLine, maskLine}
-use Rattle.plansheet.specs.PlanSheets.{PlanSheet, FactLines, planOf, childCount, withRows, readMasks, readChildren, readFacts, planSheet, withFacts, readPlan}
+use Rattle.plansheet.specs.PlanSheets.{PlanSheet, FactLines, settingsOf, planOf, childCount, withRows, readMasks, readChildren, readFacts, planSheet, withFacts, readPlan}
 
 -- ---- a line that is fine ends within the sheet's bytes
 
@@ -107,7 +109,7 @@ unfolding readFacts
 facts-few n line at ls h a =
     then-few (rowsOf nodeLine 1 0 line at ls) _ (run-within nodeLine 1 0 line at ls h a) (λ bs l p ms i j. children-few (headOf bs) n l p ms i j)
 
-with-few : (d : List Field) (t : Plan) (x : Reading FactLines) → Few x → Few (withFacts d t x)
+with-few : (d : Settings) (t : Plan) (x : Reading FactLines) → Few x → Few (withFacts d t x)
 with-few d t (turned n l) h = h
 with-few d t (sheet g) h =
     let x : PlanSheet = planSheet d t g in
@@ -118,7 +120,7 @@ unfolding readPlan
 plan-few s =
     then-few (rowsOf settingsLine 1 0 1 0 (parts 10 s)) _ (run-within settingsLine 1 0 1 0 (parts 10 s) (omega arith) (omega arith)) (λ ds l p ls i j.
     then-few (rowsOf planLine 1 0 l p ls) _ (run-within planLine 1 0 l p ls i j) (λ ts l′ p′ ls′ i′ j′.
-    with-few (headOf ds) (planOf ts) (readFacts (childCount (planOf ts)) l′ p′ ls′) (facts-few (childCount (planOf ts)) l′ p′ ls′ i′ j′)))
+    with-few (settingsOf (values (headOf ds))) (planOf ts) (readFacts (childCount (planOf ts)) l′ p′ ls′) (facts-few (childCount (planOf ts)) l′ p′ ls′ i′ j′)))
 
 pub plan-turned-few : (s : List ℕ) (n l : ℕ) → readPlan s ≡ turned n l → (n ≤ 8) × (l ≤ 65537)
 plan-turned-few s n l e = subst Few e (plan-few s)

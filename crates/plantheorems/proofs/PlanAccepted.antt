@@ -16,7 +16,8 @@ use Rattle.sheet.specs.Lines.{mostBytes, rowsOf}
 use Rattle.sheet.specs.KeySheets.{Reading, sheet, turned, headOf}
 use Rattle.sheet.proofs.InTurn.{Fine}
 use Rattle.plansheet.specs.PlanLines.{settingsShape, settingsLine, planLine}
-use Rattle.plansheet.specs.PlanSheets.{PlanSheet, FactLines, planOf, childCount, withRows, readFacts, planSheet, judgedPlan, withFacts, readPlan}
+use Rattle.sheet.specs.KeyLines.{values}
+use Rattle.plansheet.specs.PlanSheets.{PlanSheet, FactLines, planOf, childCount, withRows, readFacts, planSheet, judgedPlan, withFacts, readPlan, settingsOf}
 use Rattle.plansheet.specs.PlanTexts.{linesText}
 use Rattle.plantheorems.proofs.Runs.{Legal, Ran, run-written, run-read}
 use Rattle.plantheorems.proofs.PlanKinds.{settings-plain, tree-plain, fixed-each, fixed-count, one-row, first-each, one-text, one-read}
@@ -36,7 +37,7 @@ pub record Accepted (s : List ℕ) (x : PlanSheet) : Type 0 where
   pub facts : FineFacts (childCount (planOf tree)) lines
   pub text : s ≡ sheetLines head tree lines
   pub short : length s ≤ mostBytes
-  pub is : planSheet head (planOf tree) lines ≡ x
+  pub is : planSheet (settingsOf (values head)) (planOf tree) lines ≡ x
   pub settings : settingsFit (x .settings) ≡ true
   pub fit : factsFit (x .settings) (x .facts) (x .plan) ≡ true
 
@@ -50,16 +51,16 @@ made·at false b y x e = let z : _≡_ {A = ℕ} 0 1 = cc in absurd (omega arith
 record Made (d : List Field) (t : Plan) (r : Reading FactLines) (x : PlanSheet) : Type 0 where
   lines : FactLines
   was : r ≡ sheet lines
-  is : planSheet d t lines ≡ x
+  is : planSheet (settingsOf (values d)) t lines ≡ x
   settings : settingsFit (x .settings) ≡ true
   fit : factsFit (x .settings) (x .facts) (x .plan) ≡ true
 
-made : (d : List Field) (t : Plan) (r : Reading FactLines) (x : PlanSheet) → withFacts d t r ≡ sheet x → Made d t r x
+made : (d : List Field) (t : Plan) (r : Reading FactLines) (x : PlanSheet) → withFacts (settingsOf (values d)) t r ≡ sheet x → Made d t r x
 made d t (turned n l) x e = let z : _≡_ {A = ℕ} 0 1 = cc in absurd (omega arith)
 made d t (sheet g) x e =
-    let y : PlanSheet = planSheet d t g in
+    let y : PlanSheet = planSheet (settingsOf (values d)) t g in
     let p = made·at (settingsFit (y .settings)) (factsFit (y .settings) (y .facts) (y .plan)) y x e in
-    let h : planSheet d t g ≡ x = p .2 in
+    let h : planSheet (settingsOf (values d)) t g ≡ x = p .2 in
     record { lines = g; was = refl; is = h; settings = rw (← h) (p .0); fit = rw (← h) (p .1) }
 
 -- ---- the lines one run after the other
@@ -90,9 +91,9 @@ module _ (s : List ℕ) (x : PlanSheet) where
   unfolding readPlan
   accepted e =
       let w = went (rowsOf settingsLine 1 0 1 0 (parts 10 s)) (λ ds l p ls.
-      withRows (rowsOf planLine 1 0 l p ls) (λ ts l p ls. withFacts (headOf ds) (planOf ts) (readFacts (childCount (planOf ts)) l p ls))) x e in
+      withRows (rowsOf planLine 1 0 l p ls) (λ ts l p ls. withFacts (settingsOf (values (headOf ds))) (planOf ts) (readFacts (childCount (planOf ts)) l p ls))) x e in
       let r = run-written settingsLine settings-plain 1 0 1 0 s (w .rows) (w .lines) (w .line) (w .place) (w .was) in
-      let v = went (rowsOf planLine 1 0 (w .line) (w .place) (w .lines)) (λ ts l p ls. withFacts (headOf (w .rows)) (planOf ts) (readFacts (childCount (planOf ts)) l p ls)) x (w .on) in
+      let v = went (rowsOf planLine 1 0 (w .line) (w .place) (w .lines)) (λ ts l p ls. withFacts (settingsOf (values (headOf (w .rows)))) (planOf ts) (readFacts (childCount (planOf ts)) l p ls)) x (w .on) in
       let q = run-written planLine tree-plain 1 0 (w .line) (w .place) (r .rest) (v .rows) (v .lines) (v .line) (v .place) (rw (← r .lines) (v .was)) in
       let m = made (headOf (w .rows)) (planOf (v .rows)) (readFacts (childCount (planOf (v .rows))) (v .line) (v .place) (v .lines)) x (v .on) in
       let f = facts-read (childCount (planOf (v .rows))) (v .line) (v .place) (q .rest) (m .lines) (rw (← q .lines) (m .was)) in
@@ -103,7 +104,7 @@ module _ (s : List ℕ) (x : PlanSheet) where
 
 pub lines-read :
     (d : List Field) (ts : List (List Field)) (g : FactLines) → Fine settingsLine d → Legal planLine (firstOf 84 (parts 10 (linesOf g))) 1 0 ts → FineFacts (childCount (planOf ts)) g →
-    length (sheetLines d ts g) ≤ mostBytes → readPlan (sheetLines d ts g) ≡ judgedPlan (planSheet d (planOf ts) g)
+    length (sheetLines d ts g) ≤ mostBytes → readPlan (sheetLines d ts g) ≡ judgedPlan (planSheet (settingsOf (values d)) (planOf ts) g)
 unfolding readPlan
 lines-read d ts g fd legal fg b =
     let l₁ = length-append (lineText 68 d) (linesText 84 ts ++ linesOf g) in

@@ -17,7 +17,8 @@ use Rattle.sheet.specs.SheetLines.{inTurn}
 use Rattle.sheet.specs.Refusals.{lineRows, NoLine, FirstLine, TurnedBack}
 use Rattle.sheet.proofs.Refused.{judged, turn-judged, refused-exactly, accepted-exactly}
 use Rattle.plansheet.specs.PlanLines.{settingsShape, settingsLine, planLine, nodeShape, nodeLine, childLine, factLine, maskShape, maskLine}
-use Rattle.plansheet.specs.PlanSheets.{PlanSheet, FactLines, planOf, childCount, withRows, readMasks, readChildren, readFacts, planSheet, judgedPlan, withFacts, readPlan}
+use Rattle.sheet.specs.KeyLines.{values}
+use Rattle.plansheet.specs.PlanSheets.{PlanSheet, FactLines, planOf, childCount, withRows, readMasks, readChildren, readFacts, planSheet, judgedPlan, withFacts, readPlan, settingsOf}
 use Rattle.plantheorems.specs.RunKinds.{runKinds}
 use Rattle.plantheorems.specs.PlanRefusals.{factKinds, factLinesIn, treeKinds, planIn, afterTree, planKinds, planNumbers, planSheetIn, planSettingsFit, planFactsFit, PlanTurned}
 use Rattle.plantheorems.proofs.RunTurns.{run-in-turn, one-in-turn, with-turn}
@@ -65,11 +66,11 @@ module _ (n : ℕ) where
 
 -- ---- the sheet
 
-ended·at : (t : Bool) (d : List Field) (u : Plan) (g : FactLines) (l : ℕ) → withFacts d u (cond t (sheet g) (turned 1 l)) ≡ cond t (judgedPlan (planSheet d u g)) (turned 1 l)
+ended·at : (t : Bool) (d : List Field) (u : Plan) (g : FactLines) (l : ℕ) → withFacts (settingsOf (values d)) u (cond t (sheet g) (turned 1 l)) ≡ cond t (judgedPlan (planSheet (settingsOf (values d)) u g)) (turned 1 l)
 ended·at true d u g l = refl
 ended·at false d u g l = refl
 
-facts-ended : (d : List Field) (u : Plan) (g : FactLines) (r : Run) → withFacts d u (ended (λ rs. sheet g) r) ≡ ended (λ rs. judgedPlan (planSheet d u g)) r
+facts-ended : (d : List Field) (u : Plan) (g : FactLines) (r : Run) → withFacts (settingsOf (values d)) u (ended (λ rs. sheet g) r) ≡ ended (λ rs. judgedPlan (planSheet (settingsOf (values d)) u g)) r
 facts-ended d u g (refused n l) = refl
 facts-ended d u g (read rs ls l p) = ended·at (atEnd ls) d u g l
 
@@ -79,13 +80,13 @@ module _ (s : List ℕ) where
   plan-in-turn =
       let ls : List (List ℕ) = parts 10 s in
       let d : List Field = fieldsOf (firstOf 68 ls) in
-      let c : Reading PlanSheet = judgedPlan (planSheet d (planIn s) (factLinesIn (childCount (planIn s)) (afterTree s))) in
+      let c : Reading PlanSheet = judgedPlan (planSheet (settingsOf (values d)) (planIn s) (factLinesIn (childCount (planIn s)) (afterTree s))) in
       rw (one-in-turn settingsShape 1 0 ls)
       (with-turn c (settingsLine ∷ []) (treeKinds s ++ factKinds (childCount (planIn s)) (afterTree s))
-      (λ ds l p ls. withRows (rowsOf planLine 1 0 l p ls) (λ ts l p ls. withFacts (headOf ds) (planOf ts) (readFacts (childCount (planOf ts)) l p ls))) 1 0 ls
-      (λ l p. ap (λ (r : Run). withRows r (λ ts l p ls. withFacts d (planOf ts) (readFacts (childCount (planOf ts)) l p ls))) (run-in-turn planLine 1 0 l p (drop 1 ls))
-      ∙ with-turn c (treeKinds s) (factKinds (childCount (planIn s)) (afterTree s)) (λ ts l p ls. withFacts d (planOf ts) (readFacts (childCount (planOf ts)) l p ls)) l p (drop 1 ls)
-      (λ l p. ap (withFacts d (planIn s)) (facts-in-turn (childCount (planIn s)) l p (afterTree s))
+      (λ ds l p ls. withRows (rowsOf planLine 1 0 l p ls) (λ ts l p ls. withFacts (settingsOf (values (headOf ds))) (planOf ts) (readFacts (childCount (planOf ts)) l p ls))) 1 0 ls
+      (λ l p. ap (λ (r : Run). withRows r (λ ts l p ls. withFacts (settingsOf (values d)) (planOf ts) (readFacts (childCount (planOf ts)) l p ls))) (run-in-turn planLine 1 0 l p (drop 1 ls))
+      ∙ with-turn c (treeKinds s) (factKinds (childCount (planIn s)) (afterTree s)) (λ ts l p ls. withFacts (settingsOf (values d)) (planOf ts) (readFacts (childCount (planOf ts)) l p ls)) l p (drop 1 ls)
+      (λ l p. ap (withFacts (settingsOf (values d)) (planIn s)) (facts-in-turn (childCount (planIn s)) l p (afterTree s))
       ∙ facts-ended d (planIn s) (factLinesIn (childCount (planIn s)) (afterTree s)) (inTurn (factKinds (childCount (planIn s)) (afterTree s)) l p (afterTree s)))))
 
   plan-judged : readPlan s ≡ judged 1 (planNumbers s) (judgedPlan (planSheetIn s))

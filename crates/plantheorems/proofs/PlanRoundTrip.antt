@@ -15,7 +15,8 @@ use Rattle.exchange.specs.Fit.{factsFit}
 use Rattle.exchange.specs.Sizes.{lines}
 use Rattle.sheet.specs.KeySheets.{sheet}
 use Rattle.sheet.proofs.LegalRows.{values-numbers}
-use Rattle.plansheet.specs.PlanSheets.{PlanSheet, FactLines, planOf, childCount, factsOf, planSheet, judgedPlan, readPlan}
+use Rattle.sheet.specs.KeyLines.{values}
+use Rattle.plansheet.specs.PlanSheets.{PlanSheet, FactLines, planOf, childCount, factsOf, planSheet, judgedPlan, readPlan, settingsOf}
 use Rattle.plansheet.specs.PlanTexts.{numberFields, settingsNumbers, treeRows, nodeNumbers, childFields, factFields, linesText, factsText, planText}
 use Rattle.text.specs.Write.{lineText}
 use Rattle.plantheorems.specs.Everywhere.{placesFrom}
@@ -67,7 +68,7 @@ plan-read-again x l =
     let g : FactLines = linesFor (x .facts) in
     let t : planOf ts ≡ x .plan = plan-back (x .plan) (l .operators) (l .numbered) in
     let fine : FineFacts (childCount (planOf ts)) g = subst (λ (u : Plan). FineFacts (childCount u) g) (sym t) (facts-fine (childCount (x .plan)) (x .facts) (l .facts)) in
-    let is : planSheet d (planOf ts) g ≡ x = λ j. record { settings = x .settings; plan = t j; facts = facts-back (x .facts) j } in
+    let is : planSheet (settingsOf (values d)) (planOf ts) g ≡ x = λ j. record { settings = x .settings; plan = t j; facts = facts-back (x .facts) j } in
     lines-read d ts g (settings-fine (x .settings) (l .settings)) (whole-legal (firstOf 84 (parts 10 (linesOf g))) (x .plan) (l .operators) (l .few)) fine (l .bytes)
     ∙ ap judgedPlan is
     ∙ rw (settings-fit (x .settings) (l .settings), l .fit)
@@ -87,7 +88,7 @@ facts-legal n g f = record {
 pub plan-read-legal : (s : List ℕ) (x : PlanSheet) → readPlan s ≡ sheet x → LegalPlan x
 plan-read-legal s x e =
     let a = accepted s x e in
-    let y : PlanSheet = planSheet (a .head) (planOf (a .tree)) (a .lines) in
+    let y : PlanSheet = planSheet (settingsOf (values (a .head))) (planOf (a .tree)) (a .lines) in
     let h : y ≡ x = a .is in
     let t : planText y ≡ s = ap planText h ∙ plan-written-again s x e in
     let o = a .one in

@@ -14,7 +14,8 @@ use Rattle.exchange.specs.Fit.{factsFit}
 use Rattle.sheet.specs.Lines.{Kind, fieldsOf}
 use Rattle.sheet.specs.Refusals.{lineNumbers, lineRows, NoLine, FirstLine}
 use Rattle.plansheet.specs.PlanLines.{settingsLine, planLine, nodeLine, childLine, factLine, maskLine}
-use Rattle.plansheet.specs.PlanSheets.{PlanSheet, FactLines, planOf, childCount, planSheet}
+use Rattle.sheet.specs.KeyLines.{values}
+use Rattle.plansheet.specs.PlanSheets.{PlanSheet, FactLines, planOf, childCount, planSheet, settingsOf}
 use Rattle.plantheorems.specs.RunKinds.{runKinds}
 
 -- ---- the lines after the tree, of a worked node with n children: B, F for each child, X rows while they come, Y
@@ -66,7 +67,7 @@ module _ (s : List ℕ) where
   planNumbers = lineNumbers planKinds 0 (parts 10 s)
 
   unfoldable pub planSheetIn : PlanSheet
-  planSheetIn = planSheet (fieldsOf (firstOf 68 (parts 10 s))) planIn (factLinesIn (childCount planIn) afterTree)
+  planSheetIn = planSheet (settingsOf (values (fieldsOf (firstOf 68 (parts 10 s))))) planIn (factLinesIn (childCount planIn) afterTree)
 
   abbrev pub planSettingsFit : Bool
   planSettingsFit = settingsFit (planSheetIn .settings)
