@@ -57,14 +57,14 @@ leaves-refused o out n l r e f = rw e (f, refl)
 -- ---- by the first byte
 
 module _ (s out : List ℕ) where
-  module _ (k i : Outcome) where
+  module _ (k i d : Outcome) where
     abbrev By : Outcome
-    By = cond (eqb (getD s 0 0) 75) k (cond (eqb (getD s 0 0) 73) i (refused 1 1))
+    By = cond (eqb (getD s 0 0) 75) k (cond (eqb (getD s 0 0) 73) i (cond (eqb (getD s 0 0) 68) d (refused 1 1)))
 
     pub first-none : length s ≡ 0 → Leaves By out 4294967297 out
     first-none h = none s h
       where
-        none : (xs : List ℕ) → length xs ≡ 0 → Leaves (cond (eqb (getD xs 0 0) 75) k (cond (eqb (getD xs 0 0) 73) i (refused 1 1))) out 4294967297 out
+        none : (xs : List ℕ) → length xs ≡ 0 → Leaves (cond (eqb (getD xs 0 0) 75) k (cond (eqb (getD xs 0 0) 73) i (cond (eqb (getD xs 0 0) 68) d (refused 1 1)))) out 4294967297 out
         none [] h = (refl, refl)
         none (x ∷ xs) h = absurd (omega arith)
 
@@ -74,8 +74,11 @@ module _ (s out : List ℕ) where
     pub first-join : (n : ℕ) (out′ : List ℕ) → getD s 0 0 ≡ 73 → Leaves i out n out′ → Leaves By out n out′
     first-join n out′ e h = rw e h
 
-    pub first-other : (getD s 0 0 ≡ 75 → ⊥) → (getD s 0 0 ≡ 73 → ⊥) → Leaves By out 4294967297 out
-    first-other a b = rw (ne-eqb (getD s 0 0) 75 a, ne-eqb (getD s 0 0) 73 b) (refl, refl)
+    pub first-plan : (n : ℕ) (out′ : List ℕ) → getD s 0 0 ≡ 68 → Leaves d out n out′ → Leaves By out n out′
+    first-plan n out′ e h = rw e h
+
+    pub first-other : (getD s 0 0 ≡ 75 → ⊥) → (getD s 0 0 ≡ 73 → ⊥) → (getD s 0 0 ≡ 68 → ⊥) → Leaves By out 4294967297 out
+    first-other a b c = rw (ne-eqb (getD s 0 0) 75 a, ne-eqb (getD s 0 0) 73 b, ne-eqb (getD s 0 0) 68 c) (refl, refl)
 
 -- ---- K and I sheets
 

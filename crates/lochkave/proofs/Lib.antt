@@ -2,3 +2,5 @@ pub mod Entries
 pub mod PlanAnswered
 pub mod Marked
 pub mod PlanBounded
+pub mod PlanLent
+pub mod PlanEntries

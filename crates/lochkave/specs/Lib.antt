@@ -1,2 +1,3 @@
 pub mod Decision
 pub mod Entry
+pub mod PlanHeld

@@ -6,10 +6,13 @@ mod plan;
 ghost use mathlib.Core.Path.{_≡_};
 ghost use lib.ListN.{length};
 ghost use Rattle.sheet.specs.Outcomes.{answer, after};
-ghost use Rattle.lochkave.specs.Entry.{outcome, adjustOutcome, inputsOutcome, rewriteOutcome};
+ghost use Rattle.lochkave.specs.Entry.{outcome, adjustOutcome, inputsOutcome, distributionOutcome, rewriteOutcome};
 use crate::again::refusal;
+use crate::plan::answer_held;
 use answers::join::answer_join_sheet;
 use answers::key::answer_key_sheet;
+use plansheet::plan::Plan;
+use plansheet::plan::read_plan;
 use sheet::sheets::Sheet;
 use sheet::sheets::read_join_sheet;
 use sheet::sheets::read_key_sheet;
@@ -47,6 +50,57 @@ pub extern "C" fn lochkave_reorder_join_keys_to_inputs(sheet: &[u8], out: &mut [
     answer_join_sheet(&lists, &counts, &mut rows, &mut v, out)
 }
 
+// Decides a D sheet.
+#[no_mangle]
+pub extern "C" fn lochkave_ensure_distribution(sheet: &[u8], out: &mut [u8]) -> u64
+    ensures result { λ r. ⌜ r ≡ answer (distributionOutcome (now (sheet .entry)) (length (now (out .entry)))) ⌝ }
+    ensures bytes { λ _. ⌜ now (out .exit) ≡ after (distributionOutcome (now (sheet .entry)) (length (now (out .entry)))) (now (out .entry)) ⌝ }
+{
+    let mut fields = [[0u64; 2]; 256];
+    let mut head = [0u64; 9];
+    let mut rows = [[0u64; 11]; 256];
+    let mut node = [0u64; 4];
+    let mut facts = [[0u64; 7]; 8];
+    let mut xs = [[0u64; 13]; 128];
+    let mut masks = [0u64; 256];
+    let mut index = [0u64; 129];
+    let p = read_plan(
+        sheet,
+        &mut fields,
+        &mut head,
+        &mut rows,
+        &mut node,
+        &mut facts,
+        &mut xs,
+        &mut masks,
+        &mut index,
+    );
+    match p {
+        Plan::Refused { number, line } => return refusal(number, line),
+        Plan::Held {
+            settings,
+            lines,
+            worked: _,
+            children,
+            rows: n,
+        } => {
+            return answer_held(
+                settings,
+                lines,
+                children,
+                n,
+                &mut rows,
+                node,
+                &facts,
+                &xs,
+                &masks,
+                &index,
+                out,
+            )
+        }
+    }
+}
+
 // Decides a sheet, whose first byte says its kind.
 #[no_mangle]
 pub extern "C" fn lochkave_decide(sheet: &[u8], out: &mut [u8]) -> u64
@@ -61,6 +115,9 @@ pub extern "C" fn lochkave_decide(sheet: &[u8], out: &mut [u8]) -> u64
     }
     if sheet[0] == 73 {
         return lochkave_reorder_join_keys_to_inputs(sheet, out);
+    }
+    if sheet[0] == 68 {
+        return lochkave_ensure_distribution(sheet, out);
     }
     4294967297
 }
@@ -79,6 +136,9 @@ pub extern "C" fn lochkave_rewrite(sheet: &[u8], out: &mut [u8]) -> u64
     }
     if sheet[0] == 73 {
         return crate::again::rewrite_join_sheet(sheet, out);
+    }
+    if sheet[0] == 68 {
+        return crate::again::rewrite_plan_sheet(sheet, out);
     }
     4294967297
 }

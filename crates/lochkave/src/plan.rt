@@ -7,6 +7,7 @@ use exchange::row::Row;
 use exchange::settings::Settings;
 use exchange::status::ChildRow;
 use plananswer::plan::write_plan;
+use plansheet::line::sets_of;
 ghost use mathlib.Core.Path.{_≡_};
 ghost use mathlib.Core.List.{List, _++_};
 ghost use Prim.Native.Nat.{ℕ, _+_, _*_, _≤_};
@@ -18,7 +19,9 @@ ghost use Rattle.exchange.specs.Ensure.{ensured};
 ghost use Rattle.ensure.specs.Outcomes.{factsBy};
 ghost use Rattle.ensure.specs.Lent.{Known, Sheet};
 ghost use Rattle.plananswer.specs.PlanTexts.{distributed};
+ghost use Rattle.plansheet.specs.PlanSheets.{PlanSheet};
 ghost use Rattle.lochkave.specs.Entry.{Gives};
+ghost use Rattle.lochkave.specs.PlanHeld.{Holds, Held};
 
 // Decides on the tree at the front of `src`, and writes the answer.
 fn answer_plan(
@@ -122,7 +125,7 @@ fn answer_many(
 }
 
 // Decides on the tree in `src` and writes the answer: rooms for few lines are cleared in less time.
-pub(crate) fn answer_tree(
+fn answer_tree(
     s: Settings,
     b: NodeRow,
     masks: &[u64],
@@ -142,4 +145,36 @@ pub(crate) fn answer_tree(
         return answer_few(s, b, masks, facts, index, rows, n, src, out);
     }
     answer_many(s, b, masks, facts, index, rows, n, src, out)
+}
+
+// Decides on the sheet that is held in the rooms, and writes the answer.
+pub(crate) fn answer_held(
+    settings: Settings,
+    lines: usize,
+    children: u64,
+    n: usize,
+    rows: &mut [Row],
+    node: NodeRow,
+    facts: &[ChildRow],
+    xs: &[FactRow],
+    masks: &[u64],
+    index: &[u64],
+    out: &mut [u8],
+) -> u64
+    requires { ⌜ Held settings lines children n (now rows) node (now facts) (now xs) (now masks) (now index) ⌝ }
+    ensures { λ r. ⌜ ((x : PlanSheet) → Holds x settings lines children n (now (rows .entry)) node (now (facts .entry)) (now (xs .entry)) (now (masks .entry)) (now (index .entry)) → Gives (within (length (now (out .entry))) (distributed (ensured (x .settings) (x .facts) (x .plan)))) r (now (out .entry)) (now (out .exit))) ⌝ }
+{
+    let k = children as usize;
+    let many = sets_of(children);
+    answer_tree(
+        settings,
+        node,
+        &masks[..many],
+        &facts[..k],
+        index,
+        xs,
+        n,
+        &mut rows[..lines],
+        out,
+    )
 }

@@ -35,7 +35,8 @@ refusal-requires : tie.Need-refusal-requires
 refusal-requires c κs =
     let a = c .before .before .before .before .before .before .before .before .before .before .before .before .args in
     let q = c .before .before .before .before .before .before .read-key-sheet in
-    key-turned-few (a .sheet .now) _ _ (was-turned (readKeySheet (a .sheet .now)) (q .result) _ _ (q .ensures .answer) (c .before .r .given .1))
+    let few = key-turned-few (a .sheet .now) _ _ (was-turned (readKeySheet (a .sheet .now)) (q .result) _ _ (q .ensures .answer) (c .before .r .given .1)) in
+    (omega (arith, few .0), omega (arith, few .1))
 
 returns : tie.Need-returns
 returns c =

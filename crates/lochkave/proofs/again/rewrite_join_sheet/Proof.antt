@@ -36,7 +36,8 @@ refusal-requires : tie.Need-refusal-requires
 refusal-requires c κs =
     let a = c .before .before .before .before .before .before .before .before .before .before .before .before .args in
     let q = c .before .before .before .before .before .before .read-join-sheet in
-    join-turned-few (a .sheet .now) _ _ (was-turned (readJoinSheet (a .sheet .now)) (q .result) _ _ (q .ensures .answer) (c .before .r .given .1))
+    let few = join-turned-few (a .sheet .now) _ _ (was-turned (readJoinSheet (a .sheet .now)) (q .result) _ _ (q .ensures .answer) (c .before .r .given .1)) in
+    (omega (arith, few .0), omega (arith, few .1))
 
 returns : tie.Need-returns
 returns c =
