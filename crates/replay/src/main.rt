@@ -78,6 +78,7 @@ fn ask(entry: u8, sheet: &[u8], room: &mut [u8]) -> u64 {
     match entry {
         b'k' => lochkave::lochkave_adjust_input_keys_ordering(sheet, room),
         b'i' => lochkave::lochkave_reorder_join_keys_to_inputs(sheet, room),
+        b'x' => lochkave::lochkave_ensure_distribution(sheet, room),
         b'w' => lochkave::lochkave_rewrite(sheet, room),
         _ => lochkave::lochkave_decide(sheet, room),
     }
