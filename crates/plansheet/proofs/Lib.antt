@@ -13,3 +13,5 @@ pub mod FitTrees
 pub mod Crowded
 pub mod PlanFitted
 pub mod PlanWhole
+pub mod PlanLinesAgain
+pub mod PlanAgain
