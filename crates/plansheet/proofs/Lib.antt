@@ -15,3 +15,5 @@ pub mod PlanFitted
 pub mod PlanWhole
 pub mod PlanLinesAgain
 pub mod PlanAgain
+pub mod LegalRuns
+pub mod PlanRead
