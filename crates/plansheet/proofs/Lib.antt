@@ -17,3 +17,4 @@ pub mod PlanLinesAgain
 pub mod PlanAgain
 pub mod LegalRuns
 pub mod PlanRead
+pub mod PlanLegal

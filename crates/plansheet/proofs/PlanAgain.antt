@@ -53,17 +53,17 @@ one·at letter [] h = absurd (omega arith)
 one·at letter (fs ∷ []) h = append-nil (lineText letter fs)
 one·at letter (fs ∷ gs ∷ rs) h = absurd (omega arith)
 
-first-of : (P : List Field → Type 0) (rs : List (List Field)) → length rs ≡ 1 → Each P rs → P (headOf rs)
+pub first-of : (P : List Field → Type 0) (rs : List (List Field)) → length rs ≡ 1 → Each P rs → P (headOf rs)
 first-of P [] h e = absurd (omega arith)
 first-of P (fs ∷ rs) h e = e .0
 
 -- ---- Y and the end
 
-end·at : {A : Type 0} (t : Bool) (a x : A) (l : ℕ) → cond t (sheet a) (turned 1 l) ≡ sheet x → (t ≡ true) × (a ≡ x)
+pub end·at : {A : Type 0} (t : Bool) (a x : A) (l : ℕ) → cond t (sheet a) (turned 1 l) ≡ sheet x → (t ≡ true) × (a ≡ x)
 end·at true a x l e = (refl, cc)
 end·at false a x l e = let z : _≡_ {A = ℕ} 0 1 = cc in absurd (omega arith)
 
-filled-plain : (n : ℕ) → filled (replicate n plain) ≡ true
+pub filled-plain : (n : ℕ) → filled (replicate n plain) ≡ true
 unfolding filled
 filled-plain zero = refl
 filled-plain (suc n) = filled-plain n
@@ -87,14 +87,14 @@ module _ (n line p : ℕ) (b : List Field) (fs xs : List (List Field)) (s : List
 
 -- ---- F and X
 
-children-fields : (rs : List (List Field)) → Each (λ fs. fits (childShape .heads) fs ≡ true) rs → childFields (childrenRows rs) ≡ rs
+pub children-fields : (rs : List (List Field)) → Each (λ fs. fits (childShape .heads) fs ≡ true) rs → childFields (childrenRows rs) ≡ rs
 unfolding filled
 children-fields [] h = refl
 children-fields (fs ∷ rs) h =
     let n : length (values fs) ≡ 7 = length-map fs valueOf ∙ fits-length (childShape .heads) fs (h .0) in
     λ i. (ap numberFields (child-again (values fs) n) ∙ fits-numbers (childShape .heads) fs refl (h .0)) i ∷ children-fields rs (h .1) i
 
-rows-fields : (rs : List (List Field)) → Each (λ fs. fits (factShape .heads) fs ≡ true) rs → factFields (factRows rs) ≡ rs
+pub rows-fields : (rs : List (List Field)) → Each (λ fs. fits (factShape .heads) fs ≡ true) rs → factFields (factRows rs) ≡ rs
 unfolding filled
 rows-fields [] h = refl
 rows-fields (fs ∷ rs) h =
@@ -134,12 +134,12 @@ module _ (n line p : ℕ) (s : List ℕ) (ls : List (List ℕ)) (is : ls ≡ par
 
 -- ---- the sheet
 
-record FactsIn (s : Settings) (t : Plan) (r : Reading FactLines) (x : PlanSheet) : Type 0 where
-  lines : FactLines
-  is : r ≡ sheet lines
-  made : planSheet s t lines ≡ x
+pub record FactsIn (s : Settings) (t : Plan) (r : Reading FactLines) (x : PlanSheet) : Type 0 where
+  pub lines : FactLines
+  pub is : r ≡ sheet lines
+  pub made : planSheet s t lines ≡ x
 
-facts·at : (s : Settings) (t : Plan) (r : Reading FactLines) (x : PlanSheet) → withFacts s t r ≡ sheet x → FactsIn s t r x
+pub facts·at : (s : Settings) (t : Plan) (r : Reading FactLines) (x : PlanSheet) → withFacts s t r ≡ sheet x → FactsIn s t r x
 facts·at s t (turned n l) x e = let z : _≡_ {A = ℕ} 0 1 = cc in absurd (omega arith)
 facts·at s t (sheet g) x e = record { lines = g; is = refl; made = judged-is s t g x e }
 
