@@ -2,11 +2,11 @@
 -- Assumes nothing.
 use mathlib.Core.Path.{_≡_, refl, sym, ap, _∙_}
 use mathlib.Core.List.{List, [], _∷_, _++_, tail, append-assoc}
-use mathlib.Core.Option.{Option, none, some}
-use mathlib.Core.Bool.{Bool, true, false, cond, _&&_}
-use Prim.Native.Nat.{ℕ, zero, suc, _+_, _*_, _≤_}
+use mathlib.Core.Option.{Option, some}
+use mathlib.Core.Bool.{true, false}
+use Prim.Native.Nat.{ℕ, suc, _+_, _*_, _≤_}
 use native.Mathlib.Omega.{arith}
-use lib.Dec.{eqb, ltb, leb}
+use lib.Dec.{leb}
 use lib.ListN.{length, drop, length-append, length-drop}
 use borrow.Author.Tests.{leb-true, le-leb, le-ltb}
 use Rattle.text.specs.Text.{Field, number, empty, malformed, most, parts}
@@ -17,7 +17,7 @@ use Rattle.text.proofs.Exact.{both}
 use Rattle.text.proofs.Limits.{fits-length}
 use Rattle.text.proofs.Lengths.{line-length}
 use Rattle.text.proofs.RoundTrip.{parts-line, first-back}
-use Rattle.sheet.specs.Lines.{Kind, Run, read, refused, before, mostBytes, mostEntries, fieldsFit, tooManyEntries, lineNumber, fieldsOf, rowsOf}
+use Rattle.sheet.specs.Lines.{Kind, read, before, mostBytes, mostEntries, tooManyEntries, lineNumber, rowsOf}
 use Rattle.sheet.proofs.InTurn.{readable}
 use Rattle.plansheet.specs.PlanTexts.{linesText}
 use Rattle.plansheet.specs.LegalPlans.{LegalLine}

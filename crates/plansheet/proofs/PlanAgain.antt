@@ -1,23 +1,19 @@
 -- Writing a D sheet that was read gives its bytes: each run is written as it stood, and nothing follows the last.
 -- Assumes nothing.
 use mathlib.Core.Path.{_≡_, refl, sym, ap, _∙_}
-use mathlib.Core.List.{List, [], _∷_, _++_, map, append-nil, append-assoc}
+use mathlib.Core.List.{List, [], _∷_, _++_, map, append-nil}
 use mathlib.Core.Bool.{Bool, true, false, cond}
 use Prim.Native.Nat.{ℕ, zero, suc, _+_}
 use native.Mathlib.Omega.{arith}
-use lib.ListN.{length, getD, length-map, replicate}
-use Rattle.text.specs.Text.{Field, number, parts, valueOf}
+use lib.ListN.{length, length-map, replicate}
+use Rattle.text.specs.Text.{Field, parts, valueOf}
 use Rattle.text.specs.Bounds.{fits}
 use Rattle.text.specs.Write.{lineText}
 use Rattle.text.proofs.Limits.{fits-length}
 use Rattle.exchange.specs.Trees.{Plan}
 use Rattle.exchange.specs.declared.settings.Settings.{Settings}
-use Rattle.exchange.specs.Settings.{settingsFit}
-use Rattle.exchange.specs.Facts.{Row, ChildFacts}
-use Rattle.exchange.specs.FactRows.{nodeFacts, childFacts, factRow}
-use Rattle.exchange.specs.Fit.{factsFit}
-use Rattle.exchange.specs.Rows.{flatten}
-use Rattle.sheet.specs.Lines.{Kind, Run, read, refused, plain, rowsOf, atEnd}
+use Rattle.exchange.specs.FactRows.{nodeFacts}
+use Rattle.sheet.specs.Lines.{Run, read, refused, plain, rowsOf, atEnd}
 use Rattle.sheet.specs.KeyLines.{values}
 use Rattle.sheet.specs.KeySheets.{Reading, sheet, turned, headOf}
 use Rattle.sheet.specs.KeyAnswers.{numbersLine}
@@ -25,12 +21,12 @@ use Rattle.sheet.specs.Sizes.{Each}
 use Rattle.sheet.proofs.Accepted.{nothing-follows}
 use Rattle.sheet.proofs.Numbers.{filled}
 use Rattle.plansheet.specs.PlanLines.{settingsShape, settingsLine, treeShape, childRules, mostLines, planLine, nodeShape, nodeLine, childShape, childLine, factShape, factLine, maskShape, maskLine, twoTo}
-use Rattle.plansheet.specs.PlanSheets.{PlanSheet, FactLines, settingsOf, planOf, childCount, childrenRows, factRows, factsOf, planSheet, judgedPlan, withFacts, withRows, readMasks, readChildren, readFacts, readPlan}
-use Rattle.plansheet.specs.PlanTexts.{linesText, numberFields, settingsNumbers, treeRows, rowFields, nodeNumbers, childNumbers, rowNumbers, childFields, factFields, factsText, planText}
+use Rattle.plansheet.specs.PlanSheets.{PlanSheet, FactLines, settingsOf, planOf, childCount, childrenRows, factRows, factsOf, planSheet, withFacts, withRows, readMasks, readChildren, readFacts, readPlan}
+use Rattle.plansheet.specs.PlanTexts.{linesText, numberFields, settingsNumbers, treeRows, rowFields, nodeNumbers, childFields, factFields, factsText, planText}
 use Rattle.plansheet.proofs.CountedRuns.{counted-long}
 use Rattle.plansheet.proofs.OneTree.{one-tree}
 use Rattle.plansheet.proofs.PlanWhole.{judged-is}
-use Rattle.plansheet.proofs.PlanLinesAgain.{Back, run-back, fits-numbers, settings-again, node-again, child-again, row-again, trees-again}
+use Rattle.plansheet.proofs.PlanLinesAgain.{run-back, fits-numbers, settings-again, node-again, child-again, row-again, trees-again}
 
 -- ---- what was read, run by run
 

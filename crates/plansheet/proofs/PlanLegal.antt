@@ -2,10 +2,10 @@
 -- Assumes nothing.
 use mathlib.Core.Path.{_≡_, refl, sym, ap, subst, _∙_}
 use mathlib.Core.Logic.{_↔_}
-use mathlib.Core.List.{List, [], _∷_, _++_, map, append-nil}
-use mathlib.Core.Option.{Option, none, some}
+use mathlib.Core.List.{List, [], _∷_, _++_, map}
+use mathlib.Core.Option.{none, some}
 use mathlib.Core.Bool.{Bool, true, false, cond, _||_}
-use Prim.Native.Nat.{ℕ, zero, suc, _+_, _≤_}
+use Prim.Native.Nat.{ℕ, _+_, _≤_}
 use native.Mathlib.Omega.{arith}
 use lib.Dec.{leb, ltb}
 use lib.ListN.{length, length-map, length-append, replicate}
@@ -21,7 +21,7 @@ use Rattle.exchange.specs.Settings.{settingsFit}
 use Rattle.exchange.specs.Fit.{factsFit}
 use Rattle.exchange.specs.FactRows.{nodeFacts}
 use Rattle.exchange.specs.Rows.{flatten}
-use Rattle.sheet.specs.Lines.{Kind, Run, read, plain, mostBytes, lineNumber, rowsOf, atEnd}
+use Rattle.sheet.specs.Lines.{Kind, read, plain, mostBytes, lineNumber, rowsOf, atEnd}
 use Rattle.sheet.specs.KeyLines.{values}
 use Rattle.sheet.specs.KeySheets.{sheet, turned, headOf}
 use Rattle.sheet.specs.Sizes.{Each}
@@ -30,16 +30,16 @@ use Rattle.sheet.proofs.Numbers.{filled}
 use Rattle.sheet.proofs.KeyRows.{either-false}
 use Rattle.plansheet.specs.Shapes.{overAny, childrenAt, mostChildren}
 use Rattle.plansheet.specs.PlanLines.{settingsShape, settingsLine, treeShape, childRules, mostLines, planLine, nodeShape, nodeLine, childShape, childLine, factShape, factLine, maskShape, maskLine, twoTo}
-use Rattle.plansheet.specs.PlanSheets.{PlanSheet, FactLines, settingsOf, operatorRows, planOf, childCount, childrenRows, factRows, factsOf, planSheet, judgedPlan, withFacts, readMasks, readChildren, readFacts, readPlan}
-use Rattle.plansheet.specs.PlanTexts.{linesText, numberFields, settingsNumbers, treeRows, rowFields, nodeNumbers, childFields, factFields, planText}
+use Rattle.plansheet.specs.PlanSheets.{PlanSheet, FactLines, settingsOf, operatorRows, planOf, childCount, factsOf, planSheet, withFacts, readMasks, readChildren, readFacts, readPlan}
+use Rattle.plansheet.specs.PlanTexts.{linesText, numberFields, settingsNumbers, treeRows, rowFields, nodeNumbers, planText}
 use Rattle.plansheet.specs.LegalPlans.{LegalLine, LegalPlanSheet}
 use Rattle.plansheet.proofs.RunCases.{by-lines}
 use Rattle.plansheet.proofs.Shaped.{fit-fixed}
 use Rattle.plansheet.proofs.FineLines.{fine-at}
 use Rattle.plansheet.proofs.CountedRuns.{counted-long}
 use Rattle.plansheet.proofs.OneTree.{one-tree, few-lines}
-use Rattle.plansheet.proofs.PlanLinesAgain.{Back, run-back, fits-numbers, settings-again, node-again, trees-again}
-use Rattle.plansheet.proofs.PlanAgain.{Went, went, end·at, first-of, children-fields, rows-fields, filled-plain, facts·at, plan-written-again}
+use Rattle.plansheet.proofs.PlanLinesAgain.{run-back, fits-numbers, settings-again, node-again, trees-again}
+use Rattle.plansheet.proofs.PlanAgain.{went, end·at, first-of, children-fields, rows-fields, filled-plain, facts·at, plan-written-again}
 use Rattle.plansheet.proofs.PlanRead.{plan-read-again}
 
 -- ---- a run's lines are legal, and it ends where its text does

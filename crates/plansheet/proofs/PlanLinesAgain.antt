@@ -2,10 +2,10 @@
 -- Assumes nothing.
 use mathlib.Core.Path.{_≡_, refl, sym, ap, _∙_}
 use mathlib.Core.List.{List, [], _∷_, _++_, map, tail, append-assoc}
-use mathlib.Core.Option.{Option, none, some}
-use mathlib.Core.Bool.{Bool, true, false, cond, not, _&&_}
+use mathlib.Core.Option.{some}
+use mathlib.Core.Bool.{true, false, cond, not}
 use lib.Dec.{eqb}
-use Prim.Native.Nat.{ℕ, zero, suc, _+_, _≤_}
+use Prim.Native.Nat.{ℕ, zero, suc, _+_}
 use native.Mathlib.Omega.{arith}
 use lib.ListN.{length, getD, drop}
 use borrow.Author.Tests.{not-true}
@@ -17,7 +17,7 @@ use Rattle.text.proofs.Exact.{both}
 use Rattle.text.proofs.Limits.{fits-well, fits-length}
 use Rattle.text.proofs.Places.{bridge, after-lines}
 use Rattle.text.proofs.WrittenBack.{line-again}
-use Rattle.sheet.specs.Lines.{Kind, Run, read, plain, lineNumber, rowsOf}
+use Rattle.sheet.specs.Lines.{Kind, read, plain, lineNumber, rowsOf}
 use Rattle.sheet.specs.KeyLines.{at, values}
 use Rattle.sheet.specs.Sizes.{Each}
 use Rattle.sheet.proofs.Numbers.{filled, spelled, spelled-out}

@@ -1,12 +1,12 @@
 -- A legal D sheet that is written is read as it was.
 -- Assumes nothing.
 use mathlib.Core.Path.{_≡_, refl, sym, ap, _∙_}
-use mathlib.Core.List.{List, [], _∷_, _++_, map, append-nil, append-assoc}
-use mathlib.Core.Option.{Option, none as nothing, some}
-use mathlib.Core.Bool.{Bool, true, false, cond, _&&_, _||_}
-use Prim.Native.Nat.{ℕ, zero, suc, _+_, _-_, _≤_, _<_}
+use mathlib.Core.List.{List, [], _∷_, _++_, map, append-nil}
+use mathlib.Core.Option.{Option, none as nothing}
+use mathlib.Core.Bool.{true, false, _||_}
+use Prim.Native.Nat.{ℕ, zero, suc, _+_, _-_, _≤_}
 use native.Mathlib.Omega.{arith}
-use lib.Dec.{eqb, leb, ltb}
+use lib.Dec.{leb, ltb}
 use lib.ListN.{length, length-append, length-map, replicate}
 use borrow.Author.Tests.{ne-eqb, lt-leb}
 use Rattle.text.specs.Text.{Field, parts, lineFields}
@@ -14,22 +14,20 @@ use Rattle.text.specs.Lines.{firstOf}
 use Rattle.text.specs.Write.{fieldsText, lineText}
 use Rattle.text.proofs.RoundTrip.{parts-line}
 use Rattle.exchange.specs.Trees.{node, none, _∷ᶠ_, _++ᶠ_, trees, Plan, Plans}
-use Rattle.exchange.specs.declared.settings.Settings.{Settings}
-use Rattle.exchange.specs.Facts.{Facts, ChildFacts, Row}
+use Rattle.exchange.specs.Facts.{ChildFacts, Row}
 use Rattle.exchange.specs.FactRows.{nodeFacts, childFacts, factRow}
 use Rattle.exchange.specs.Rows.{childrenOf, rowOf, flatten, flattens, grow}
 use Rattle.exchange.proofs.TreeRows.{first-row, flattens-none, flattens-one, row-children, trees-append}
 use Rattle.exchange.proofs.Grown.{grow-flatten}
-use Rattle.sheet.specs.Lines.{Kind, Run, read, plain, mostBytes, rowsOf, atEnd}
+use Rattle.sheet.specs.Lines.{read, plain, mostBytes, rowsOf}
 use Rattle.sheet.specs.KeyLines.{values}
-use Rattle.sheet.specs.KeySheets.{Reading, sheet, turned, headOf}
-use Rattle.sheet.specs.KeyAnswers.{numbersLine}
+use Rattle.sheet.specs.KeySheets.{sheet}
 use Rattle.sheet.specs.Sizes.{Each}
 use Rattle.sheet.proofs.InTurn.{readable}
 use Rattle.sheet.proofs.LegalRows.{values-numbers}
-use Rattle.plansheet.specs.Shapes.{Shape, overAny, isNone, fixedLine, comingLine, childrenAt, mostChildren}
+use Rattle.plansheet.specs.Shapes.{Shape, overAny, isNone, fixedLine, comingLine, mostChildren}
 use Rattle.plansheet.specs.PlanLines.{settingsShape, settingsLine, treeShape, mostLines, planLine, nodeShape, nodeLine, childShape, childLine, factShape, factLine, maskShape, maskLine, twoTo}
-use Rattle.plansheet.specs.PlanSheets.{PlanSheet, FactLines, settingsOf, operatorRows, firstPlan, planOf, childCount, childrenRows, factRows, factsOf, planSheet, judgedPlan, withFacts, withRows, readMasks, readChildren, readFacts, readPlan}
+use Rattle.plansheet.specs.PlanSheets.{PlanSheet, FactLines, settingsOf, operatorRows, firstPlan, planOf, childCount, childrenRows, factRows, planSheet, judgedPlan, readMasks, readChildren, readFacts, readPlan}
 use Rattle.plansheet.specs.PlanTexts.{linesText, numberFields, settingsNumbers, treeRows, rowFields, nodeNumbers, childNumbers, rowNumbers, childFields, factFields, factsText, planText}
 use Rattle.plansheet.specs.LegalPlans.{LegalLine, LegalPlanSheet}
 use Rattle.plansheet.proofs.LegalRuns.{Fixed, Legal, stop, more, run-read}

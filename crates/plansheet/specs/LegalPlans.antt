@@ -1,7 +1,7 @@
 -- D sheets within their bounds: no line is turned back wherever it stands, ids are the T lines' places, and settings and facts fit.
 -- Renders document 01, "Exchange sheet" and the rows with place Line and Sheet of its table.
 use mathlib.Core.Path.{_≡_}
-use Prim.Native.Nat.{ℕ, _≤_}
+use Prim.Native.Nat.{_≤_}
 use mathlib.Core.List.{List}
 use mathlib.Core.Bool.{true, false}
 use lib.ListN.{length}
