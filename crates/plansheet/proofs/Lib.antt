@@ -18,3 +18,4 @@ pub mod PlanAgain
 pub mod LegalRuns
 pub mod PlanRead
 pub mod PlanLegal
+pub mod PlanBounds
