@@ -4,24 +4,23 @@ use mathlib.Core.Path.{_≡_, refl, sym, ap, _∙_}
 use Prim.Native.Nat.{ℕ, zero, suc, _+_, _-_, _*_, _≤_, _<_}
 use native.Mathlib.Omega.{arith}
 use mathlib.Core.List.{List, [], _∷_, _++_, map}
-use mathlib.Core.Bool.{Bool, true, false, cond, not, _&&_, _||_}
+use mathlib.Core.Bool.{Bool, true, false, cond, _||_}
 use mathlib.Core.Option.{Option, none, some}
 use lib.Dec.{leb, ltb}
-use lib.ListN.{length, getD, take, drop, length-append, length-map, drop-of-length-le}
+use lib.ListN.{length, getD, take, drop, length-map, drop-of-length-le}
 use lib.Seq.{drop-cons}
 use borrow.Author.Tests.{ltb-false, leb-false}
 use Rattle.text.specs.Text.{Field, lineAt, line, lineFields, row, valueOf}
-use Rattle.text.specs.Bounds.{fits}
 use Rattle.text.specs.Read.{storedIn}
 use Rattle.text.proofs.Answers.{rows-held}
 use Rattle.text.proofs.Limits.{fits-length}
 use Rattle.sheet.specs.Lines.{Kind, mostBytes, fieldsFit, tooManyEntries, lineNumber}
 use Rattle.sheet.specs.KeyLines.{at, values}
 use Rattle.sheet.proofs.KeyRows.{either-false}
-use Rattle.plansheet.specs.Shapes.{Shape, overAny, isNone, treeLine, kindAt, childrenAt, mostChildren}
+use Rattle.plansheet.specs.Shapes.{Shape, overAny, isNone, treeLine, childrenAt, mostChildren}
 use Rattle.plansheet.specs.PlanLines.{twoTo}
 use Rattle.plansheet.specs.PlanSheets.{operatorRow, operatorRows}
-use Rattle.plansheet.specs.ReadRows.{boundOf, shapeOf, valuesFrom, numberRows}
+use Rattle.plansheet.specs.ReadRows.{boundOf, valuesFrom, numberRows}
 use Rattle.plansheet.proofs.Shaped.{fit-fixed, value-at}
 use Rattle.plansheet.proofs.Turns.{Made}
 

@@ -2,18 +2,18 @@
 -- Assumes nothing.
 use mathlib.Core.Path.{_≡_, refl, sym, ap, _∙_}
 use mathlib.Core.List.{List, [], _∷_, _++_, map, append-assoc}
-use mathlib.Core.Option.{Option, some, none as nothing}
-use mathlib.Core.Bool.{Bool, true, false, cond, not, _&&_, _||_}
+use mathlib.Core.Option.{some}
+use mathlib.Core.Bool.{Bool, true, false, cond, _&&_}
 use Prim.Native.Nat.{ℕ, zero, suc, _+_, _-_, _≤_, _<_}
 use native.Mathlib.Omega.{arith}
 use lib.Dec.{eqb, leb, ltb}
 use lib.ListN.{length, getD, take, drop, length-drop}
 use lib.Seq.{sets}
 use borrow.Author.Tests.{eqb-true, eqb-false, leb-true, leb-false, le-leb, lt-leb, lt-ltb, le-ltb}
-use Rattle.exchange.specs.Trees.{node, none, _∷ᶠ_, _++ᶠ_, trees, Operator, Plan, Plans}
+use Rattle.exchange.specs.Trees.{node, none, _∷ᶠ_, _++ᶠ_, trees, Operator, Plans}
 use Rattle.exchange.specs.declared.settings.Settings.{Settings}
 use Rattle.exchange.specs.declared.row.Node.{Node}
-use Rattle.exchange.specs.Facts.{Row, Facts, NodeFacts}
+use Rattle.exchange.specs.Facts.{NodeFacts}
 use Rattle.exchange.specs.FactRows.{childFacts, factRow}
 use Rattle.exchange.specs.Rows.{nodeAt, nodeOf, rowOf, unpacked, flatten, flattens}
 use Rattle.exchange.specs.States.{Child, childrenFrom}

@@ -14,7 +14,6 @@ use borrow.Author.Tests.{eq-eqb, ne-eqb, eqb-true, eqb-false, le-leb, lt-leb, le
 use Rattle.text.proofs.Exact.{both}
 use Rattle.exchange.specs.declared.fact.Fact.{Fact}
 use Rattle.exchange.specs.declared.fact.Fact.the-variants.{Row, Missing}
-use Rattle.exchange.specs.Facts.{Row as XRow}
 use Rattle.exchange.specs.FactRows.{factRow}
 use Rattle.exchange.specs.Found.{childOf, formNumber, later, rowFor, foundOf}
 use Rattle.exchange.specs.Fit.{withinBits, allWithinBits, isRepeated, noneRepeated}

@@ -1,18 +1,16 @@
 -- Tree lines that were read are the rows of exactly one tree: the one that they grow into.
 -- Assumes nothing.
 use mathlib.Core.Path.{_≡_, refl, sym, ap, _∙_}
-use mathlib.Core.List.{List, [], _∷_, _++_, append-nil}
-use mathlib.Core.Bool.{Bool, true, false, cond}
-use Prim.Native.Nat.{ℕ, zero, suc, _+_, _-_, _≤_, _<_}
+use mathlib.Core.List.{List, [], _∷_, _++_}
+use Prim.Native.Nat.{ℕ, zero, suc, _+_, _-_, _≤_}
 use native.Mathlib.Omega.{arith}
-use lib.Dec.{eqb}
 use lib.ListN.{length, getD}
 use borrow.Author.Tests.{eqb-true, eqb-false}
-use Rattle.text.specs.Text.{Field, number, empty, malformed, stateOf, valueOf}
-use Rattle.exchange.specs.Trees.{node, none, _∷ᶠ_, _++ᶠ_, trees, Plan, Plans}
+use Rattle.text.specs.Text.{Field, number, empty, malformed}
+use Rattle.exchange.specs.Trees.{none, _∷ᶠ_, _++ᶠ_, trees, Plans}
 use Rattle.exchange.specs.Rows.{unpacked, childrenOf, operatorOf, rowOf, flatten, flattens, firsts, others, grow}
-use Rattle.exchange.proofs.TreeRows.{flattens-none, flattens-one, flattens-append, first-row}
-use Rattle.sheet.specs.Lines.{Run, read, refused, rowsOf, lineNumber}
+use Rattle.exchange.proofs.TreeRows.{flattens-none, flattens-one, first-row}
+use Rattle.sheet.specs.Lines.{read, rowsOf}
 use Rattle.plansheet.specs.Shapes.{Shape, treeLine, limitAt, childrenAt, mostChildren}
 use Rattle.plansheet.specs.PlanSheets.{operatorRow, operatorRows, firstPlan, planOf}
 use Rattle.plansheet.proofs.RunCases.{by-lines}

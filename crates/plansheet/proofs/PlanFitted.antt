@@ -2,10 +2,10 @@
 -- Assumes nothing.
 use mathlib.Core.Path.{_≡_, refl, sym, ap, _∙_}
 use mathlib.Core.List.{List, [], _∷_, _++_, map}
-use mathlib.Core.Bool.{Bool, true, false, _&&_}
-use Prim.Native.Nat.{ℕ, zero, suc, _+_, _-_, _*_, _≤_, _<_}
+use mathlib.Core.Bool.{true, false}
+use Prim.Native.Nat.{ℕ, _+_, _-_, _≤_, _<_}
 use native.Mathlib.Omega.{arith}
-use lib.ListN.{length, getD, take, drop, length-map, length-drop}
+use lib.ListN.{length, take, drop, length-map, length-drop}
 use lib.Seq.{length-take-le}
 use Rattle.exchange.specs.Trees.{node, trees, Operator, Plan, Plans}
 use Rattle.exchange.specs.declared.settings.Settings.{Settings}
@@ -16,7 +16,7 @@ use Rattle.exchange.specs.Runs.{StandAll}
 use Rattle.exchange.specs.Worked.{removed}
 use Rattle.exchange.specs.Children.{removeDistChangingOperators}
 use Rattle.exchange.specs.Places.{placesOf}
-use Rattle.exchange.specs.Fit.{workedFits, factsFit, noneRepeated, allWithinBits}
+use Rattle.exchange.specs.Fit.{workedFits, factsFit}
 use Rattle.exchange.proofs.Stored.{past, first-at}
 use Rattle.exchange.proofs.TreeRows.{flatten-node, row-children}
 use Rattle.exchange.proofs.WorkedNode.{worked-at}
@@ -25,7 +25,6 @@ use Rattle.sheet.specs.KeyLines.{values}
 use Rattle.plansheet.specs.PlanLines.{twoTo}
 use Rattle.plansheet.specs.PlanSheets.{FactLines, childrenRows, factRows, factsOf, childCount, beneath}
 use Rattle.plansheet.specs.ReadRows.{numberRows}
-use Rattle.plansheet.specs.FitRows.{factRowsFit, rowsFitBy}
 use Rattle.plansheet.specs.PlanRooms.{PlanRooms}
 use Rattle.plansheet.proofs.FitTrees.{worked-fits, fit-all, places-many}
 use Rattle.plansheet.proofs.Crowded.{crowd-unfit}

@@ -1,23 +1,21 @@
 -- A D sheet by its parts: how the tree, the facts and the judgement make what is read, and what stands in the rooms.
 -- Assumes nothing.
 use mathlib.Core.Path.{_≡_, refl, sym, ap, _∙_}
-use mathlib.Core.List.{List, [], _∷_, _++_, map, append-nil}
-use mathlib.Core.Option.{Option, none, some}
+use mathlib.Core.List.{List, [], _∷_, _++_, append-nil}
 use mathlib.Core.Bool.{Bool, true, false, cond}
-use Prim.Native.Nat.{ℕ, zero, suc, _+_, _-_, _≤_, _<_}
+use Prim.Native.Nat.{ℕ, suc, _+_, _-_, _≤_, _<_}
 use native.Mathlib.Omega.{arith}
 use lib.Dec.{eqb}
 use lib.ListN.{length, getD, take, drop, length-map, List·getD-append}
-use lib.Seq.{sets, sets-eq, take-at, length-take-le, length-sets}
+use lib.Seq.{sets, sets-eq, take-at, length-sets}
 use Rattle.text.specs.Text.{Field, parts, valueOf}
 use Rattle.text.specs.Lines.{firstOf, nextOf}
 use Rattle.exchange.specs.Trees.{Plan}
 use Rattle.exchange.specs.declared.settings.Settings.{Settings}
-use Rattle.exchange.specs.declared.settings.Checked.{Checked}
 use Rattle.exchange.specs.declared.settings.Checked.the-variants.{Fine, OutOfRange}
 use Rattle.exchange.specs.Settings.{settingsFit, checked}
 use Rattle.exchange.specs.Facts.{Facts}
-use Rattle.exchange.specs.FactRows.{nodeFacts, childFacts, factRow}
+use Rattle.exchange.specs.FactRows.{nodeFacts, factRow}
 use Rattle.exchange.specs.Fit.{factsFit}
 use Rattle.exchange.specs.Rows.{childrenOf, flatten}
 use Rattle.exchange.specs.Worked.{removed}
@@ -25,12 +23,12 @@ use Rattle.exchange.specs.Found.{indexOf}
 use Rattle.sheet.specs.Lines.{Run, read, refused, before, lineNumber, fieldsOf, rowsOf}
 use Rattle.sheet.specs.KeyLines.{values}
 use Rattle.sheet.specs.KeySheets.{Reading, sheet, turned, headOf}
-use Rattle.plansheet.specs.Shapes.{Shape, fixedLine, childrenAt}
+use Rattle.plansheet.specs.Shapes.{Shape, fixedLine}
 use Rattle.plansheet.specs.PlanLines.{settingsShape, settingsLine, treeShape, childRules, mostLines, planLine, twoTo}
 use Rattle.plansheet.specs.PlanSheets.{PlanSheet, FactLines, settingsOf, operatorRows, planOf, childCount, factRows, factsOf, planSheet, judgedPlan, withFacts, withRows, readFacts, readPlan}
 use Rattle.plansheet.specs.ReadRows.{numberRows, rowsBy}
 use Rattle.plansheet.specs.ReadPlans.{thenRun, treeRun, headLine, factsBy, FactsHeld, TreeHeld, TreeLeft}
-use Rattle.plansheet.specs.PlanRooms.{PlanRooms, TreeStands, planBy, PlanHeld}
+use Rattle.plansheet.specs.PlanRooms.{PlanRooms, planBy, PlanHeld}
 use Rattle.plansheet.specs.declared.tree.Rows.the-variants as R
 use Rattle.plansheet.specs.declared.lines.Facts.the-variants as F
 use Rattle.plansheet.specs.declared.plan.Plan.the-variants as W

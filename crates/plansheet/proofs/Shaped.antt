@@ -4,30 +4,30 @@ use mathlib.Core.Path.{_≡_, refl, sym, ap, _∙_}
 use Prim.Native.Nat.{ℕ, zero, suc, _*_, _≤_, _<_}
 use native.Mathlib.Omega.{arith}
 use mathlib.Core.List.{List, [], _∷_, map}
-use mathlib.Core.Bool.{Bool, true, false, cond, not, _&&_, _||_}
+use mathlib.Core.Bool.{Bool, true, false, cond, _&&_, _||_}
 use mathlib.Core.Option.{Option, none, some}
 use mathlib.Core.Logic.{⊎-elim}
 use types.Run.{OneOf}
 use denote.Enum.Declared.{tagOf}
 use Rattle.text.proofs.bounds.Judged as JT
 use lib.Dec.{eqb, leb, ltb}
-use lib.ListN.{length, getD, take, drop, length-drop, length-map, take-append-drop, drop-of-length-le, List·getD-map, replicate}
+use lib.ListN.{length, getD, take, drop, length-drop, length-map, take-append-drop, drop-of-length-le, replicate}
 use mathlib.Core.List.{_++_, append-nil}
 use borrow.Author.Tests.{eqb-true, eqb-false, eq-eqb, ne-eqb, lt-ltb, le-ltb, le-leb, lt-leb}
-use Rattle.text.specs.Text.{Field, number, empty, valueOf, stateOf, row, greatest}
-use Rattle.text.specs.Bounds.{Bound, boundRow, fits, fitsRows, allows, allowsAll, judged}
+use Rattle.text.specs.Text.{Field, number, valueOf, stateOf, row, greatest}
+use Rattle.text.specs.Bounds.{fits, fitsRows, allows, allowsAll, judged}
 use Rattle.text.specs.declared.bounds.Judged.{Judged}
 use Rattle.text.specs.declared.bounds.Judged.the-variants as J
 use Rattle.text.specs.Read.{lineRead}
 use Rattle.text.specs.declared.line.Line.the-variants as LL
-use Rattle.text.proofs.Answers.{Opened, wrong-none, Passed, Failed, failed, judged-none}
+use Rattle.text.proofs.Answers.{Opened, wrong-none, Passed, failed, judged-none}
 use Rattle.text.proofs.Limits.{fits-rows, fits-length, all-largest}
-use Rattle.sheet.specs.Lines.{Kind, plain, mostBytes, mostEntries, wholeEntries, fieldsFit, tooManyEntries, lineNumber, fieldsOf}
+use Rattle.sheet.specs.Lines.{Kind, plain, mostBytes, mostEntries, fieldsFit, tooManyEntries, lineNumber}
 use Rattle.sheet.specs.KeyLines.{at, values}
 use Rattle.sheet.specs.Reading.{rowValues, readBy}
 use Rattle.sheet.specs.declared.line.Read.the-variants.{Line, Refused}
 use Rattle.sheet.proofs.ReadLines.{row-values}
-use Rattle.plansheet.specs.Shapes.{Shape, overAny, fixedLine, comingLine, treeLine, exchangeLimited, ruleFits, mostChildren, kindAt, limitAt, childrenAt}
+use Rattle.plansheet.specs.Shapes.{Shape, overAny, fixedLine, comingLine, treeLine, exchangeLimited, ruleFits, mostChildren}
 use Rattle.plansheet.specs.ReadRows.{boundOf, Bounded, shapeOf, judgedNumber, shapeNumber, masksNumber, treeNumber, valueAt, stateAt, fieldsRow}
 use Rattle.plansheet.specs.PlanLines.{twoTo, maskLine}
 use Rattle.plansheet.specs.PlanSheets.{operatorRow}

@@ -18,7 +18,7 @@ use Rattle.sheet.specs.Lines.{Kind, Run, read, refused, before, behind, lineNum
 use Rattle.sheet.specs.Reading.{readBy}
 use Rattle.sheet.specs.declared.line.Read.the-variants as L
 use Rattle.plansheet.specs.declared.tree.Rows.the-variants as R
-use Rattle.plansheet.specs.ReadRows.{rowsBy, Leaves, Left}
+use Rattle.plansheet.specs.ReadRows.{rowsBy, Left}
 
 -- ---- what the reader of a line answered
 

@@ -1,15 +1,14 @@
 -- The lines of a D sheet one run after the other: what each reader answers, of what follows it.
 -- Assumes nothing.
-use mathlib.Core.Path.{_≡_, refl, sym, ap, _∙_}
-use mathlib.Core.List.{List, [], _∷_}
+use mathlib.Core.Path.{_≡_, sym, ap, _∙_}
+use mathlib.Core.List.{List}
 use mathlib.Core.Bool.{Bool, true, false, cond}
-use Prim.Native.Nat.{ℕ, suc, _+_, _≤_, _<_}
+use Prim.Native.Nat.{ℕ, _+_, _≤_, _<_}
 use native.Mathlib.Omega.{arith}
 use native.Mathlib.Numerals.{add-one}
 use lib.ListN.{length, drop}
 use lib.Seq.{sets}
 use Rattle.text.specs.Text.{Field, parts, lineAt, after}
-use Rattle.text.specs.Lines.{firstOf}
 use Rattle.text.proofs.Places.{bridge}
 use Rattle.sheet.specs.Lines.{Run, read, refused, lineNumber, fieldsOf, rowsOf, atEnd}
 use Rattle.sheet.specs.KeyLines.{values}

@@ -1,10 +1,9 @@
 -- Whether X rows and Y masks fit the tree, on rows of numbers: what `Fit` of crate `exchange` says of values.
 -- Renders number 8 of document 01's table.
-use mathlib.Core.Path.{_≡_}
 use Prim.Native.Nat.{ℕ, _-_, _<_}
 use mathlib.Core.List.{List, [], _∷_, map}
 use mathlib.Core.Bool.{Bool, true, false, cond, _&&_, _||_}
-use lib.Dec.{eqb, leb, ltb}
+use lib.Dec.{eqb, leb}
 use lib.ListN.{length, getD}
 use Rattle.exchange.specs.declared.fact.Fact.{Fact}
 use Rattle.exchange.specs.declared.fact.Fact.the-variants.{Row, Missing}

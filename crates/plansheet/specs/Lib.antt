@@ -7,3 +7,4 @@ pub mod ReadRows
 pub mod ReadPlans
 pub mod FitRows
 pub mod PlanRooms
+pub mod LegalPlans

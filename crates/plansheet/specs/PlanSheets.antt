@@ -7,11 +7,11 @@ use mathlib.Core.Option.{none as nothing}
 use lib.Dec.{eqb}
 use lib.ListN.{getD}
 use Rattle.text.specs.Text.{Field, parts, stateOf, valueOf}
-use Rattle.exchange.specs.Trees.{Tree, Forest, node, none, _∷ᶠ_, trees, Operator, Plan, Plans}
+use Rattle.exchange.specs.Trees.{node, none, _∷ᶠ_, trees, Plan, Plans}
 use Rattle.exchange.specs.Rows.{grow}
 use Rattle.exchange.specs.declared.settings.Settings.{Settings}
 use Rattle.exchange.specs.Settings.{settingsFit}
-use Rattle.exchange.specs.Facts.{NodeFacts, ChildFacts, Row, Facts}
+use Rattle.exchange.specs.Facts.{ChildFacts, Row, Facts}
 use Rattle.exchange.specs.FactRows.{nodeFacts, childFacts, factRow}
 use Rattle.exchange.specs.Children.{removeDistChangingOperators}
 use Rattle.exchange.specs.Fit.{factsFit}

@@ -3,7 +3,6 @@ use mathlib.Core.Path.{_≡_}
 use Prim.Native.Nat.{ℕ, zero, suc, _+_, _≤_}
 use mathlib.Core.List.{List, [], _∷_, map}
 use mathlib.Core.Bool.{cond, not, _&&_, _||_}
-use mathlib.Core.Option.{Option}
 use lib.Dec.{eqb, leb, ltb}
 use lib.ListN.{length, getD, drop}
 use lib.Seq.{sets}
@@ -15,7 +14,6 @@ use Rattle.sheet.specs.Lines.{Kind, Run, read, refused, mostBytes, rowsOf}
 use Rattle.sheet.specs.KeyLines.{values}
 use Rattle.sheet.specs.Reading.{rowValues}
 use Rattle.plansheet.specs.Shapes.{Shape, overAny, exchangeLimited, ruleFits, mostChildren}
-use Rattle.plansheet.specs.PlanSheets.{operatorRows}
 use Rattle.plansheet.specs.declared.tree.Rows.{Rows}
 use Rattle.plansheet.specs.declared.tree.Rows.the-variants as R
 

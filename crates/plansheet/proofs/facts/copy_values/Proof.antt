@@ -1,7 +1,6 @@
 -- `plansheet::facts::copy_values` meets its contract: what is stored, with the values from i on, is the whole.
 -- Assumes nothing.
-use mathlib.Core.Path.{_≡_, refl, sym, ap, _∙_}
-use mathlib.Core.List.{[], _∷_}
+use mathlib.Core.Path.{_≡_, refl, sym, _∙_}
 use Prim.Native.Nat.{_≤_, _-_}
 use native.Mathlib.Omega.{arith}
 use borrow.Author.Needs.{needs}
@@ -11,8 +10,6 @@ use Rattle.sheet.specs.Reading.{rowValues}
 use Rattle.plansheet.proofs.Overs.{copy-more, copy-done}
 use Rattle.plansheet.proofs.facts.copy_values.Statement.{statement}
 use Rattle.plansheet.proofs.facts.copy_values.Tie as tie
-use Rattle.plansheet.proofs.facts.copy_values.Reads as reads
-use Rattle.plansheet.proofs.facts.copy_values.Lts as lts
 
 abbrev Inv-loop : tie.InvT-loop
 Inv-loop fields out₀ i₀ out i = (i ≤ length fields) × (length out ≡ length out₀) × (sets out i (drop i (rowValues fields)) ≡ sets out₀ 0 (rowValues fields))

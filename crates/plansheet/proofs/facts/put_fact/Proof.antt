@@ -5,8 +5,6 @@ use lib.Seq.{set-out}
 use borrow.Author.Needs.{needs}
 use Rattle.plansheet.proofs.facts.put_fact.Statement.{statement}
 use Rattle.plansheet.proofs.facts.put_fact.Tie as tie
-use Rattle.plansheet.proofs.facts.put_fact.Reads as reads
-use Rattle.plansheet.proofs.facts.put_fact.Lts as lts
 
 mul-x : tie.Need-mul-x
 mul-x c = search needs

@@ -2,13 +2,12 @@
 -- Assumes nothing.
 use mathlib.Core.Path.{_≡_, refl, sym, ap, _∙_}
 use mathlib.Core.List.{List, map}
-use mathlib.Core.Option.{Option}
-use Prim.Native.Nat.{ℕ, _+_, _-_, _*_, _≤_, _<_}
+use Prim.Native.Nat.{ℕ, _+_, _-_, _≤_, _<_}
 use native.Mathlib.Omega.{arith}
 use borrow.Author.Needs.{needs}
 use borrow.Author.Tests.{eq-eqb, ne-eqb}
-use lib.ListN.{length, getD, set, take, length-set, length-map}
-use Rattle.text.specs.Text.{Field, lineAt, after, row}
+use lib.ListN.{length, set, take, length-map}
+use Rattle.text.specs.Text.{lineAt, after, row}
 use Rattle.text.specs.Bounds.{boundRow}
 use Rattle.sheet.specs.KeyLines.{values}
 use Rattle.sheet.specs.ListLines.{numberOf}
@@ -19,11 +18,6 @@ use Rattle.plansheet.proofs.Turns.{Taken, taken, from, Head, head-first
 use Rattle.plansheet.proofs.FineLines.{fine-long, fine-rows, numbers-made, values-all}
 use Rattle.plansheet.proofs.facts.read_children.Statement.{statement}
 use Rattle.plansheet.proofs.facts.read_children.Tie as tie
-use Rattle.plansheet.proofs.facts.read_children.Reads as reads
-use Rattle.plansheet.proofs.facts.read_children.Lts as lts
-use Rattle.plansheet.proofs.facts.child_row.Reads as child-row-reads
-use Rattle.plansheet.proofs.line.child_line.Reads as child-line-reads
-use Rattle.plansheet.proofs.shape.number_of.Reads as number-of-reads
 
 abbrev Inv-loop : tie.InvT-loop
 Inv-loop s at line children fields₀ rows₀ p₀ l₀ n₀ fields rows p l n =

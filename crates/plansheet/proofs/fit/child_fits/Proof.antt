@@ -1,7 +1,6 @@
 -- `plansheet::fit::child_fits` meets its contract: the child's row is that of its place.
 -- Assumes nothing.
 use mathlib.Core.Path.{_≡_, sym, ap, _∙_}
-use mathlib.Core.Bool.{Bool, true, false}
 use borrow.Author.Tests.{not-true, not-false}
 use lib.ListN.{getD}
 use Rattle.exchange.specs.declared.row.Node.{Node}
@@ -10,11 +9,6 @@ use Rattle.plansheet.specs.FitRows.{countFitsBy}
 use borrow.Author.Needs.{needs}
 use Rattle.plansheet.proofs.fit.child_fits.Statement.{statement}
 use Rattle.plansheet.proofs.fit.child_fits.Tie as tie
-use Rattle.plansheet.proofs.fit.child_fits.Reads as reads
-use Rattle.plansheet.proofs.fit.child_fits.Lts as lts
-use Rattle.exchange.proofs.row.node_at.Reads as node-at-reads
-use Rattle.plansheet.proofs.fit.count_fits.Reads as count-fits-reads
-use Rattle.plansheet.proofs.fit.within_bits.Reads as within-bits-reads
 
 -- the test of the count, by the row at the place
 counted :

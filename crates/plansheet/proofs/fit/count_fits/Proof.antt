@@ -1,16 +1,11 @@
 -- `plansheet::fit::count_fits` meets its contract. One law for each way out (`Fitting`).
 -- Assumes nothing.
-use mathlib.Core.Path.{_≡_, sym, _∙_}
+use mathlib.Core.Path.{sym, _∙_}
 use native.Mathlib.Omega.{arith}
 use Rattle.plansheet.proofs.Fitting.{count-related, count-exchange, count-merge, count-split, count-other, count-own}
 use borrow.Author.Needs.{needs}
 use Rattle.plansheet.proofs.fit.count_fits.Statement.{statement}
 use Rattle.plansheet.proofs.fit.count_fits.Tie as tie
-use Rattle.plansheet.proofs.fit.count_fits.Reads as reads
-use Rattle.plansheet.proofs.fit.count_fits.Lts as lts
-use Rattle.exchange.proofs.form.relationship_of.Reads as relationship-of-reads
-use Rattle.exchange.proofs.form.split_of.Reads as split-of-reads
-use Rattle.exchange.proofs.form.top_of.Reads as top-of-reads
 
 relationship-of-requires : tie.Need-relationship-of-requires
 relationship-of-requires c κs = search needs

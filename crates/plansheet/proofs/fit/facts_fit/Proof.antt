@@ -1,9 +1,9 @@
 -- `plansheet::fit::facts_fit` meets its contract: what is tested at the children's places is `workedFits` of the tree there (`FitTrees`).
 -- Assumes nothing.
-use mathlib.Core.Path.{_≡_, refl, sym, ap, _∙_}
-use mathlib.Core.List.{List, _++_, map}
-use mathlib.Core.Bool.{Bool, true, false, _&&_}
-use Prim.Native.Nat.{ℕ, _+_, _-_, _≤_}
+use mathlib.Core.Path.{_≡_, sym, ap, _∙_}
+use mathlib.Core.List.{List, _++_}
+use mathlib.Core.Bool.{Bool, _&&_}
+use Prim.Native.Nat.{ℕ, _+_, _-_}
 use native.Mathlib.Omega.{arith}
 use borrow.Author.Tests.{not-true, not-false}
 use lib.ListN.{length, take, drop}
@@ -11,16 +11,10 @@ use Rattle.exchange.specs.Trees.{trees, Plans}
 use Rattle.exchange.specs.Rows.{flattens}
 use Rattle.exchange.specs.Places.{placesOf}
 use Rattle.exchange.specs.Fit.{allWithinBits}
-use Rattle.plansheet.specs.FitRows.{factRowsFit}
 use Rattle.plansheet.proofs.FitTrees.{tests-say, placed, places-part, places-many}
 use borrow.Author.Needs.{needs}
 use Rattle.plansheet.proofs.fit.facts_fit.Statement.{statement}
 use Rattle.plansheet.proofs.fit.facts_fit.Tie as tie
-use Rattle.plansheet.proofs.fit.facts_fit.Reads as reads
-use Rattle.plansheet.proofs.fit.facts_fit.Lts as lts
-use Rattle.exchange.proofs.places.child_places.Reads as child-places-reads
-use Rattle.plansheet.proofs.fit.masks_fit.Reads as masks-fit-reads
-use Rattle.plansheet.proofs.fit.rows_fit.Reads as rows-fit-reads
 
 -- the places of the children
 stored :

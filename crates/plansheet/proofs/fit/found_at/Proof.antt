@@ -3,8 +3,6 @@
 use borrow.Author.Needs.{needs}
 use Rattle.plansheet.proofs.fit.found_at.Statement.{statement}
 use Rattle.plansheet.proofs.fit.found_at.Tie as tie
-use Rattle.plansheet.proofs.fit.found_at.Reads as reads
-use Rattle.plansheet.proofs.fit.found_at.Lts as lts
 
 enum-known-f : tie.Need-enum-known-f
 enum-known-f c = search needs

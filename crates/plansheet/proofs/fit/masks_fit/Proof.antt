@@ -10,9 +10,6 @@ use Rattle.exchange.specs.Fit.{allWithinBits}
 use Rattle.plansheet.proofs.Fitting.{masks-bad, masks-good, masks-end}
 use Rattle.plansheet.proofs.fit.masks_fit.Statement.{statement}
 use Rattle.plansheet.proofs.fit.masks_fit.Tie as tie
-use Rattle.plansheet.proofs.fit.masks_fit.Reads as reads
-use Rattle.plansheet.proofs.fit.masks_fit.Lts as lts
-use Rattle.plansheet.proofs.fit.within_bits.Reads as within-bits-reads
 
 abbrev Inv-loop : tie.InvT-loop
 Inv-loop n masks i₀ i = (i ≤ length masks) × (allWithinBits n masks ≡ allWithinBits n (drop i masks))

@@ -1,14 +1,11 @@
 -- `plansheet::fit::row_fits` meets its contract. One law for each way out (`Fitting`).
 -- Assumes nothing.
-use mathlib.Core.Path.{_≡_, _∙_}
+use mathlib.Core.Path.{_∙_}
 use native.Mathlib.Omega.{arith}
 use Rattle.plansheet.proofs.Fitting.{row-form, row-zero, row-beyond, row-known}
 use borrow.Author.Needs.{needs}
 use Rattle.plansheet.proofs.fit.row_fits.Statement.{statement}
 use Rattle.plansheet.proofs.fit.row_fits.Tie as tie
-use Rattle.plansheet.proofs.fit.row_fits.Reads as reads
-use Rattle.plansheet.proofs.fit.row_fits.Lts as lts
-use Rattle.plansheet.proofs.fit.child_fits.Reads as child-fits-reads
 
 array-read-number : tie.Need-array-read-number
 array-read-number c = search needs

@@ -1,24 +1,18 @@
 -- `plansheet::fit::rows_fit` meets its contract: the rows before i fit and are each the first of its child and form (`Fitting`).
 -- Assumes nothing.
-use mathlib.Core.Path.{_≡_, refl, sym, ap, _∙_}
+use mathlib.Core.Path.{_≡_, sym, ap, _∙_}
 use mathlib.Core.List.{List, []}
-use mathlib.Core.Bool.{true, false}
 use Prim.Native.Nat.{ℕ, _≤_, _<_, _-_}
 use native.Mathlib.Omega.{arith}
 use borrow.Author.Needs.{needs}
 use borrow.Author.Tests.{not-true, not-false}
 use lib.ListN.{length, getD, take, length-take}
 use lib.Seq.{getD-take}
-use Rattle.exchange.specs.Found.{childOf, formNumber, rowFor, foundOf}
+use Rattle.exchange.specs.Found.{childOf, formNumber, rowFor}
 use Rattle.plansheet.specs.FitRows.{rowFitsBy}
-use Rattle.plansheet.proofs.Fitting.{Good, First, fits-known, good-more, good-all, bad-row, bad-pair, found-here, found-else}
+use Rattle.plansheet.proofs.Fitting.{Good, fits-known, good-more, good-all, bad-row, bad-pair, found-here, found-else}
 use Rattle.plansheet.proofs.fit.rows_fit.Statement.{statement}
 use Rattle.plansheet.proofs.fit.rows_fit.Tie as tie
-use Rattle.plansheet.proofs.fit.rows_fit.Reads as reads
-use Rattle.plansheet.proofs.fit.rows_fit.Lts as lts
-use Rattle.exchange.proofs.fact.fact_row.Reads as fact-row-reads
-use Rattle.plansheet.proofs.fit.found_at.Reads as found-at-reads
-use Rattle.plansheet.proofs.fit.row_fits.Reads as row-fits-reads
 
 abbrev Inv-loop : tie.InvT-loop
 Inv-loop target rows places facts index xs n i₀ i = (i ≤ n) × ((j : ℕ) → j < i → Good target rows places facts (take n xs) j)

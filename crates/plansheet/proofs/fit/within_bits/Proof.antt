@@ -1,14 +1,11 @@
 -- `plansheet::fit::within_bits` meets its contract: halving the mask and counting down keeps the answer (`Fitting`).
 -- Assumes nothing.
 use mathlib.Core.Path.{_≡_, refl, sym, _∙_}
-use native.Mathlib.Omega.{arith}
 use borrow.Author.Needs.{needs}
 use Rattle.exchange.specs.Fit.{withinBits}
 use Rattle.plansheet.proofs.Fitting.{within-zero, within-more, within-done}
 use Rattle.plansheet.proofs.fit.within_bits.Statement.{statement}
 use Rattle.plansheet.proofs.fit.within_bits.Tie as tie
-use Rattle.plansheet.proofs.fit.within_bits.Reads as reads
-use Rattle.plansheet.proofs.fit.within_bits.Lts as lts
 
 abbrev Inv-loop : tie.InvT-loop
 Inv-loop n mask k₀ m₀ k m = withinBits n mask ≡ withinBits k m

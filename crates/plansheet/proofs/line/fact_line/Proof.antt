@@ -1,6 +1,6 @@
 -- `plansheet::line::fact_line` meets its contract: an X line is read as any line of its description.
 -- Assumes nothing.
-use mathlib.Core.Path.{_≡_, ap, sym, _∙_}
+use mathlib.Core.Path.{ap, sym, _∙_}
 use Prim.Native.Nat.{ℕ}
 use Rattle.text.specs.Text.{lineAt, after}
 use Rattle.sheet.specs.Reading.{readBy}
@@ -9,9 +9,6 @@ use Rattle.plansheet.proofs.Shaped.{coming-number}
 use borrow.Author.Needs.{needs}
 use Rattle.plansheet.proofs.line.fact_line.Statement.{statement}
 use Rattle.plansheet.proofs.line.fact_line.Tie as tie
-use Rattle.plansheet.proofs.line.fact_line.Reads as reads
-use Rattle.plansheet.proofs.line.fact_line.Lts as lts
-use Rattle.plansheet.proofs.shape.shaped_line.Reads as shaped-line-reads
 
 slice-aggregate-shaped-line : tie.Need-slice-aggregate-shaped-line
 slice-aggregate-shaped-line c = search needs

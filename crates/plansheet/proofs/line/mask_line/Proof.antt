@@ -1,6 +1,6 @@
 -- `plansheet::line::mask_line` meets its contract. The line by `Opened`, then one law for each test (`Shaped`).
 -- Assumes nothing.
-use mathlib.Core.Path.{_≡_, sym, _∙_}
+use mathlib.Core.Path.{sym, _∙_}
 use mathlib.Core.Option.{Option}
 use mathlib.Core.List.{List}
 use Prim.Native.Nat.{ℕ}
@@ -10,11 +10,6 @@ use Rattle.plansheet.proofs.Shaped.{masks-wrong, masks-turned, masks-re
 use borrow.Author.Needs.{needs}
 use Rattle.plansheet.proofs.line.mask_line.Statement.{statement}
 use Rattle.plansheet.proofs.line.mask_line.Tie as tie
-use Rattle.plansheet.proofs.line.mask_line.Reads as reads
-use Rattle.plansheet.proofs.line.mask_line.Lts as lts
-use Rattle.plansheet.proofs.line.masks_number.Reads as masks-number-reads
-use Rattle.plansheet.proofs.line.sets_of.Reads as sets-of-reads
-use Rattle.text.proofs.line.line_at.Reads as line-at-reads
 
 abbrev N : tie.Start → ℕ
 N s = after (s .args .s .now) (s .args .at)

@@ -3,8 +3,6 @@
 use Rattle.plansheet.proofs.Shaped.{masks-count, masks-state, masks-value, masks-long, masks-fine}
 use Rattle.plansheet.proofs.line.masks_number.Statement.{statement}
 use Rattle.plansheet.proofs.line.masks_number.Tie as tie
-use Rattle.plansheet.proofs.line.masks_number.Reads as reads
-use Rattle.plansheet.proofs.line.masks_number.Lts as lts
 
 returns : tie.Need-returns
 returns c = let a = c .before .args in masks-count (a .sets) (a .count) (a .worst) (a .largest) (a .next) (c .if1 .taken)

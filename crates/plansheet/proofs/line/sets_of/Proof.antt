@@ -6,8 +6,6 @@ use native.Mathlib.Omega.{arith}
 use Rattle.plansheet.specs.PlanLines.{twoTo}
 use Rattle.plansheet.proofs.line.sets_of.Statement.{statement}
 use Rattle.plansheet.proofs.line.sets_of.Tie as tie
-use Rattle.plansheet.proofs.line.sets_of.Reads as reads
-use Rattle.plansheet.proofs.line.sets_of.Lts as lts
 
 past : (n k : ℕ) → k ≤ n → (n ≡ k → ⊥) → suc k ≤ n
 past n k h ne = omega arith

@@ -1,12 +1,10 @@
 -- `plansheet::lines::read_child_lines` meets its contract: F lines, X rows and the Y line, each where the one before ends (`Wholes`).
 -- Assumes nothing.
-use mathlib.Core.Path.{_≡_, refl, sym, ap, _∙_}
+use mathlib.Core.Path.{sym, ap, _∙_}
 use mathlib.Core.List.{List}
-use Prim.Native.Nat.{ℕ, _-_, _≤_, _<_}
+use Prim.Native.Nat.{ℕ, _-_}
 use native.Mathlib.Omega.{arith}
 use borrow.Author.Needs.{needs}
-use lib.ListN.{length}
-use Rattle.sheet.specs.Lines.{Run, refused}
 use Rattle.plansheet.specs.PlanLines.{childShape, childLine, factLine}
 use Rattle.plansheet.specs.ReadRows.{numberRows, runFrom}
 use Rattle.plansheet.specs.ReadPlans.{turnedBack, factsBy}
@@ -16,12 +14,6 @@ use Rattle.plansheet.proofs.Wholes.{children-back, facts-back, facts-on
 use borrow.Author.Needs.{needs}
 use Rattle.plansheet.proofs.lines.read_child_lines.Statement.{statement}
 use Rattle.plansheet.proofs.lines.read_child_lines.Tie as tie
-use Rattle.plansheet.proofs.lines.read_child_lines.Reads as reads
-use Rattle.plansheet.proofs.lines.read_child_lines.Lts as lts
-use Rattle.plansheet.proofs.facts.read_children.Reads as read-children-reads
-use Rattle.plansheet.proofs.facts.read_facts.Reads as read-facts-reads
-use Rattle.plansheet.proofs.lines.read_masks.Reads as read-masks-reads
-use Rattle.plansheet.proofs.lines.turned_back.Reads as turned-back-reads
 
 abbrev S : tie.Start → List ℕ
 S s = s .args .s .now

@@ -1,6 +1,6 @@
 -- `plansheet::lines::read_fact_lines` meets its contract: the B line is a run of one (`Singles`), and what follows goes on where it ends (`Wholes`).
 -- Assumes nothing.
-use mathlib.Core.Path.{_≡_, refl, sym, ap, _∙_}
+use mathlib.Core.Path.{_≡_, sym, ap, _∙_}
 use mathlib.Core.List.{List}
 use Prim.Native.Nat.{ℕ, _-_, _≤_, _<_}
 use native.Mathlib.Omega.{arith}
@@ -20,12 +20,6 @@ use Rattle.plansheet.proofs.Wholes.{node-back, node-on, facts-held, not
 use borrow.Author.Needs.{needs}
 use Rattle.plansheet.proofs.lines.read_fact_lines.Statement.{statement}
 use Rattle.plansheet.proofs.lines.read_fact_lines.Tie as tie
-use Rattle.plansheet.proofs.lines.read_fact_lines.Reads as reads
-use Rattle.plansheet.proofs.lines.read_fact_lines.Lts as lts
-use Rattle.plansheet.proofs.facts.copy_values.Reads as copy-values-reads
-use Rattle.plansheet.proofs.line.node_line.Reads as node-line-reads
-use Rattle.plansheet.proofs.lines.read_child_lines.Reads as read-child-lines-reads
-use Rattle.plansheet.proofs.shape.number_of.Reads as number-of-reads
 
 abbrev S : tie.Start → List ℕ
 S s = s .args .s .now

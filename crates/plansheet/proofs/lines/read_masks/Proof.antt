@@ -1,6 +1,6 @@
 -- `plansheet::lines::read_masks` meets its contract: the Y line is a run of one (`Singles`), and nothing follows it (`Wholes`).
 -- Assumes nothing.
-use mathlib.Core.Path.{_≡_, refl, sym, ap, _∙_}
+use mathlib.Core.Path.{_≡_, sym, ap, _∙_}
 use mathlib.Core.List.{List}
 use Prim.Native.Nat.{ℕ, _-_, _≤_, _<_}
 use native.Mathlib.Omega.{arith}
@@ -9,12 +9,11 @@ use lib.ListN.{length, take, length-replicate}
 use lib.Seq.{sets}
 use Rattle.text.specs.Text.{lineAt, after}
 use Rattle.sheet.specs.KeyLines.{values}
-use Rattle.sheet.specs.Lines.{plain, lineNumber}
-use Rattle.sheet.specs.Reading.{rowValues, readBy}
+use Rattle.sheet.specs.Lines.{plain}
+use Rattle.sheet.specs.Reading.{rowValues}
 use Rattle.sheet.specs.ListLines.{numberOf}
 use Rattle.sheet.specs.declared.line.Read.the-variants as L
 use Rattle.plansheet.specs.PlanLines.{twoTo, maskShape, maskLine}
-use Rattle.plansheet.specs.PlanSheets.{FactLines}
 use Rattle.plansheet.specs.ReadPlans.{factsBy}
 use Rattle.plansheet.proofs.Turns.{Taken, taken}
 use Rattle.plansheet.proofs.Singles.{single-next, single-long, single-values, single-part}
@@ -23,11 +22,6 @@ use Rattle.plansheet.proofs.Wholes.{masks-back, masks-extra, masks-all,
 use borrow.Author.Needs.{needs}
 use Rattle.plansheet.proofs.lines.read_masks.Statement.{statement}
 use Rattle.plansheet.proofs.lines.read_masks.Tie as tie
-use Rattle.plansheet.proofs.lines.read_masks.Reads as reads
-use Rattle.plansheet.proofs.lines.read_masks.Lts as lts
-use Rattle.plansheet.proofs.facts.copy_values.Reads as copy-values-reads
-use Rattle.plansheet.proofs.line.mask_line.Reads as mask-line-reads
-use Rattle.plansheet.proofs.shape.number_of.Reads as number-of-reads
 
 abbrev S : tie.Start → List ℕ
 S s = s .args .s .now

@@ -1,13 +1,10 @@
 -- `plansheet::lines::read_plan_tree` meets its contract: the T line's description is that of `planLine`.
 -- Assumes nothing.
-use mathlib.Core.Path.{_≡_, refl}
+use mathlib.Core.Path.{refl}
 use native.Mathlib.Omega.{arith}
 use borrow.Author.Needs.{needs}
 use Rattle.plansheet.proofs.lines.read_plan_tree.Statement.{statement}
 use Rattle.plansheet.proofs.lines.read_plan_tree.Tie as tie
-use Rattle.plansheet.proofs.lines.read_plan_tree.Reads as reads
-use Rattle.plansheet.proofs.lines.read_plan_tree.Lts as lts
-use Rattle.plansheet.proofs.tree.read_tree.Reads as read-tree-reads
 
 slice-aggregate-read-tree : tie.Need-slice-aggregate-read-tree
 slice-aggregate-read-tree c = search needs

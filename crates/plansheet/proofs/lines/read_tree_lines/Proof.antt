@@ -20,12 +20,6 @@ use Rattle.plansheet.proofs.Wholes.{head-back, head-on, head-is, tree-l
 use borrow.Author.Needs.{needs}
 use Rattle.plansheet.proofs.lines.read_tree_lines.Statement.{statement}
 use Rattle.plansheet.proofs.lines.read_tree_lines.Tie as tie
-use Rattle.plansheet.proofs.lines.read_tree_lines.Reads as reads
-use Rattle.plansheet.proofs.lines.read_tree_lines.Lts as lts
-use Rattle.plansheet.proofs.facts.copy_values.Reads as copy-values-reads
-use Rattle.plansheet.proofs.line.settings_line.Reads as settings-line-reads
-use Rattle.plansheet.proofs.lines.read_plan_tree.Reads as read-plan-tree-reads
-use Rattle.plansheet.proofs.shape.number_of.Reads as number-of-reads
 
 abbrev S : tie.Start → List ℕ
 S s = s .args .s .now

@@ -3,8 +3,6 @@
 use borrow.Author.Needs.{needs}
 use Rattle.plansheet.proofs.lines.turned_back.Statement.{statement}
 use Rattle.plansheet.proofs.lines.turned_back.Tie as tie
-use Rattle.plansheet.proofs.lines.turned_back.Reads as reads
-use Rattle.plansheet.proofs.lines.turned_back.Lts as lts
 
 enum-told : tie.Need-enum-told
 enum-told c = search needs

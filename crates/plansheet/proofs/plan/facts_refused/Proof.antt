@@ -1,8 +1,6 @@
 use borrow.Author.Needs.{needs}
 use Rattle.plansheet.proofs.plan.facts_refused.Statement.{statement}
 use Rattle.plansheet.proofs.plan.facts_refused.Tie as tie
-use Rattle.plansheet.proofs.plan.facts_refused.Reads as reads
-use Rattle.plansheet.proofs.plan.facts_refused.Lts as lts
 
 -- src/plan.rt:117:27
 enum-told : tie.Need-enum-told

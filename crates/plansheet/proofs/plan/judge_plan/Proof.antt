@@ -1,7 +1,6 @@
 -- `plansheet::plan::judge_plan` meets its contract. One law for each way out (`PlanWhole`).
 -- Assumes nothing.
-use mathlib.Core.Path.{_≡_, refl, sym, ap, _∙_}
-use native.Mathlib.Omega.{arith}
+use mathlib.Core.Path.{sym, ap, _∙_}
 use borrow.Author.Tests.{not-true, not-false}
 use Rattle.exchange.specs.declared.settings.Settings.{Settings}
 use Rattle.plansheet.specs.PlanSheets.{settingsOf}
@@ -9,10 +8,6 @@ use Rattle.plansheet.proofs.PlanWhole.{settings-fine, settings-out, jud
 use borrow.Author.Needs.{needs}
 use Rattle.plansheet.proofs.plan.judge_plan.Statement.{statement}
 use Rattle.plansheet.proofs.plan.judge_plan.Tie as tie
-use Rattle.plansheet.proofs.plan.judge_plan.Reads as reads
-use Rattle.plansheet.proofs.plan.judge_plan.Lts as lts
-use Rattle.plansheet.proofs.plan.checked_settings.Reads as checked-settings-reads
-use Rattle.plansheet.proofs.plan.plan_fits.Reads as plan-fits-reads
 
 abbrev St : tie.Start → Settings
 St s = settingsOf (s .args .head .now)

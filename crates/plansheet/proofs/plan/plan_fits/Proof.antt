@@ -1,9 +1,7 @@
 -- `plansheet::plan::plan_fits` meets its contract: the tests on the rooms are those of the sheet in them (`PlanFitted`).
 -- Assumes nothing.
-use mathlib.Core.Path.{_≡_, refl, sym, ap, _∙_}
-use mathlib.Core.List.{List}
-use mathlib.Core.Bool.{true, false}
-use Prim.Native.Nat.{ℕ, _-_, _≤_}
+use mathlib.Core.Path.{_≡_, sym, _∙_}
+use Prim.Native.Nat.{_-_}
 use native.Mathlib.Omega.{arith}
 use lib.ListN.{length, take}
 use lib.Seq.{length-take-le}
@@ -14,11 +12,6 @@ use Rattle.plansheet.proofs.PlanFitted.{WorkedRooms, worked-rooms, room
 use borrow.Author.Needs.{needs}
 use Rattle.plansheet.proofs.plan.plan_fits.Statement.{statement}
 use Rattle.plansheet.proofs.plan.plan_fits.Tie as tie
-use Rattle.plansheet.proofs.plan.plan_fits.Reads as reads
-use Rattle.plansheet.proofs.plan.plan_fits.Lts as lts
-use Rattle.exchange.proofs.fact.index_rows.Reads as index-rows-reads
-use Rattle.plansheet.proofs.fit.facts_fit.Reads as facts-fit-reads
-use Rattle.plansheet.proofs.line.sets_of.Reads as sets-of-reads
 
 -- where the worked node stands
 worked : (s : tie.Start) → WorkedRooms (s .pre .1 .plan) (s .args .rows .now) (s .args .worked)

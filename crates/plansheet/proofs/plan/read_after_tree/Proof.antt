@@ -1,6 +1,6 @@
 -- `plansheet::plan::read_after_tree` meets its contract: the worked node's children say how many F lines and masks there are (`PlanFitted`, `PlanWhole`).
 -- Assumes nothing.
-use mathlib.Core.Path.{_≡_, refl, sym, ap, _∙_}
+use mathlib.Core.Path.{_≡_, sym, ap, _∙_}
 use mathlib.Core.List.{List, _++_}
 use Prim.Native.Nat.{ℕ, _+_, _≤_}
 use native.Mathlib.Omega.{arith}
@@ -12,20 +12,13 @@ use Rattle.exchange.specs.declared.settings.Settings.{Settings}
 use Rattle.exchange.specs.Rows.{flatten}
 use Rattle.exchange.specs.Worked.{removed}
 use Rattle.sheet.specs.KeySheets.{Reading, sheet}
-use Rattle.plansheet.specs.PlanSheets.{FactLines, settingsOf, childCount, readFacts, withFacts, planSheet}
+use Rattle.plansheet.specs.PlanSheets.{FactLines, settingsOf, childCount, readFacts, withFacts}
 use Rattle.plansheet.specs.PlanRooms.{PlanRooms, planBy, factsRefused}
 use Rattle.plansheet.proofs.PlanFitted.{WorkedRooms, worked-rooms}
 use Rattle.plansheet.proofs.PlanWhole.{FactsRead, facts-read, facts-turned, rooms-filled, plan-held, judged-is, after-turned}
 use borrow.Author.Needs.{needs}
 use Rattle.plansheet.proofs.plan.read_after_tree.Statement.{statement}
 use Rattle.plansheet.proofs.plan.read_after_tree.Tie as tie
-use Rattle.plansheet.proofs.plan.read_after_tree.Reads as reads
-use Rattle.plansheet.proofs.plan.read_after_tree.Lts as lts
-use Rattle.exchange.proofs.row.children_at.Reads as children-at-reads
-use Rattle.exchange.proofs.worked.remove_dist_changing_operators.Reads as remove-dist-changing-operators-reads
-use Rattle.plansheet.proofs.lines.read_fact_lines.Reads as read-fact-lines-reads
-use Rattle.plansheet.proofs.plan.facts_refused.Reads as facts-refused-reads
-use Rattle.plansheet.proofs.plan.judge_plan.Reads as judge-plan-reads
 
 abbrev St : tie.Start → Settings
 St s = settingsOf (s .args .head .now)

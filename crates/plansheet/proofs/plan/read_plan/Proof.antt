@@ -1,23 +1,14 @@
 -- `plansheet::plan::read_plan` meets its contract: the tree's lines, and what follows them where they end (`PlanWhole`).
 -- Assumes nothing.
-use mathlib.Core.Path.{_≡_, refl, sym, ap, _∙_}
-use mathlib.Core.List.{List, _++_}
-use Prim.Native.Nat.{ℕ, _+_, _≤_}
+use mathlib.Core.Path.{sym, ap, _∙_}
 use native.Mathlib.Omega.{arith}
 use borrow.Author.Needs.{needs}
-use lib.ListN.{length, drop}
-use Rattle.text.specs.Text.{parts}
-use Rattle.plansheet.specs.PlanSheets.{PlanSheet, planOf}
+use Rattle.plansheet.specs.PlanSheets.{planOf}
 use Rattle.plansheet.specs.PlanRooms.{planBy, treeRefused}
 use Rattle.plansheet.proofs.PlanWhole.{TreeRead, tree-read, tree-turned, plan-turned, turned-not, plan-on}
 use borrow.Author.Needs.{needs}
 use Rattle.plansheet.proofs.plan.read_plan.Statement.{statement}
 use Rattle.plansheet.proofs.plan.read_plan.Tie as tie
-use Rattle.plansheet.proofs.plan.read_plan.Reads as reads
-use Rattle.plansheet.proofs.plan.read_plan.Lts as lts
-use Rattle.plansheet.proofs.lines.read_tree_lines.Reads as read-tree-lines-reads
-use Rattle.plansheet.proofs.plan.read_after_tree.Reads as read-after-tree-reads
-use Rattle.plansheet.proofs.plan.tree_refused.Reads as tree-refused-reads
 
 -- the tree that was read
 tree :

@@ -1,8 +1,6 @@
 use borrow.Author.Needs.{needs}
 use Rattle.plansheet.proofs.plan.tree_refused.Statement.{statement}
 use Rattle.plansheet.proofs.plan.tree_refused.Tie as tie
-use Rattle.plansheet.proofs.plan.tree_refused.Reads as reads
-use Rattle.plansheet.proofs.plan.tree_refused.Lts as lts
 
 -- src/plan.rt:108:14
 enum-told : tie.Need-enum-told

@@ -10,8 +10,6 @@ use Rattle.plansheet.specs.Shapes.{overAny}
 use Rattle.plansheet.proofs.Overs.{over-short, over-done, over-here, over-later}
 use Rattle.plansheet.proofs.shape.over_any.Statement.{statement}
 use Rattle.plansheet.proofs.shape.over_any.Tie as tie
-use Rattle.plansheet.proofs.shape.over_any.Reads as reads
-use Rattle.plansheet.proofs.shape.over_any.Lts as lts
 
 abbrev Inv-loop : tie.InvT-loop
 Inv-loop largest fields i₀ i = (i ≤ length largest) × (i ≤ length fields) × (overAny largest (rowValues fields) ≡ overAny (drop i largest) (drop i (rowValues fields)))

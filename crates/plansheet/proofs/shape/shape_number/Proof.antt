@@ -6,9 +6,6 @@ use Rattle.plansheet.proofs.Shaped.{shape-long, shape-large, shape-unde
 use borrow.Author.Needs.{needs}
 use Rattle.plansheet.proofs.shape.shape_number.Statement.{statement}
 use Rattle.plansheet.proofs.shape.shape_number.Tie as tie
-use Rattle.plansheet.proofs.shape.shape_number.Reads as reads
-use Rattle.plansheet.proofs.shape.shape_number.Lts as lts
-use Rattle.plansheet.proofs.shape.over_any.Reads as over-any-reads
 
 returns : tie.Need-returns
 returns c = let a = c .before .before .before .args in shape-long (a .sizes .now) (a .codes .now) (a .next) (rowValues (a .fields .now)) (c .if1 .taken)

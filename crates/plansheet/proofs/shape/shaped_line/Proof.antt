@@ -1,11 +1,11 @@
 -- `plansheet::shape::shaped_line` meets its contract. The line by `Passed`, then one law for each test (`Shaped`).
 -- Assumes nothing.
-use mathlib.Core.Path.{_≡_, refl, sym, ap, _∙_}
+use mathlib.Core.Path.{_≡_, refl, sym, _∙_}
 use mathlib.Core.List.{List, map}
 use mathlib.Core.Option.{Option}
-use Prim.Native.Nat.{ℕ, _-_, _≤_}
+use Prim.Native.Nat.{ℕ, _-_}
 use native.Mathlib.Omega.{arith}
-use lib.ListN.{length, take, length-map}
+use lib.ListN.{length, take}
 use Rattle.text.specs.Text.{Field, lineAt, after, row}
 use Rattle.text.proofs.Answers.{Passed, passed, rows-held}
 use Rattle.sheet.specs.Reading.{rowValues}
@@ -16,11 +16,6 @@ use Rattle.plansheet.proofs.Shaped.{codesNumber, passed-long, not-line,
 use borrow.Author.Needs.{needs}
 use Rattle.plansheet.proofs.shape.shaped_line.Statement.{statement}
 use Rattle.plansheet.proofs.shape.shaped_line.Tie as tie
-use Rattle.plansheet.proofs.shape.shaped_line.Reads as reads
-use Rattle.plansheet.proofs.shape.shaped_line.Lts as lts
-use Rattle.plansheet.proofs.shape.judged_number.Reads as judged-number-reads
-use Rattle.plansheet.proofs.shape.shape_number.Reads as shape-number-reads
-use Rattle.text.proofs.bounds.fixed_at.Reads as fixed-at-reads
 
 abbrev T : tie.Start → List ℕ
 T s = s .args .s .now

@@ -3,8 +3,6 @@
 use borrow.Author.Tests.{eq-eqb, ne-eqb}
 use Rattle.plansheet.proofs.tree.exchange_limited.Statement.{statement}
 use Rattle.plansheet.proofs.tree.exchange_limited.Tie as tie
-use Rattle.plansheet.proofs.tree.exchange_limited.Reads as reads
-use Rattle.plansheet.proofs.tree.exchange_limited.Lts as lts
 
 returns : tie.Need-returns
 returns c = rw (eq-eqb _ _ (c .if1 .taken))

@@ -3,8 +3,6 @@
 use borrow.Author.Tests.{eq-eqb, ne-eqb}
 use Rattle.plansheet.proofs.tree.limit_mark.Statement.{statement}
 use Rattle.plansheet.proofs.tree.limit_mark.Tie as tie
-use Rattle.plansheet.proofs.tree.limit_mark.Reads as reads
-use Rattle.plansheet.proofs.tree.limit_mark.Lts as lts
 
 returns : tie.Need-returns
 returns c = rw (eq-eqb _ _ (c .if1 .taken))

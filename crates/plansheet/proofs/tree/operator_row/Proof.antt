@@ -1,12 +1,8 @@
 -- `plansheet::tree::operator_row` meets its contract: the row is its fields, place by place.
 -- Assumes nothing.
-use mathlib.Core.Path.{_≡_, refl}
 use borrow.Author.Needs.{needs}
 use Rattle.plansheet.proofs.tree.operator_row.Statement.{statement}
 use Rattle.plansheet.proofs.tree.operator_row.Tie as tie
-use Rattle.plansheet.proofs.tree.operator_row.Reads as reads
-use Rattle.plansheet.proofs.tree.operator_row.Lts as lts
-use Rattle.plansheet.proofs.tree.limit_mark.Reads as limit-mark-reads
 
 index-1-limit-mark : tie.Need-index-1-limit-mark
 index-1-limit-mark c = search needs

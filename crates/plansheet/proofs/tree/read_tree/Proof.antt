@@ -2,13 +2,12 @@
 -- Assumes nothing.
 use mathlib.Core.Path.{_≡_, refl, sym, ap, _∙_}
 use mathlib.Core.List.{List, map}
-use mathlib.Core.Option.{Option}
 use Prim.Native.Nat.{ℕ, _+_, _-_, _*_, _≤_, _<_}
 use native.Mathlib.Omega.{arith}
 use borrow.Author.Needs.{needs}
 use borrow.Author.Tests.{eq-eqb, ne-eqb}
-use lib.ListN.{length, getD, set, take, length-set, length-map}
-use Rattle.text.specs.Text.{Field, lineAt, after, row}
+use lib.ListN.{length, getD, set, take, length-map}
+use Rattle.text.specs.Text.{lineAt, after, row}
 use Rattle.sheet.specs.Lines.{Kind}
 use Rattle.sheet.specs.ListLines.{numberOf}
 use Rattle.sheet.specs.declared.line.Read.the-variants as L
@@ -20,11 +19,6 @@ use Rattle.plansheet.proofs.Turns.{Taken, taken, from, Head, head-first
 use Rattle.plansheet.proofs.FineLines.{fine-long, fine-rows, tree-small, operators-made}
 use Rattle.plansheet.proofs.tree.read_tree.Statement.{statement}
 use Rattle.plansheet.proofs.tree.read_tree.Tie as tie
-use Rattle.plansheet.proofs.tree.read_tree.Reads as reads
-use Rattle.plansheet.proofs.tree.read_tree.Lts as lts
-use Rattle.plansheet.proofs.shape.number_of.Reads as number-of-reads
-use Rattle.plansheet.proofs.tree.operator_row.Reads as operator-row-reads
-use Rattle.plansheet.proofs.tree.tree_line.Reads as tree-line-reads
 
 abbrev Inv-loop : tie.InvT-loop
 Inv-loop s at line letter bounds sizes codes rules most fields₀ rows₀ p₀ l₀ n₀ owed₀ fields rows p l n owed =

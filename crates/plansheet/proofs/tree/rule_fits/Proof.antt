@@ -4,8 +4,6 @@ use borrow.Author.Tests.{le-leb, lt-leb}
 use borrow.Author.Needs.{needs}
 use Rattle.plansheet.proofs.tree.rule_fits.Statement.{statement}
 use Rattle.plansheet.proofs.tree.rule_fits.Tie as tie
-use Rattle.plansheet.proofs.tree.rule_fits.Reads as reads
-use Rattle.plansheet.proofs.tree.rule_fits.Lts as lts
 
 mul-if1 : tie.Need-mul-if1
 mul-if1 c = search needs

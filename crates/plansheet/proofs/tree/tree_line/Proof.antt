@@ -3,7 +3,7 @@
 use mathlib.Core.Path.{_≡_, refl, sym, ap, _∙_}
 use mathlib.Core.List.{List, map}
 use mathlib.Core.Option.{Option}
-use Prim.Native.Nat.{ℕ, _-_, _≤_}
+use Prim.Native.Nat.{ℕ, _-_}
 use native.Mathlib.Omega.{arith}
 use lib.ListN.{length, take, length-map}
 use Rattle.text.specs.Text.{Field, lineAt, after, row}
@@ -15,11 +15,6 @@ use Rattle.plansheet.proofs.Shaped.{codesNumber, passed-long, not-line,
 use borrow.Author.Needs.{needs}
 use Rattle.plansheet.proofs.tree.tree_line.Statement.{statement}
 use Rattle.plansheet.proofs.tree.tree_line.Tie as tie
-use Rattle.plansheet.proofs.tree.tree_line.Reads as reads
-use Rattle.plansheet.proofs.tree.tree_line.Lts as lts
-use Rattle.plansheet.proofs.shape.judged_number.Reads as judged-number-reads
-use Rattle.plansheet.proofs.tree.tree_number.Reads as tree-number-reads
-use Rattle.text.proofs.bounds.fixed_at.Reads as fixed-at-reads
 
 abbrev T : tie.Start → List ℕ
 T s = s .args .s .now

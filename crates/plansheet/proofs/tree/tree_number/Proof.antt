@@ -1,16 +1,10 @@
 -- `plansheet::tree::tree_number` meets its contract. One law for each way out (`Shaped`).
 -- Assumes nothing.
-use mathlib.Core.Path.{_≡_, sym, _∙_}
-use native.Mathlib.Omega.{arith}
+use mathlib.Core.Path.{sym, _∙_}
 use Rattle.plansheet.proofs.Shaped.{tree-limited, tree-most, tree-wide, tree-shape, tree-kind, tree-fit, tree-unfit}
 use borrow.Author.Needs.{needs}
 use Rattle.plansheet.proofs.tree.tree_number.Statement.{statement}
 use Rattle.plansheet.proofs.tree.tree_number.Tie as tie
-use Rattle.plansheet.proofs.tree.tree_number.Reads as reads
-use Rattle.plansheet.proofs.tree.tree_number.Lts as lts
-use Rattle.plansheet.proofs.shape.shape_number.Reads as shape-number-reads
-use Rattle.plansheet.proofs.tree.exchange_limited.Reads as exchange-limited-reads
-use Rattle.plansheet.proofs.tree.rule_fits.Reads as rule-fits-reads
 
 index-1-kind : tie.Need-index-1-kind
 index-1-kind c = search needs
