@@ -4,3 +4,4 @@ pub mod Marked
 pub mod PlanBounded
 pub mod PlanLent
 pub mod PlanEntries
+pub mod DecisionFits

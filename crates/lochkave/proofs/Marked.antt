@@ -28,7 +28,8 @@ use Rattle.plansheet.specs.Shapes.{overAny}
 use Rattle.plansheet.specs.PlanLines.{twoTo}
 use Rattle.plansheet.specs.PlanSheets.{operatorRows, planOf, childCount, readMasks, readChildren, readFacts, readPlan}
 use Rattle.plananswer.specs.PlanTexts.{planLines, planAnswerText}
-use Rattle.lochkave.specs.Decision.{planDecision, decision}
+use Rattle.plananswer.specs.PlanDecision.{planDecision}
+use Rattle.lochkave.specs.Decision.{decision}
 
 pub record Row : Type 0 where
   pub sheet : String

@@ -18,7 +18,7 @@ use Rattle.plansheet.specs.PlanRooms.{planBy, PlanHeld}
 use Rattle.plantheorems.proofs.PlanRoundTrip.{plan-written-again}
 use Rattle.plantheorems.proofs.PlanSizes.{read-sizes}
 use Rattle.plananswer.specs.PlanTexts.{distributed}
-use Rattle.lochkave.specs.Decision.{planDecision}
+use Rattle.plananswer.specs.PlanDecision.{planDecision}
 use Rattle.lochkave.specs.Entry.{planAgain}
 use Rattle.lochkave.specs.PlanHeld.{Holds, Held, HeldLong}
 use Rattle.lochkave.proofs.PlanLent.{lent-text}

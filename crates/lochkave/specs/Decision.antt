@@ -5,20 +5,8 @@ use mathlib.Core.List.{List}
 use mathlib.Core.Bool.{cond}
 use lib.Dec.{eqb}
 use lib.ListN.{getD}
-use Rattle.sheet.specs.KeySheets.{Reading, sheet, turned}
 use Rattle.sheet.specs.KeyAnswers.{Outcome, refused, adjustDecision, inputsDecision}
-use Rattle.exchange.specs.Ensure.{ensured}
-use Rattle.plansheet.specs.PlanSheets.{PlanSheet, readPlan}
-use Rattle.plananswer.specs.PlanTexts.{distributed}
-
--- of a D sheet that was read, refusals 9 and 11 or the answer
-abbrev pub planOutcome : Reading PlanSheet → Outcome
-planOutcome (turned n l) = refused n l
-planOutcome (sheet x) = distributed (ensured (x .settings) (x .facts) (x .plan))
-
--- `ensure_distribution`
-unfoldable pub planDecision : List ℕ → Outcome
-planDecision s = planOutcome (readPlan s)
+use Rattle.plananswer.specs.PlanDecision.{planDecision}
 
 -- by the first byte: a K, an I or a D sheet; anything else is a wrong first line
 unfoldable pub decision : List ℕ → Outcome

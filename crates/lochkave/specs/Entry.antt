@@ -12,7 +12,8 @@ use Rattle.sheet.specs.KeySheets.{Reading, sheet, turned, readKeySheet, readJoi
 use Rattle.sheet.specs.KeyAnswers.{Outcome, refused, wrote, adjustDecision, inputsDecision}
 use Rattle.plansheet.specs.PlanSheets.{PlanSheet, readPlan}
 use Rattle.plansheet.specs.PlanTexts.{planText}
-use Rattle.lochkave.specs.Decision.{planDecision, decision}
+use Rattle.plananswer.specs.PlanDecision.{planDecision}
+use Rattle.lochkave.specs.Decision.{decision}
 use Rattle.sheet.specs.KeyTexts.{keySheetText, joinSheetText}
 use Rattle.sheet.specs.Outcomes.{answer, after, within}
 

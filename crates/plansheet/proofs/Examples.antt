@@ -1,4 +1,4 @@
--- D sheets of examples/ by computation: each is refused as its answer says, or written as it stood (`read-again`); and the head of the decision on those that are read.
+-- D sheets of examples/ by computation: each is refused as its answer says, or written as it stood (`read-again`).
 use mathlib.Core.Path.{_≡_, refl}
 use Prim.Native.Nat.{ℕ}
 use Prim.Native.String.{String}
@@ -13,22 +13,14 @@ use Rattle.text.proofs.Examples.{bytes}
 use Rattle.text.specs.Write.{digits, decimal, fieldText, fieldsText, lineText}
 use Rattle.exchange.specs.Rows.{rowOf as packedRow, flatten, grow}
 use Rattle.exchange.specs.Fit.{withinBits, allWithinBits, isRepeated, noneRepeated, childNumbered, rowsFit, factsFit}
-use Rattle.exchange.specs.Facts.{rowOf}
-use Rattle.exchange.specs.Children.{anyUnspecified, updateEach, removeDistChangingOperators}
-use Rattle.exchange.specs.States.{childrenFrom, eachOf}
-use Rattle.exchange.specs.Status.{needsAlignment}
-use Rattle.exchange.specs.Step.{ensureChild}
-use Rattle.exchange.specs.Relationships.{givenSet, anyGivable, round, rounds}
-use Rattle.exchange.specs.Replace.{replaceOrderPreservingVariants}
-use Rattle.exchange.specs.Order.{keptEntries, handleOrder}
-use Rattle.exchange.specs.Ensure.{Answer, allLayouts, childStates, handled, finished, ensured}
+use Rattle.exchange.specs.Children.{removeDistChangingOperators}
+use Rattle.exchange.specs.States.{childrenFrom}
 use Rattle.sheet.specs.Lines.{lineNumber, rowsOf}
 use Rattle.sheet.specs.KeySheets.{Reading, sheet, turned}
 use Rattle.plansheet.specs.Shapes.{overAny}
 use Rattle.plansheet.specs.PlanLines.{twoTo}
 use Rattle.plansheet.specs.PlanSheets.{PlanSheet, operatorRows, planOf, childCount, readMasks, readChildren, readFacts, readPlan}
 use Rattle.plansheet.specs.PlanTexts.{linesText, factsText, planText}
-use Rattle.plansheet.specs.PlanAnswers.{planAnswer}
 
 pub record Example : Type 0 where
   pub sheet : String
@@ -132,52 +124,3 @@ sheets =
 pub read-again : map (λ (r : Example). told (readPlan (bytes (r .sheet)))) sheets ≡ map expected sheets
 unfolding until onto parts run field fields line lineFields firstOf fits allowsAll digits decimal fieldText fieldsText lineText packedRow flatten grow withinBits allWithinBits isRepeated noneRepeated childNumbered rowsFit factsFit removeDistChangingOperators childrenFrom lineNumber rowsOf overAny twoTo operatorRows planOf childCount readMasks readChildren readFacts readPlan linesText factsText planText
 read-again = refl
-
-abbrev pub decisions : List Example
-decisions =
-    -- bound-limit-4294967295
-    record { sheet = "D,4,0,0,8192,0,9,0,0,0\nT,0,1,0,4294967295,0,0,0,0\nB,0,0,0,0\nY,0\n"; said = 0 ∷ 0 ∷ 0 ∷ 0 ∷ [] }
-    -- bound-rows-4294967295
-    ∷ record { sheet = "D,4,1,0,8192,0,9,0,0,0\nT,0,1,0,,0,0,0,1\nT,0,1,0,,0,0,0,0\nB,0,0,0,0\nF,1,1,0,4294967295,0,0,0\nX,1,0,1,0,0,0,0,0,0,0,0,0,0\nX,1,6,4,0,0,0,0,0,0,0,0,0,0\nY,0,0\n"; said = 1 ∷ 0 ∷ 0 ∷ 0 ∷ [] }
-    -- bound-target-4096
-    ∷ record { sheet = "D,4096,0,0,8192,0,9,0,0,0\nT,0,1,0,,0,0,0,0\nB,0,0,0,0\nY,0\n"; said = 0 ∷ 0 ∷ 0 ∷ 0 ∷ [] }
-    -- decision-02-worked-under-root
-    ∷ record { sheet = "D,4,0,0,8192,0,9,0,0,0\nT,3,4,0,,0,0,0,1\nT,0,2,0,,0,0,0,1\nT,0,2,0,,0,1,0,0\nB,0,0,0,0\nF,0,1,2,0,0,0,0\nX,1,0,2,0,0,0,0,0,0,0,0,0,0\nY,0,0\n"; said = 1 ∷ 0 ∷ 0 ∷ 1 ∷ [] }
-    -- decision-11-rows-not-used
-    ∷ record { sheet = "D,4,1,0,8192,0,9,0,0,0\nT,0,1,0,,0,0,0,1\nT,0,1,0,,0,0,0,0\nB,0,0,0,0\nF,1,1,2,5,0,0,0\nX,1,0,1,0,0,0,0,0,0,0,0,0,0\nX,1,6,4,0,0,0,0,0,0,0,0,0,0\nY,0,0\n"; said = 1 ∷ 0 ∷ 0 ∷ 0 ∷ [] }
-    -- decision-19-row-missing
-    ∷ record { sheet = "D,4,0,0,8192,0,9,0,0,0\nT,0,1,0,,0,0,0,2\nT,0,1,0,,0,0,2,0\nT,0,1,0,,0,0,1,0\nB,0,0,0,0\nF,0,1,2,0,0,0,0\nF,0,1,2,0,0,0,0\nX,1,0,1,0,0,1,1,0,0,0,0,0,0\nX,2,0,1,0,0,0,0,0,0,0,0,0,0\nY,1,2,0,0\n"; said = 9 ∷ 0 ∷ [] }
-    -- decision-19-row-there
-    ∷ record { sheet = "D,4,0,0,8192,0,9,0,0,0\nT,0,1,0,,0,0,0,2\nT,0,1,0,,0,0,2,0\nT,0,1,0,,0,0,1,0\nB,0,0,0,0\nF,0,1,2,0,0,0,0\nF,0,1,2,0,0,0,0\nX,1,0,1,0,0,1,1,0,0,0,0,0,0\nX,1,8,4,1,1,1,1,0,0,0,0,0,0\nX,2,0,1,0,0,0,0,0,0,0,0,0,0\nY,1,2,0,0\n"; said = 11 ∷ 0 ∷ [] }
-    -- decision-20-window
-    ∷ record { sheet = "D,4,0,0,8192,0,9,0,0,0\nT,7,1,0,,0,0,0,1\nT,0,1,0,,0,0,0,0\nB,0,1,0,0\nF,0,1,2,0,0,0,0\nX,1,0,1,0,0,0,0,0,0,0,0,0,0\nY,0,0\n"; said = 1 ∷ 1 ∷ 0 ∷ 0 ∷ [] }
-    -- decision-22-interleave
-    ∷ record { sheet = "D,4,0,0,8192,0,9,0,0,0\nT,9,8,0,3,5,0,0,2\nT,0,4,0,,5,0,0,0\nT,0,4,0,,5,0,0,0\nB,0,0,0,0\nF,0,1,2,0,0,0,0\nF,0,1,2,0,0,0,0\nX,1,0,4,1,1,0,0,0,0,0,0,0,5\nX,2,0,4,1,1,0,0,0,0,0,0,0,5\nY,0,0,0,0\n"; said = 1 ∷ 0 ∷ 1 ∷ 0 ∷ [] }
-    -- decision-25-leaf
-    ∷ record { sheet = "D,4,0,0,8192,0,9,0,0,0\nT,0,1,0,,0,1,0,0\nB,0,0,0,0\nY,0\n"; said = 0 ∷ 0 ∷ 0 ∷ 0 ∷ [] }
-    -- marked-05
-    ∷ record { sheet = "D,4,1,0,8192,0,9,0,0,0\nT,0,1,0,,0,0,0,1\nT,0,1,0,,0,0,0,0\nB,0,0,0,0\nF,1,1,0,8192,0,0,0\nX,1,0,1,0,0,0,0,0,0,0,0,0,0\nX,1,6,4,0,0,0,0,0,0,0,0,0,0\nY,0,0\n"; said = 1 ∷ 0 ∷ 0 ∷ 0 ∷ [] }
-    -- marked-06
-    ∷ record { sheet = "D,4,1,0,8192,0,9,0,0,0\nT,0,1,0,,0,0,0,1\nT,0,1,0,,0,0,0,0\nB,0,0,0,0\nF,1,1,0,8193,0,0,0\nX,1,0,1,0,0,0,0,0,0,0,0,0,0\nX,1,6,4,0,0,0,0,0,0,0,0,0,0\nY,0,0\n"; said = 1 ∷ 0 ∷ 0 ∷ 0 ∷ [] }
-    -- marked-07
-    ∷ record { sheet = "D,4,1,0,8192,0,9,0,0,0\nT,0,1,0,,0,0,0,1\nT,0,1,0,,0,0,0,0\nB,0,0,0,0\nF,1,1,2,0,0,0,0\nX,1,0,1,0,0,0,0,0,0,0,0,0,0\nX,1,6,4,0,0,0,0,0,0,0,0,0,0\nY,0,0\n"; said = 1 ∷ 0 ∷ 0 ∷ 0 ∷ [] }
-    -- marked-08
-    ∷ record { sheet = "D,4,0,0,8192,0,9,0,0,0\nT,0,1,0,,0,0,0,1\nT,0,1,0,,0,0,1,0\nB,0,0,0,0\nF,0,1,2,0,0,0,0\nX,1,0,1,0,0,0,0,0,0,0,0,0,0\nY,0,0\n"; said = 1 ∷ 0 ∷ 0 ∷ 0 ∷ [] }
-    -- marked-09
-    ∷ record { sheet = "D,4,0,0,8192,0,9,0,0,0\nT,0,1,0,,0,0,0,1\nT,0,2,0,,0,0,1,0\nB,0,0,0,0\nF,0,1,2,0,0,0,0\nX,1,0,2,0,0,0,0,0,0,0,0,0,0\nX,1,2,1,0,0,0,0,0,0,0,0,0,0\nY,0,0\n"; said = 1 ∷ 0 ∷ 0 ∷ 0 ∷ [] }
-    -- marked-10
-    ∷ record { sheet = "D,4,0,0,8192,0,9,0,0,0\nT,0,1,0,,0,0,0,1\nT,1,1,0,0,1,0,0,1\nT,0,2,0,,1,0,0,0\nB,0,0,0,0\nF,0,0,2,0,0,0,0\nX,1,0,1,0,0,0,0,0,0,0,0,0,1\nY,0,0\n"; said = 1 ∷ 0 ∷ 0 ∷ 0 ∷ [] }
-    ∷ []
-
--- changed, window, interleave and tracked; or number and line
-abbrev pub head : Reading Answer → List ℕ
-head (turned n l) = n ∷ l ∷ []
-head (sheet a) = a .changed ∷ a .window ∷ a .interleave ∷ a .tracked ∷ []
-
-abbrev pub decided : Reading PlanSheet → List ℕ
-decided (turned n l) = n ∷ l ∷ []
-decided (sheet x) = head (planAnswer x)
-
-pub heads-decided : map (λ (r : Example). decided (readPlan (bytes (r .sheet)))) decisions ≡ map (λ (r : Example). r .said) decisions
-unfolding until onto parts run field fields line lineFields firstOf fits allowsAll digits decimal fieldText fieldsText lineText packedRow flatten grow withinBits allWithinBits isRepeated noneRepeated childNumbered rowsFit factsFit removeDistChangingOperators childrenFrom lineNumber rowsOf overAny twoTo operatorRows planOf childCount readMasks readChildren readFacts readPlan rowOf anyUnspecified updateEach eachOf needsAlignment ensureChild givenSet anyGivable round rounds replaceOrderPreservingVariants keptEntries handleOrder allLayouts childStates handled finished ensured planAnswer
-heads-decided = refl

@@ -13,9 +13,3 @@ pub mod FitTrees
 pub mod Crowded
 pub mod PlanFitted
 pub mod PlanWhole
-pub mod PlanLinesAgain
-pub mod PlanAgain
-pub mod LegalRuns
-pub mod PlanRead
-pub mod PlanLegal
-pub mod PlanBounds

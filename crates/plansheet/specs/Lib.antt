@@ -2,9 +2,7 @@ pub mod Shapes
 pub mod PlanLines
 pub mod PlanSheets
 pub mod PlanTexts
-pub mod PlanAnswers
 pub mod ReadRows
 pub mod ReadPlans
 pub mod FitRows
 pub mod PlanRooms
-pub mod LegalPlans

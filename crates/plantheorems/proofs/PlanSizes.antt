@@ -5,7 +5,7 @@ use Prim.Native.Nat.{ℕ, zero, suc, _+_, _≤_}
 use native.Mathlib.Omega.{arith}
 use mathlib.Core.List.{List}
 use mathlib.Core.Option.{Option, none, some}
-use Rattle.exchange.specs.Trees.{node, none as nothing, _∷ᶠ_, Operator, Plan, Plans}
+use Rattle.exchange.specs.Trees.{node, none as nothing, _∷ᶠ_, trees, Operator, Plan, Plans}
 use Rattle.exchange.specs.Facts.{ChildFacts, Row}
 use Rattle.exchange.specs.Sizes.{lines}
 use Rattle.exchange.specs.Partitioning.{workedOf}
@@ -16,8 +16,9 @@ use Rattle.plansheet.specs.PlanLines.{twoTo}
 use Rattle.plansheet.specs.PlanSheets.{PlanSheet, readPlan}
 use Rattle.plantheorems.specs.Everywhere.{Every, Everys, ids, idss, placesFrom}
 use Rattle.plantheorems.specs.LegalPlans.{LongLimit, LegalOperator, LegalChild, LegalRow, LegalPlan}
-use Rattle.plantheorems.specs.PlanSizes.{LimitWithin, OperatorWithin, RowWithin, SizedPlan}
-use Rattle.plantheorems.proofs.TreeRows.{each-first, each-last, every-weaker, every-worked-on, root-children}
+use Rattle.plananswer.specs.Sizes.{Everywhere, Everywheres, LimitWithin, OperatorWithin, RowWithin, SizedFacts}
+use Rattle.plantheorems.specs.PlanSizes.{SizedPlan}
+use Rattle.plantheorems.proofs.TreeRows.{each-first, each-last, every-weaker, every-gives, every-worked-on, root-children}
 use Rattle.plantheorems.proofs.TreeLines.{suits-few}
 use Rattle.plantheorems.proofs.TreeLaw.{worked-same}
 use Rattle.plantheorems.proofs.PlanRoundTrip.{plan-read-legal}
@@ -68,11 +69,10 @@ operator-within o n p =
       order = l .order;
       mask = omega (arith, l .mask);
       tracked = omega (arith, l .tracked);
-      need = omega (arith, l .need);
     }
 
-row-within : (x : Row) → LegalRow x → RowWithin 65535 4294967295 x
-row-within x l = record { child = l .child; form = l .form; count = l .count; layout = l .layout; const = l .const; order = l .order }
+row-within : (x : Row) → LegalRow x → RowWithin 65535 x
+row-within x l = record { count = l .count; order = l .order }
 
 -- ---- a sheet
 
@@ -85,15 +85,20 @@ legal-sizes x l =
     record {
       lines = l .few;
       operators =
-          every-weaker (λ o n. (o .id ≤ 256) × LegalOperator o n) (λ o n. OperatorWithin 65535 4294967295 o) operator-within t (every-both (λ o n. o .id ≤ 256) LegalOperator t small (l .operators));
+          every-gives (λ o n. (o .id ≤ 256) × LegalOperator o n) (Everywhere (OperatorWithin 65535 4294967295)) (Everywheres (OperatorWithin 65535 4294967295))
+          (λ o ts p below. (operator-within o (trees ts) p, below)) tt (λ u us p q. (p, q)) t (every-both (λ o n. o .id ≤ 256) LegalOperator t small (l .operators));
       children = eight;
       few = root-children (λ n. n ≤ 8) (workedOf t) (every-worked-on (λ o n. n ≤ 8) (λ m o n h. h) t eight);
       counted = l .facts .counted ∙ sym (worked-same t);
       entries = each-weaker LegalChild (λ (f : ChildFacts). f .entries ≤ 8) (λ f h. h .entries) (x .facts .children) (l .facts .children);
-      rows = each-weaker LegalRow (RowWithin 65535 4294967295) row-within (x .facts .rows) (l .facts .rows);
+      rows = each-weaker LegalRow (RowWithin 65535) row-within (x .facts .rows) (l .facts .rows);
       sets = l .facts .sets ∙ ap twoTo (sym (worked-same t));
       masks = l .facts .masks;
     }
 
 pub read-sizes : (s : List ℕ) (x : PlanSheet) → readPlan s ≡ sheet x → SizedPlan 65535 4294967295 x
 read-sizes s x e = legal-sizes x (plan-read-legal s x e)
+
+-- what of a sheet comes into its answer
+pub sized-facts : (x : PlanSheet) → SizedPlan 65535 4294967295 x → SizedFacts 65535 4294967295 (x .facts) (x .plan)
+sized-facts x z = record { plan = z .operators; rows = z .rows; children = z .entries }

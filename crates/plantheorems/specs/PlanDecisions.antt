@@ -1,19 +1,14 @@
--- The decision on the bytes of a D sheet, and what turns it back: a line, the sheet, or the work.
+-- What turns a D sheet back: a line, the sheet, or the work; and what its answer is.
 -- Renders document 01, "Where a sheet is turned back": numbers 9 and 11, after those of place Line and Sheet.
 use mathlib.Core.Path.{_≡_}
 use mathlib.Core.Logic.{_⊎_}
 use Prim.Native.Nat.{ℕ}
 use mathlib.Core.List.{List}
 use Rattle.exchange.specs.Ensure.{Answer, missingRow, unenforceable, answered, ensured}
-use Rattle.sheet.specs.KeySheets.{Reading, sheet, turned}
+use Rattle.sheet.specs.KeySheets.{sheet}
 use Rattle.plansheet.specs.PlanSheets.{PlanSheet, readPlan}
-use Rattle.plansheet.specs.PlanAnswers.{planAnswer}
+use Rattle.plananswer.specs.PlanTexts.{planAnswerText}
 use Rattle.plantheorems.specs.PlanRefusals.{PlanTurned}
-
--- the answer on a sheet that was read
-abbrev pub answerOn : Reading PlanSheet → Reading Answer
-answerOn (turned n l) = turned n l
-answerOn (sheet x) = planAnswer x
 
 module _ (s : List ℕ) where
   -- an X row is needed and missing: number 9, line 0
@@ -35,8 +30,10 @@ module _ (s : List ℕ) where
   abbrev pub DecisionTurned : ℕ → ℕ → Type 0
   DecisionTurned n l = PlanTurned s n l ⊎ (RowMissing n l ⊎ Unenforceable n l)
 
-  -- the sheet was read, and this is its answer
-  pub record PlanAnswered (a : Answer) : Type 0 where
+  -- the sheet was read and answered, and these are the answer's bytes
+  pub record PlanAnswered (bytes : List ℕ) : Type 0 where
     pub is : PlanSheet
     pub reads : readPlan s ≡ sheet is
-    pub answers : ensured (is .settings) (is .facts) (is .plan) ≡ answered a
+    pub answer : Answer
+    pub answers : ensured (is .settings) (is .facts) (is .plan) ≡ answered answer
+    pub text : bytes ≡ planAnswerText answer

@@ -1,6 +1,6 @@
 use native.Mathlib.Omega.{arith}
 use Rattle.plansheet.specs.PlanSheets.{readPlan}
-use Rattle.lochkave.specs.Decision.{planDecision}
+use Rattle.plananswer.specs.PlanDecision.{planDecision}
 use Rattle.lochkave.proofs.PlanBounded.{plan-turned-few}
 use Rattle.lochkave.proofs.Entries.{leaves-refused}
 use Rattle.lochkave.proofs.PlanEntries.{plan-was-turned, plan-was-held, plan-turned, plan-held, room-holds, room-held}
