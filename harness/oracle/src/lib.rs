@@ -1,0 +1,62 @@
+//! The oracle: enforce_distribution.rs (000), utils.rs (001) and output_requirements.rs (002) as they are, compiled over stand-ins that
+//! carry a sheet's facts. An accepted sheet goes in, the answer of document 01 comes out. The decisions are the files' own; reading the
+//! sheet and labelling the result are the harness's.
+
+// The names under which the files import the stand-ins.
+extern crate standins as arrow;
+extern crate standins as datafusion_common;
+extern crate standins as datafusion_execution;
+extern crate standins as datafusion_expr;
+extern crate standins as datafusion_physical_expr;
+extern crate standins as datafusion_physical_expr_common;
+extern crate standins as datafusion_physical_plan;
+extern crate standins as itertools;
+
+#[cfg(files)]
+include!(concat!(env!("OUT_DIR"), "/files.rs"));
+
+#[cfg(files)]
+mod build;
+#[cfg(files)]
+mod exchanges;
+#[cfg(files)]
+mod inputs;
+#[cfg(files)]
+mod keys;
+#[cfg(files)]
+mod label;
+#[cfg(files)]
+mod sheet;
+
+/// What 002 imports from its own crate.
+#[cfg(files)]
+pub trait PhysicalOptimizerRule {
+    fn optimize(
+        &self,
+        plan: std::sync::Arc<dyn standins::ExecutionPlan>,
+        config: &standins::config::ConfigOptions,
+    ) -> standins::Result<std::sync::Arc<dyn standins::ExecutionPlan>>;
+    fn name(&self) -> &str;
+    fn schema_check(&self) -> bool;
+}
+
+/// Whether the three files were at hand when this was built.
+pub const AVAILABLE: bool = cfg!(files);
+
+/// The answer to an accepted sheet, or `e,number,0` for refusals 9, 10 and 11.
+#[cfg(files)]
+pub fn decide(text: &[u8]) -> Vec<u8> {
+    let sheet = sheet::Sheet::read(text);
+    let answer = match text[0] {
+        b'K' => keys::decide(&sheet),
+        b'I' => inputs::decide(&sheet),
+        _ => exchanges::decide(&sheet),
+    };
+    let answer = answer.unwrap_or_else(|number| format!("e,{number},0\n"));
+    answer.into_bytes()
+}
+
+#[cfg(not(files))]
+pub fn decide(_: &[u8]) -> Vec<u8> {
+    panic!("the three files were not at hand: see AVAILABLE")
+}
