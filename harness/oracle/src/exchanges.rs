@@ -218,7 +218,7 @@ impl Exchange {
 
     fn plan(&self, at: usize, node: Node) -> Plan {
         let tree = &self.trees[at];
-        let expr = LexOrdering::numbered(tree.order);
+        let expr = LexOrdering::numbered(0);
         let inputs = || [Arc::clone(&node.children[0]), Arc::clone(&node.children[1])];
         match tree.kind {
             0 if tree.children == 2 && at % 2 == 0 => hash_join(vec![], 1, 0, inputs(), node),

@@ -275,8 +275,13 @@ impl SortPreservingMergeExec {
         self
     }
 
+    /// The order of its T line, or of its row where it was split; the one that a file gave it where a file made it.
     pub fn expr(&self) -> &LexOrdering {
-        &self.expr
+        let stated = self.node.properties.equivalence_properties().order.as_ref();
+        match self.node.id {
+            0 => &self.expr,
+            _ => stated.unwrap_or(&self.expr),
+        }
     }
 }
 

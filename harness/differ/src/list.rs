@@ -1,0 +1,4 @@
+use std::process::ExitCode;
+pub fn write() -> ExitCode {
+    ExitCode::SUCCESS
+}
