@@ -16,11 +16,12 @@ use standins::repartition::RepartitionExec;
 use standins::sorts::sort::SortExec;
 use standins::sorts::sort_preserving_merge::SortPreservingMergeExec;
 use standins::stats::Precision;
+use standins::tree_node::Transformed;
 use standins::union::UnionExec;
 use standins::windows::{BoundedWindowAggExec, WindowAggExec};
 use standins::{
     Distribution, EquivalenceProperties, LexOrdering, Node, Operator, OrderingRequirements,
-    Partitioning, PhysicalExprRef, PlanProperties,
+    Partitioning, PhysicalExprRef, PlanProperties, Result,
 };
 use std::cell::{Cell, RefCell};
 use std::num::NonZeroUsize;
@@ -297,15 +298,27 @@ fn output_requirement(mut node: Node) -> Plan {
     Arc::new(OutputRequirementExec::new(input, order, need, fetch))
 }
 
-pub fn decide(sheet: &Sheet) -> Result<String, u64> {
+/// A sheet's plans after `ensure_distribution`, and what that returned.
+fn ensured(sheet: &Sheet) -> (Exchange, Result<Transformed<DistributionContext>>) {
     let d = sheet.line(b'D').numbers();
     let exchange = Exchange::read(sheet, d[0] as usize);
-    let leaf = exchange.trees.len() == 1;
     let context = exchange.context(0, None);
     let ensured = ensure_distribution(context, &settings(&d));
+    (exchange, ensured)
+}
+
+pub fn decide(sheet: &Sheet) -> Result<String, u64> {
+    let (exchange, ensured) = ensured(sheet);
+    let leaf = exchange.trees.len() == 1;
     if exchange.facts.missing.get() && !leaf {
         return Err(9);
     }
     let ensured = ensured.map_err(|_| 11u64)?;
     Ok(label::written(&exchange, &ensured))
+}
+
+pub fn forms(sheet: &Sheet) -> Vec<Vec<usize>> {
+    let (exchange, _) = ensured(sheet);
+    let passed = exchange.facts.passed.iter();
+    passed.map(|forms| forms.borrow().clone()).collect()
 }

@@ -56,6 +56,17 @@ pub fn decide(text: &[u8]) -> Vec<u8> {
     answer.into_bytes()
 }
 
+/// The forms that each child of the worked node of an accepted D sheet passes through.
+#[cfg(files)]
+pub fn forms(text: &[u8]) -> Vec<Vec<usize>> {
+    exchanges::forms(&sheet::Sheet::read(text))
+}
+
+#[cfg(not(files))]
+pub fn forms(_: &[u8]) -> Vec<Vec<usize>> {
+    vec![]
+}
+
 #[cfg(not(files))]
 pub fn decide(_: &[u8]) -> Vec<u8> {
     panic!("the three files were not at hand: see AVAILABLE")
