@@ -174,6 +174,9 @@ impl Run {
     }
 
     pub fn report(&self) {
+        for (block, count) in oracle::coverage::blocks() {
+            println!("block {block} {count}");
+        }
         self.reach.print();
         println!("\ncompared:");
         for (what, count) in &self.compared {

@@ -40,6 +40,23 @@ pub trait PhysicalOptimizerRule {
     fn schema_check(&self) -> bool;
 }
 
+/// How often each block was come by, in a copy of the files that has probes: see harness/coverage.py.
+pub mod coverage {
+    use std::sync::atomic::{AtomicU64, Ordering};
+
+    static SEEN: [AtomicU64; 6000] = [const { AtomicU64::new(0) }; 6000];
+
+    pub fn seen(block: usize) {
+        SEEN[block].fetch_add(1, Ordering::Relaxed);
+    }
+
+    /// Blocks that were come by, with how often.
+    pub fn blocks() -> impl Iterator<Item = (usize, u64)> {
+        let counts = SEEN.iter().map(|count| count.load(Ordering::Relaxed));
+        counts.enumerate().filter(|(_, count)| *count > 0)
+    }
+}
+
 /// Whether the three files were at hand when this was built.
 pub const AVAILABLE: bool = cfg!(files);
 
