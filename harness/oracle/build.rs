@@ -20,6 +20,7 @@ fn main() {
     for file in &files {
         println!("cargo:rerun-if-changed={}", file.display());
     }
+    println!("cargo:rustc-env=DISTRIBUTION={}", files[0].display());
     if !files.iter().all(|file| file.exists()) {
         println!("cargo:warning=the three files are not at hand: the oracle is NOT built");
         return;

@@ -38,7 +38,11 @@ fn race_one(sheets: &[Vec<u8>]) -> [f64; 4] {
     let exchange = sheets[0][0] == b'D';
     let (mut plain_out, mut exact_out, mut ours) = (vec![0; MOST], vec![0; MOST], vec![0; MOST]);
     let (mut plain_room, mut exact_room) = (Room::new(), Room::new());
-    let library = if exchange && !lochkave::DECIDES_D { 0 } else { ROUNDS };
+    let library = if exchange && !lochkave::DECIDES_D {
+        0
+    } else {
+        ROUNDS
+    };
     let files = if oracle::AVAILABLE { FILE_ROUNDS } else { 0 };
     let mut sides: Vec<(Decide, usize)> = vec![
         (
@@ -73,7 +77,9 @@ fn row(name: &str, sheets: &[Vec<u8>]) {
 }
 
 fn head(what: &str) {
-    println!("\n| {what} | bytes | plain Rust | exact length first | proved library | three files |");
+    println!(
+        "\n| {what} | bytes | plain Rust | exact length first | proved library | three files |"
+    );
     println!("|---|---|---|---|---|---|");
 }
 
@@ -160,10 +166,16 @@ pub fn race() -> ExitCode {
     head("sheets");
     row("K small: 1 pair", &repeat(|| key_join(random, 1, 0)));
     row("K typical: 4 pairs", &repeat(|| key_join(random, 4, 2)));
-    row("K largest: 32 pairs, 32 rules", &repeat(|| key_join(random, 32, 32)));
+    row(
+        "K largest: 32 pairs, 32 rules",
+        &repeat(|| key_join(random, 32, 32)),
+    );
     row("I small: 1 pair", &repeat(|| input_join(random, 1, 0)));
     row("I typical: 4 pairs", &repeat(|| input_join(random, 4, 2)));
-    row("I largest: 32 pairs, 32 rules", &repeat(|| input_join(random, 32, 32)));
+    row(
+        "I largest: 32 pairs, 32 rules",
+        &repeat(|| input_join(random, 32, 32)),
+    );
     row("D small: 2 or 3 operators", &exchanges(random, 2..=3));
     row("D typical: 6 to 12 operators", &exchanges(random, 6..=12));
     row("D large: 60 to 256 operators", &exchanges(random, 60..=256));
@@ -172,7 +184,10 @@ pub fn race() -> ExitCode {
         row(&format!("K, {n} pairs"), &repeat(|| key_join(random, n, 0)));
     }
     for (from, to) in [(1, 4), (5, 8), (9, 16), (17, 32), (41, 80), (81, 160)] {
-        row(&format!("D, {from} to {to} operators"), &exchanges(random, from..=to));
+        row(
+            &format!("D, {from} to {to} operators"),
+            &exchanges(random, from..=to),
+        );
     }
     ExitCode::SUCCESS
 }

@@ -60,6 +60,10 @@ pub mod coverage {
 /// Whether the three files were at hand when this was built.
 pub const AVAILABLE: bool = cfg!(files);
 
+/// The file 000, and the copy of it that is compiled.
+pub const DISTRIBUTION: &str = env!("DISTRIBUTION");
+pub const COMPILED_DISTRIBUTION: &str = concat!(env!("OUT_DIR"), "/enforce_distribution.rs");
+
 /// The answer to an accepted sheet, or `e,number,0` for refusals 9, 10 and 11.
 #[cfg(files)]
 pub fn decide(text: &[u8]) -> Vec<u8> {

@@ -117,7 +117,7 @@ fn operator(random: &mut Random) -> u64 {
     random.of(&[0, 0, 0, 1, 2, 2, 2, 3, 3, 3, 4, 5, 6])
 }
 
-/// What an operator requires, often what it can be given.
+/// What an operator requires, often what it can be given; of an aggregate also a placeholder, which takes a place again.
 fn required(
     random: &mut Random,
     op: u64,
@@ -128,6 +128,13 @@ fn required(
     let columns: Vec<Expr> = (0..).zip(o).map(|(i, name)| [0, *name, i]).collect();
     match op {
         _ if random.below(10) == 0 => vec![],
+        3 if o.len() > 1 && random.below(4) == 0 => {
+            let mut r = columns;
+            shuffle(random, &mut r);
+            let place = 1 + random.place(r.len() - 1);
+            r[place] = PLACEHOLDER;
+            r
+        }
         3 => asked(random, &columns, &columns, names),
         _ => asked(random, pairs.0, pairs.1, names),
     }

@@ -70,8 +70,8 @@ pub fn some_sheet(random: &mut Random) -> Sheet {
         planned: random.below(2) == 0,
     };
     match random.below(8) {
-        0 | 1 => key_sheet(random, manner),
-        2 => input_sheet(random, manner),
+        0..3 => key_sheet(random, manner),
+        3 => input_sheet(random, manner),
         _ => exchange_sheet(random, manner),
     }
 }
