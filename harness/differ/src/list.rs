@@ -73,7 +73,8 @@ fn candidates() -> Vec<(Case, Vec<String>)> {
     all
 }
 
-/// The shortest sheets that show a feature that none before them shows, or one before them, and so on until the list is full.
+/// The shortest sheets that show a feature that none before them shows; then decided ones that show one that one before them shows, and so
+/// on until the list is full.
 fn chosen() -> Vec<Case> {
     let mut left = candidates();
     let mut seen: HashMap<String, u32> = HashMap::new();
@@ -82,7 +83,8 @@ fn chosen() -> Vec<Case> {
         let mut rest = vec![];
         for (case, shown) in left {
             let new = shown.iter().any(|f| seen.get(f).is_none_or(|n| *n < often));
-            if !new || cases.len() >= LISTED && often > 1 {
+            let wanted = often == 1 || cases.len() < LISTED && case.answer[0] != b'e';
+            if !new || !wanted {
                 rest.push((case, shown));
                 continue;
             }
