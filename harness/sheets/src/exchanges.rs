@@ -113,7 +113,8 @@ impl Maker<'_> {
 
     /// A child's tree of at most so many lines.
     fn under(&mut self, room: usize) {
-        let leaf = room < 4 || self.random.below(3) == 0;
+        let roomy = self.manner.large && room > 8;
+        let leaf = room < 4 || !roomy && self.random.below(3) == 0;
         let kind = match self.random.below(12) {
             _ if leaf => self.random.of(&[0, 0, 0, 9]),
             0..3 => 1,
@@ -124,7 +125,9 @@ impl Maker<'_> {
         };
         let children = match leaf {
             true => 0,
-            false => fan(self.random, kind, self.manner.large).min(room as u64 / 4),
+            false => fan(self.random, kind, self.manner.large)
+                .max(roomy as u64)
+                .min(room as u64 / 4),
         };
         let fits = match kind {
             0 | 9 => true,
