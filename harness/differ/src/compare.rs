@@ -1,6 +1,7 @@
 //! A run: what was compared, what differed, what excused it.
 
 use crate::excuses::EXCUSES;
+use crate::judge::judge;
 use crate::reach::Reach;
 use crate::sides::{MOST, Sides, WRONG_LINE_1, files, printed};
 use lochkave::Question;
@@ -114,6 +115,17 @@ impl Run {
         false
     }
 
+    /// Compares plain Rust's refusal by 1 to 8, or that it has none, with that of the table of lines.
+    fn judge(&mut self, sheet: &[u8], plain: u64) {
+        let refusal = Some((plain >> 32, plain & 0xffffffff));
+        let refusal = refusal.filter(|(number, _)| (1..=8).contains(number));
+        let judged = judge(sheet);
+        if judged != refusal {
+            let said = format!("table: {judged:?}, plain Rust: {refusal:?}");
+            self.differ("the table of lines and plain Rust", sheet, said);
+        }
+    }
+
     /// Compares on a sheet that must be accepted: with much room, with exact room and one byte less, and written again.
     pub fn accepted(&mut self, what: &str, sheet: &[u8]) {
         self.count(what);
@@ -129,6 +141,7 @@ impl Run {
         let result = self.library(Question::Decide, sheet, MOST);
         *self.refusals.entry(result >> 32).or_default() += 1;
         self.files(sheet, result);
+        self.judge(sheet, result);
         if result >> 32 == 0 {
             self.library(Question::Decide, sheet, result as usize);
             self.library(Question::Decide, sheet, result as usize - 1);
@@ -143,6 +156,7 @@ impl Run {
         if matches!(result >> 32, 0 | 9 | 10 | 11) {
             self.files(text, result);
         }
+        self.judge(text, result);
         for question in Question::ALL {
             self.library(question, text, room);
         }

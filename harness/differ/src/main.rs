@@ -9,6 +9,7 @@
 
 mod compare;
 mod excuses;
+mod judge;
 mod list;
 mod race;
 mod reach;

@@ -13,7 +13,10 @@ fn some_number(random: &mut Random) -> u64 {
 
 /// Another number, a field more or less, many fields more.
 fn damage_fields(random: &mut Random, fields: &mut Vec<Option<u64>>) {
-    let k = random.place(fields.len() + 1);
+    let k = match random.below(4) {
+        0 => 0,
+        _ => random.place(fields.len() + 1),
+    };
     match random.below(8) {
         0 if k < fields.len() => {
             fields.remove(k);
