@@ -88,31 +88,29 @@ impl Run {
         self.reach.note(sheet, &theirs);
         self.count("of these, asked of the three files");
         let answer = files(sheet);
-        if answer == theirs {
-            return;
+        let expected = self.seen_by_files(sheet, &theirs, &answer);
+        if answer != expected {
+            let said = format!(
+                "files: {}plain Rust: {}",
+                String::from_utf8_lossy(&answer),
+                String::from_utf8_lossy(&expected)
+            );
+            self.differ("the files and plain Rust", sheet, said);
         }
-        if self.excuse(sheet, &answer) {
-            return;
-        }
-        let said = format!(
-            "files: {}plain Rust: {}",
-            String::from_utf8_lossy(&answer),
-            String::from_utf8_lossy(&theirs)
-        );
-        self.differ("the files and plain Rust", sheet, said);
     }
 
-    /// Whether a predicate excuses this answer of the files: it is the one to the sheet that they see.
-    fn excuse(&mut self, sheet: &[u8], answer: &[u8]) -> bool {
+    /// What the files must answer: plain Rust's answer, or where a predicate applies the one to the sheet that they see in its place.
+    fn seen_by_files(&mut self, sheet: &[u8], theirs: &[u8], answer: &[u8]) -> Vec<u8> {
         for (name, seen) in EXCUSES {
             let Some(seen) = seen(sheet) else { continue };
             let result = self.sides.plain(Question::Decide, &seen, MOST);
-            if result.is_some_and(|result| printed(result, &self.sides.theirs) == answer) {
+            let expected = result.map_or(vec![], |result| printed(result, &self.sides.theirs));
+            if answer != theirs && answer == expected {
                 *self.excused.entry(name).or_default() += 1;
-                return true;
             }
+            return expected;
         }
-        false
+        theirs.to_vec()
     }
 
     /// Compares plain Rust's refusal by 1 to 8, or that it has none, with that of the table of lines.

@@ -2,7 +2,7 @@
 
 use crate::sides::MOST;
 use plain::Room;
-use sheets::{Line, Manner, Random, Sheet, exchange_sheet};
+use sheets::{Line, Random, Sheet};
 use std::hint::black_box;
 use std::process::ExitCode;
 use std::time::Instant;
@@ -70,6 +70,11 @@ fn cell(time: f64, base: f64) -> String {
 }
 
 fn row(name: &str, sheets: &[Vec<u8>]) {
+    let (mut out, mut room) = (vec![0; MOST], Room::new());
+    for sheet in sheets {
+        let result = plain::decide(sheet, &mut out, &mut room);
+        assert!(result >> 32 == 0, "{name} is refused: {result:x}");
+    }
     let bytes = sheets.iter().map(Vec::len).sum::<usize>() / sheets.len();
     let times = race_one(sheets);
     let cells: Vec<String> = times.iter().map(|time| cell(*time, times[0])).collect();
@@ -137,24 +142,57 @@ fn input_join(random: &mut Random, n: usize, rules: usize) -> Vec<u8> {
     .text()
 }
 
-/// D sheets that are decided, of so many T lines.
-fn exchanges(random: &mut Random, lines: std::ops::RangeInclusive<usize>) -> Vec<Vec<u8>> {
-    let manner = Manner {
-        large: *lines.end() > 40,
-        planned: true,
+/// A row of a child: hashed, exact where an exchange is on top, an order before and none required.
+fn row_line(child: u64, form: u64, target: u64) -> Line {
+    let exchanged = (form >= 8 || form >> 1 == 2) as u64;
+    let count = match form {
+        0 => 8,
+        1 => 12,
+        2 | 3 => 1,
+        _ => target,
     };
-    let (mut out, mut room) = (vec![0; MOST], Room::new());
-    let mut sheets = vec![];
-    while sheets.len() < SHEETS {
-        let sheet = exchange_sheet(random, manner);
-        let trees = sheet.0.iter().filter(|line| line.letter == b'T').count();
-        let text = sheet.text();
-        if lines.contains(&trees) && plain::decide(&text, &mut out, &mut room) >> 32 == 0 {
-            sheets.push(text);
+    let facts = [exchanged, exchanged, exchanged, exchanged, 1, 0, 0, 0, 1, 1];
+    Line::new(b'X', [child, form, count].into_iter().chain(facts))
+}
+
+/// A join of two keyed children, or a union of more, over chains of operators that keep order: split, exchanged and replaced.
+fn exchange(random: &mut Random, children: u64, under: usize, forms: &[u64]) -> Vec<u8> {
+    let (target, batch) = (16, 8192);
+    let (kind, need) = if children == 2 { (5, 2) } else { (9, 0) };
+    let tree = |kind: u64, keeps: u64, order: u64, need: u64, children: u64| {
+        let fields = [kind, 8, keeps, 0, order, 1, need, children].map(Some);
+        let mut line = Line::new(b'T', []);
+        line.fields = fields.to_vec();
+        line.fields[3] = None;
+        line
+    };
+    let mut lines = vec![
+        Line::new(b'D', [target, 1, 1, batch, 1, 4, 0, 0, 1]),
+        tree(kind, 0, 0, 0, children),
+    ];
+    for _ in 0..children {
+        for i in 0..under {
+            let need = if i == 0 { need } else { 0 };
+            let last = i + 1 == under;
+            let kind = if last { 0 } else { random.of(&[0, 1, 3, 3]) };
+            lines.push(tree(kind, (kind == 3) as u64, 1, need, !last as u64));
         }
     }
-    sheets
+    lines.push(Line::new(b'B', [0, 0, 0, 0]));
+    for _ in 0..children {
+        let rows = batch + 1 + random.below(1000000);
+        lines.push(Line::new(b'F', [1, 0, 0, rows, 0, 1, 0]));
+    }
+    for child in 1..=children {
+        lines.extend(forms.iter().map(|form| row_line(child, *form, target)));
+    }
+    lines.push(Line::new(b'Y', vec![0; 1 << children]));
+    Sheet(lines).text()
 }
+
+/// Forms that a keyed child may pass through, and all.
+const KEYED: [u64; 8] = [0, 1, 4, 5, 8, 9, 12, 13];
+const ALL: [u64; 16] = [0, 1, 2, 3, 4, 5, 6, 7, 8, 9, 10, 11, 12, 13, 14, 15];
 
 fn repeat(mut make: impl FnMut() -> Vec<u8>) -> Vec<Vec<u8>> {
     (0..SHEETS).map(|_| make()).collect()
@@ -176,18 +214,23 @@ pub fn race() -> ExitCode {
         "I largest: 32 pairs, 32 rules",
         &repeat(|| input_join(random, 32, 32)),
     );
-    row("D small: 2 or 3 operators", &exchanges(random, 2..=3));
-    row("D typical: 6 to 12 operators", &exchanges(random, 6..=12));
-    row("D large: 60 to 256 operators", &exchanges(random, 60..=256));
+    row(
+        "D small: 3 operators",
+        &repeat(|| exchange(random, 2, 1, &KEYED)),
+    );
+    row(
+        "D typical: 9 operators",
+        &repeat(|| exchange(random, 2, 4, &KEYED)),
+    );
+    let largest = repeat(|| exchange(random, 8, 31, &ALL));
+    row("D largest: 249 operators, 8 children, every row", &largest);
     head("growth");
     for n in [1, 2, 4, 8, 16, 32] {
         row(&format!("K, {n} pairs"), &repeat(|| key_join(random, n, 0)));
     }
-    for (from, to) in [(1, 4), (5, 8), (9, 16), (17, 32), (41, 80), (81, 160)] {
-        row(
-            &format!("D, {from} to {to} operators"),
-            &exchanges(random, from..=to),
-        );
+    for under in [1, 2, 4, 8, 16, 32, 64, 127] {
+        let name = format!("D, {} operators", 1 + 2 * under);
+        row(&name, &repeat(|| exchange(random, 2, under, &KEYED)));
     }
     ExitCode::SUCCESS
 }
