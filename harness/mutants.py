@@ -98,12 +98,12 @@ def planted(text, old, new):
 
 
 def copy():
-    """A copy of the harness whose neighbours are the repository's."""
+    """A copy of the harness whose neighbours are the repository's. Its files are new, so that cargo doesn't take an earlier mutant's build."""
     harness = WORK / "harness"
     if harness.exists():
         shutil.rmtree(harness)
     WORK.mkdir(parents=True, exist_ok=True)
-    shutil.copytree(TOP / "harness", harness, ignore=shutil.ignore_patterns("target"))
+    shutil.copytree(TOP / "harness", harness, ignore=shutil.ignore_patterns("target"), copy_function=shutil.copy)
     for name in ("examples", "crates", "target"):
         if not (WORK / name).exists():
             (WORK / name).symlink_to(TOP / name)
@@ -129,7 +129,7 @@ def in_files(name, path, old, new, harness):
     sources = WORK / "sources"
     if sources.exists():
         shutil.rmtree(sources)
-    shutil.copytree(SOURCES, sources)
+    shutil.copytree(SOURCES, sources, copy_function=shutil.copy)
     for file in [sources, *sources.rglob("*")]:
         file.chmod(0o755)
     file = sources / path
