@@ -222,13 +222,15 @@ impl Exchange {
         let expr = LexOrdering::numbered(0);
         let inputs = || [Arc::clone(&node.children[0]), Arc::clone(&node.children[1])];
         match tree.kind {
-            0 if tree.children == 2 && at % 2 == 0 => hash_join(vec![], 1, 0, inputs(), node),
+            0 if tree.children == 2 && at.is_multiple_of(2) => {
+                hash_join(vec![], 1, 0, inputs(), node)
+            }
             1 => Arc::new(SortPreservingMergeExec { node, expr }),
             2 => Arc::new(CoalescePartitionsExec { node }),
             3 | 4 => repartition(tree, at, node),
             5 => hash_join(vec![], 0, 0, inputs(), node),
             6 => sort_merge_join(vec![], &[], inputs(), node),
-            7 if at % 2 == 0 => Arc::new(WindowAggExec {
+            7 if at.is_multiple_of(2) => Arc::new(WindowAggExec {
                 node,
                 empty: vec![],
             }),

@@ -1,6 +1,6 @@
 //! I sheets: `reorder_join_keys_to_inputs`.
 
-use crate::build::{Plan, hash_join, join_of, operator, pairs, rewriting, sort_merge_join};
+use crate::build::{Pairs, Plan, hash_join, join_of, operator, pairs, rewriting, sort_merge_join};
 use crate::enforce_distribution::{positions_by_inputs, positions_of, reorder_join_keys_to_inputs};
 use crate::sheet::{Line, Sheet, put, put_exprs};
 use standins::execution_plan::{Boundedness, EmissionType};
@@ -24,6 +24,21 @@ fn input(keys: &Line, rules: &Line) -> Plan {
     })
 }
 
+/// Report, followed side and positions, where an order is tried.
+fn tried(sheet: &Sheet, on: &Pairs, left: &Plan, right: &Plan) -> (u64, u64, Vec<usize>) {
+    let (h, n) = (sheet.line(b'H'), sheet.line(b'N'));
+    if !hashed(h) && !hashed(n) {
+        return (0, 0, vec![]);
+    }
+    let Some(positions) = positions_by_inputs(on, left, right) else {
+        return (3, 0, vec![]);
+    };
+    let equivalences = left.equivalence_properties();
+    let by_left = hashed(h) && positions_of(on, &h.exprs(1), equivalences).is_some();
+    let report = if positions.is_empty() { 1 } else { 2 };
+    (report, if by_left { 1 } else { 2 }, positions)
+}
+
 pub fn decide(sheet: &Sheet) -> Result<String, u64> {
     let [op, mode] = sheet.line(b'I').numbers()[..] else {
         unreachable!("an accepted sheet")
@@ -38,18 +53,9 @@ pub fn decide(sheet: &Sheet) -> Result<String, u64> {
         2 => sort_merge_join(on.clone(), &directions, inputs, node),
         _ => operator(),
     };
-    let tried = (op == 2 || op == 0 && mode == 0) && (hashed(h) || hashed(n));
-    let positions = tried.then(|| positions_by_inputs(&on, &left, &right));
-    let by_left =
-        || hashed(h) && positions_of(&on, &h.exprs(1), left.equivalence_properties()).is_some();
-    let (report, followed, positions) = match positions {
-        None => (0, 0, vec![]),
-        Some(None) => (3, 0, vec![]),
-        Some(Some(p)) => (
-            if p.is_empty() { 1 } else { 2 },
-            if by_left() { 1 } else { 2 },
-            p,
-        ),
+    let (report, followed, positions) = match (op, mode) {
+        (0, 0) | (2, _) => tried(sheet, &on, &left, &right),
+        _ => (0, 0, vec![]),
     };
     let plan = reorder_join_keys_to_inputs(plan).unwrap();
     // An operator that is no join hands its lists back.

@@ -89,7 +89,7 @@ impl Labels<'_> {
     }
 
     /// The line of a merge or exchange that a file put on a child, by the row of its form.
-    fn new(&mut self, context: &DistributionContext, child: usize, form: usize) {
+    fn added(&mut self, context: &DistributionContext, child: usize, form: usize) {
         let row = self.exchange.facts.row(child, form);
         let plan = &context.plan;
         let (kind, keeps) = match plan.downcast_ref::<RepartitionExec>() {
@@ -148,7 +148,7 @@ impl Labels<'_> {
             if context.plan.is::<SortExec>() {
                 self.sort(context);
             } else if taken < new {
-                self.new(context, child, forms[taken]);
+                self.added(context, child, forms[taken]);
                 taken += 1;
             } else {
                 self.kept(context, at + taken - new);

@@ -2,6 +2,9 @@
 //! carry a sheet's facts. An accepted sheet goes in, the answer of document 01 comes out. The decisions are the files' own; reading the
 //! sheet and labelling the result are the harness's.
 
+// The files hold plans in `Arc`; here they stay in one thread.
+#![allow(clippy::arc_with_non_send_sync)]
+
 // The names under which the files import the stand-ins.
 extern crate standins as arrow;
 extern crate standins as datafusion_common;

@@ -140,17 +140,23 @@ fn required(
     }
 }
 
-pub fn key_sheet(random: &mut Random, manner: Manner) -> Sheet {
-    let names = names(random, manner);
-    let (n, op) = (size(random, manner), operator(random));
-    let mode = mode(random, op);
-    let (l, g) = (some_keys(random, n, names), some_keys(random, n, names));
-    let o: Vec<u64> = (0..n).map(|_| random.below(names)).collect();
-    let r = required(random, op, (&l, &g), &o, names);
-    let mapped = (r.len() + random.of(&[0, 0, 0, 1])).min(MOST_ENTRIES);
-    let m = some_keys(random, mapped, names);
-    let known: Vec<Expr> = l.iter().chain(&g).chain(&r).copied().collect();
-    let w = rules(random, manner, &known, names);
+/// Empties the lists that an operator doesn't use.
+fn used_only(op: u64, mode: u64, lines: &mut [Line]) {
+    let ordered = op == 2 || op == 0 && mode == 0;
+    for line in lines {
+        let used = match line.letter {
+            b'L' | b'G' | b'W' => ordered,
+            b'O' | b'A' => op == 3,
+            b'M' => op == 4,
+            _ => true,
+        };
+        if !used {
+            line.fields.clear();
+        }
+    }
+}
+
+fn head(random: &mut Random, op: u64, mode: u64) -> [u64; 7] {
     let children = match op {
         0..=2 => 2,
         3..=5 => 1,
@@ -159,30 +165,38 @@ pub fn key_sheet(random: &mut Random, manner: Manner) -> Sheet {
     let join = if op == 0 { random.below(10) } else { 0 };
     let (plain, partial) = (random.mark(7), random.mark(6));
     let left = random.of(&[0, 0, 1, 2, 3, 4]);
-    let a: Vec<u64> = (0..size(random, manner))
-        .map(|_| random.below(names))
-        .collect();
-    let ordered = op == 2 || op == 0 && mode == 0;
-    let only = |used: bool, list: Line| {
-        if used {
-            list
-        } else {
-            Line::new(list.letter, [])
-        }
+    [op, mode, join, left, plain, partial, children]
+}
+
+pub fn key_sheet(random: &mut Random, manner: Manner) -> Sheet {
+    let names = names(random, manner);
+    let (n, op) = (size(random, manner), operator(random));
+    let head = {
+        let mode = mode(random, op);
+        head(random, op, mode)
     };
-    let head = [op, mode, join, left, plain, partial, children];
+    let (l, g) = (some_keys(random, n, names), some_keys(random, n, names));
+    let o: Vec<u64> = (0..n).map(|_| random.below(names)).collect();
+    let count = size(random, manner);
+    let a: Vec<u64> = (0..count).map(|_| random.below(names)).collect();
+    let r = required(random, op, (&l, &g), &o, names);
+    let mapped = (r.len() + random.of(&[0, 0, 0, 1])).min(MOST_ENTRIES);
+    let m = some_keys(random, mapped, names);
+    let known: Vec<Expr> = l.iter().chain(&g).chain(&r).copied().collect();
+    let w = rules(random, manner, &known, names);
     let mut lines = vec![
         Line::new(b'K', head),
         line(b'R', &r),
-        only(ordered, line(b'L', &l)),
-        only(ordered, line(b'G', &g)),
+        line(b'L', &l),
+        line(b'G', &g),
         directions(random, op, n),
-        only(ordered, line(b'W', &w)),
-        only(op == 3, Line::new(b'O', o)),
-        only(op == 3, Line::new(b'A', a)),
-        only(op == 4, line(b'M', &m)),
+        line(b'W', &w),
+        Line::new(b'O', o),
+        Line::new(b'A', a),
+        line(b'M', &m),
     ];
-    for _ in 0..children {
+    used_only(op, head[1], &mut lines);
+    for _ in 0..head[6] {
         let n = random.place(3);
         lines.push(line(b'C', &some_keys(random, n, names)));
     }

@@ -71,7 +71,7 @@ impl Partitioning {
             return Partitioning::Hash(HashKeys { exprs, count }, target);
         }
         match row.layout {
-            0 if count % 2 == 0 => Partitioning::RoundRobinBatch(count),
+            0 if count.is_multiple_of(2) => Partitioning::RoundRobinBatch(count),
             _ if count == target => Partitioning::UnknownPartitioning(count),
             0 => Partitioning::UnknownPartitioning(count),
             _ => Partitioning::Hash(HashKeys { exprs, count }, count),

@@ -3,6 +3,9 @@
 //! crate all of those names. Modules, types and functions have the names that the files use; each carries facts of a sheet and decides
 //! nothing. What no sheet reaches is `unreachable!`.
 
+// The files hold plans in `Arc`; here they stay in one thread.
+#![allow(clippy::arc_with_non_send_sync)]
+
 pub mod facts;
 
 mod config_options;
