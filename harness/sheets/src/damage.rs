@@ -11,7 +11,7 @@ fn some_number(random: &mut Random) -> u64 {
     ])
 }
 
-/// Another number, a field more or less, many fields more.
+/// Another number, the other mark, a field more or less, many fields more.
 fn damage_fields(random: &mut Random, fields: &mut Vec<Option<u64>>) {
     let k = match random.below(4) {
         0 => 0,
@@ -27,6 +27,9 @@ fn damage_fields(random: &mut Random, fields: &mut Vec<Option<u64>>) {
             fields.resize(more, Some(random.below(2)));
         }
         3 if k < fields.len() => fields[k] = None,
+        4 | 5 if k < fields.len() && fields[k].is_some_and(|f| f <= 1) => {
+            fields[k] = fields[k].map(|f| 1 - f)
+        }
         _ if k < fields.len() => fields[k] = Some(some_number(random)),
         _ => {}
     }

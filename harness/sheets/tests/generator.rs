@@ -1,6 +1,6 @@
 //! The generator: the same seed gives the same sheets, and sheets stay within document 01's sizes.
 
-use sheets::{Line, Random, Sheet, damage, short_key_sheets, some_sheet};
+use sheets::{Line, Manner, Random, Sheet, damage, exchange_sheet, short_key_sheets, some_sheet};
 
 #[test]
 fn the_same_seed_gives_the_same_sheets() {
@@ -15,10 +15,14 @@ fn the_same_seed_gives_the_same_sheets() {
 
 #[test]
 fn sizes() {
+    let manner = Manner {
+        large: true,
+        planned: false,
+    };
     let mut random = Random::new(3);
     let (mut trees, mut children, mut bytes) = (0, 0, 0);
-    for _ in 0..20_000 {
-        let sheet = some_sheet(&mut random);
+    for _ in 0..3_000 {
+        let sheet = exchange_sheet(&mut random, manner);
         let count = |letter| sheet.0.iter().filter(|l| l.letter == letter).count();
         (trees, children) = (trees.max(count(b'T')), children.max(count(b'F')));
         bytes = bytes.max(sheet.text().len());
