@@ -185,6 +185,17 @@ impl Run {
         self.differences.values().map(|d| d.count).sum()
     }
 
+    /// Outcomes and refusals that a run must reach and that this one didn't.
+    pub fn missed(&self) -> Vec<String> {
+        let unseen = (0..=11).filter(|number| !self.refusals.contains_key(number));
+        let refusals = unseen.map(|number| format!("refusal {number}"));
+        let outcomes = match oracle::AVAILABLE {
+            true => self.reach.missed(),
+            false => vec![],
+        };
+        refusals.chain(outcomes).collect()
+    }
+
     pub fn report(&self) {
         for (block, count) in oracle::coverage::blocks() {
             println!("block {block} {count}");
@@ -206,6 +217,9 @@ impl Run {
             );
             println!("{}", String::from_utf8_lossy(&difference.sheet));
             println!("{}", difference.said);
+        }
+        for what in self.missed() {
+            println!("not reached: {what}");
         }
         println!("{} differences", self.differences());
     }

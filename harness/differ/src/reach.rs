@@ -13,12 +13,74 @@ impl Reach {
         }
     }
 
+    /// What the run should have reached and didn't.
+    pub fn missed(&self) -> Vec<String> {
+        let all = wanted().into_iter();
+        all.filter(|what| !self.0.contains_key(what)).collect()
+    }
+
     pub fn print(&self) {
         println!("\noutcomes reached, and how often:");
         for (what, count) in &self.0 {
             println!("  {count:>8}  {what}");
         }
     }
+}
+
+/// What every run must reach of K and I sheets: an operator and mode, and the verdicts on it.
+const VERDICTS: [(&str, &str); 21] = [
+    ("K,0,0", "k,1,1 k,1,2 k,1,3"),
+    ("K,0,1", "k,1,0"),
+    ("K,0,2", "k,1,0"),
+    ("K,1,0", "k,1,0"),
+    ("K,2,0", "k,1,1 k,1,2 k,1,3"),
+    ("K,3,0", "k,0,0 k,1,0 k,1,2"),
+    ("K,3,1", "k,0,0 k,1,0"),
+    ("K,4,0", "k,1,0"),
+    ("K,5,0", "k,1,0"),
+    ("K,6,0", "k,0,0 k,1,0"),
+    ("I,0,0", "i,0,0 i,1,1 i,1,2 i,2,1 i,2,2 i,3,0"),
+    ("I,0,1", "i,0,0"),
+    ("I,0,2", "i,0,0"),
+    ("I,1,0", "i,0,0"),
+    ("I,2,0", "i,0,0 i,1,1 i,1,2 i,2,1 i,2,2 i,3,0"),
+    ("I,3,0", "i,0,0"),
+    ("I,3,1", "i,0,0"),
+    ("I,4,0", "i,0,0"),
+    ("I,5,0", "i,0,0"),
+    ("I,6,0", "i,0,0"),
+    ("K,0,1 join", "0 1 2 3 4 5 6 7 8 9"),
+];
+
+/// The ways that a child can go through forms.
+const PATHS: &str = "0|0 1|0 2|0 1 3|0 4|0 1 5|0 6|0 1 7|0 8|0 1 9|0 4 12|0 1 5 13";
+
+/// What every run must reach of D sheets.
+const EXCHANGES: &str = "worked kind 0|worked kind 1|worked kind 2|worked kind 5|worked kind 6|worked kind 7|worked kind 8|worked kind 9|\
+worked kind 10|worked kind 11|changed 0|changed 1|window 1|interleave 1|tracked 0|tracked 1|1 becomes 2|3 loses order|4 loses order|\
+split at its source|new 1: keeps 0, no limit, tracked 0|new 1: keeps 0, no limit, tracked 1|new 2: keeps 0, no limit, tracked 0|\
+new 2: keeps 0, no limit, tracked 1|new 11: keeps 0, limit, tracked 0|new 11: keeps 0, no limit, entries, tracked 0|\
+new 11: keeps 0, limit, entries, tracked 0|new 12: keeps 0, no limit, tracked 1|new 12: keeps 1, no limit, tracked 1|\
+new 13: keeps 0, no limit, tracked 1|new 13: keeps 1, no limit, tracked 1";
+
+/// All that every run must reach, as features.
+fn wanted() -> Vec<String> {
+    let verdicts = VERDICTS.iter().flat_map(|(sheet, verdicts)| {
+        let arrow = if sheet.ends_with("join") { "" } else { " ->" };
+        let feature = move |verdict| format!("{sheet}{arrow} {verdict}");
+        verdicts.split(' ').map(feature)
+    });
+    let paths = PATHS.split('|').flat_map(|path| {
+        ["first", "another"].map(|child| format!("D {child} child passes forms {path}"))
+    });
+    let exchanges = EXCHANGES.split('|').map(|what| format!("D {what}"));
+    let work = [(9, 'D'), (10, 'K'), (11, 'D')];
+    let refusals = work.map(|(n, kind)| format!("{kind} refused by {n} for \"the sheet\""));
+    verdicts
+        .chain(paths)
+        .chain(exchanges)
+        .chain(refusals)
+        .collect()
 }
 
 /// The first fields of a line, as text.
