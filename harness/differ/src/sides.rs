@@ -55,6 +55,7 @@ impl Sides {
             Question::Decide => plain::decide(sheet, out, room),
             Question::AdjustInputKeysOrdering => plain::decide_only(b'K', sheet, out, room),
             Question::ReorderJoinKeysToInputs => plain::decide_only(b'I', sheet, out, room),
+            Question::EnsureDistribution => plain::decide_only(b'D', sheet, out, room),
             Question::Rewrite => plain::rewrite(sheet, out, room),
         }));
         let result = result.ok()?;

@@ -19,8 +19,8 @@ use std::fmt;
 /// So many bytes of output suffice for every answer.
 pub const ANSWER_MOST: usize = 65536;
 
-/// Whether the library decides D sheets. Until it does, every function refuses them by 1 on line 1.
-pub const DECIDES_D: bool = false;
+/// Whether the library that was linked decides D sheets. Until it does, they are refused by 1 on line 1.
+pub const DECIDES_D: bool = cfg!(decides_d);
 
 /// Why a sheet was not decided. The output lent is then as it was.
 #[derive(Clone, Copy, Debug, PartialEq, Eq, Hash)]
@@ -85,6 +85,24 @@ unsafe extern "C" {
         out_len: usize,
     ) -> u64;
     fn lochkave_rewrite(sheet: *const u8, sheet_len: usize, out: *mut u8, out_len: usize) -> u64;
+    #[cfg(decides_d)]
+    fn lochkave_ensure_distribution(
+        sheet: *const u8,
+        sheet_len: usize,
+        out: *mut u8,
+        out_len: usize,
+    ) -> u64;
+}
+
+/// Stands for the function that a library without it lacks: every sheet is a wrong line 1.
+#[cfg(not(decides_d))]
+unsafe extern "C" fn lochkave_ensure_distribution(
+    _: *const u8,
+    _: usize,
+    _: *mut u8,
+    _: usize,
+) -> u64 {
+    1 << 32 | 1
 }
 
 /// What is asked of a sheet: one of the library's functions.
@@ -96,15 +114,18 @@ pub enum Question {
     AdjustInputKeysOrdering,
     /// Decide an I sheet; any other is refused by 1 on line 1.
     ReorderJoinKeysToInputs,
+    /// Decide a D sheet; any other is refused by 1 on line 1.
+    EnsureDistribution,
     /// Write the sheet again from what was read of it: the same bytes.
     Rewrite,
 }
 
 impl Question {
-    pub const ALL: [Question; 4] = [
+    pub const ALL: [Question; 5] = [
         Question::Decide,
         Question::AdjustInputKeysOrdering,
         Question::ReorderJoinKeysToInputs,
+        Question::EnsureDistribution,
         Question::Rewrite,
     ];
 
@@ -113,6 +134,7 @@ impl Question {
             Question::Decide => lochkave_decide,
             Question::AdjustInputKeysOrdering => lochkave_adjust_input_keys_ordering,
             Question::ReorderJoinKeysToInputs => lochkave_reorder_join_keys_to_inputs,
+            Question::EnsureDistribution => lochkave_ensure_distribution,
             Question::Rewrite => lochkave_rewrite,
         }
     }

@@ -38,6 +38,9 @@ fn a_question_for_another_kind_of_sheet() {
     let question = Question::ReorderJoinKeysToInputs;
     assert_eq!(ask_into(question, PRINTED, &mut out), Err(refusal(1, 1)));
     assert!(out.iter().all(|b| *b == 126));
+    let question = Question::EnsureDistribution;
+    assert_eq!(ask_into(question, PRINTED, &mut out), Err(refusal(1, 1)));
+    assert!(out.iter().all(|b| *b == 126));
     let question = Question::AdjustInputKeysOrdering;
     assert_eq!(ask_into(question, PRINTED, &mut out), Ok(ANSWER.len()));
 }
@@ -73,4 +76,15 @@ fn every_number_has_a_meaning() {
         .collect();
     assert_eq!(meanings.len(), 12);
     assert_eq!(refusal(13, 0).meaning(), "unknown refusal");
+}
+
+/// A root without children is handed back; a library that decides no D sheets calls the first line wrong.
+#[test]
+fn a_leaf() {
+    let leaf = b"D,4,0,0,8192,0,9,0,0,0\nT,0,1,0,,0,1,0,0\nB,0,0,0,0\nY,0\n";
+    let expected = match lochkave::DECIDES_D {
+        true => Ok(b"d,0,0,0,0\nt,1,0,1,0,,0,0,0,0\n".to_vec()),
+        false => Err(refusal(1, 1)),
+    };
+    assert_eq!(decide(leaf), expected);
 }
