@@ -2,6 +2,7 @@
 //!
 //!     cargo run --release --offline -p differ               the whole run
 //!     cargo run --release --offline -p differ -- --short    the gate's part of it
+//!     cargo run --release --offline -p differ -- --sheets ACCEPTED DAMAGED SEED
 //!     cargo run --release --offline -p differ -- --list     writes the fixed list, tests/oracle.txt
 //!     cargo run --release --offline -p differ -- --race     the benchmark
 //!
@@ -25,7 +26,7 @@ const WHOLE: (u64, u64) = (400_000, 400_000);
 const SHORT: (u64, u64) = (40_000, 40_000);
 const SEED: u64 = 20;
 
-fn differ(accepted: u64, damaged: u64) -> ExitCode {
+fn differ((accepted, damaged): (u64, u64), seed: u64) -> ExitCode {
     if !oracle::AVAILABLE {
         println!("NOT run: the comparison with the three files, which are not at hand");
     }
@@ -37,7 +38,7 @@ fn differ(accepted: u64, damaged: u64) -> ExitCode {
     let mut run = Run::new();
     run.examples();
     sheets::short_key_sheets().for_each(|sheet| run.accepted("short K sheets", &sheet.text()));
-    let mut random = Random::new(SEED);
+    let mut random = Random::new(seed);
     for _ in 0..accepted {
         let sheet = sheets::some_sheet(&mut random);
         run.accepted("accepted sheets", &sheet.text());
@@ -60,9 +61,12 @@ fn main() -> ExitCode {
     let arguments: Vec<String> = std::env::args().skip(1).collect();
     let numbers = |i: usize| arguments.get(i).and_then(|a| a.parse().ok());
     match arguments.first().map(String::as_str) {
-        None => differ(WHOLE.0, WHOLE.1),
-        Some("--short") => differ(SHORT.0, SHORT.1),
-        Some("--sheets") => differ(numbers(1).unwrap_or(0), numbers(2).unwrap_or(0)),
+        None => differ(WHOLE, SEED),
+        Some("--short") => differ(SHORT, SEED),
+        Some("--sheets") => {
+            let sheets = (numbers(1).unwrap_or(0), numbers(2).unwrap_or(0));
+            differ(sheets, numbers(3).unwrap_or(SEED))
+        }
         Some("--list") => list::write(),
         Some("--race") => race::race(),
         Some(other) => {

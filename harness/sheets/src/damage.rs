@@ -53,10 +53,13 @@ fn damage_lines(random: &mut Random, lines: &mut Vec<Line>) {
         }
         3 => lines.truncate(i),
         4 => {
-            for _ in 0..random.below(300) {
-                let line = lines[i].clone();
-                lines.insert(i, line);
-            }
+            // Now and then so often that the sheet goes beyond 65,536 bytes.
+            let times = match random.below(40) {
+                0 => 2000 + random.place(1000),
+                _ => random.place(300),
+            };
+            let copies = vec![lines[i].clone(); times];
+            lines.splice(i..i, copies);
         }
         _ => damage_fields(random, &mut lines[i].fields),
     }
