@@ -34,3 +34,38 @@ pub const EXCUSES: [Excuse; 1] = [(
     "Output requirements that 002 never has (decision 28)",
     output_requirement,
 )];
+
+#[cfg(test)]
+mod tests {
+    use super::output_requirement;
+    use std::{fs, path::Path};
+
+    fn example(name: &str) -> Vec<u8> {
+        let folder = Path::new(env!("CARGO_MANIFEST_DIR")).join("../../examples");
+        fs::read(folder.join(name).with_extension("sheet")).unwrap()
+    }
+
+    #[test]
+    fn output_requirements_that_002_never_has() {
+        for name in [
+            "decision-28-gains",
+            "decision-28-maintains",
+            "decision-28-friendly",
+        ] {
+            assert!(output_requirement(&example(name)).is_some(), "{name}");
+        }
+    }
+
+    #[test]
+    fn other_sheets_are_not_excused() {
+        for name in [
+            "printed",
+            "marked-10",
+            "decision-35-split-of-output-requirement",
+        ] {
+            assert!(output_requirement(&example(name)).is_none(), "{name}");
+        }
+        let plain = example("decision-24-output-requirement");
+        assert!(output_requirement(&plain).is_none());
+    }
+}
