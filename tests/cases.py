@@ -4,14 +4,17 @@
     python3 tests/cases.py            writes both
     python3 tests/cases.py --check    says whether they are what it would write
 
-Three sources, each a sheet with its answer:
+Four sources, each a sheet with its answer:
 - key_cases.py and plan_cases.py: a base sheet, an edit, and the answer, written by hand from document 01 and docs/DECISIONS.md;
 - tests/key_rules.txt: a line `#` that says what fixes the answer, the sheet, the answer, by hand too;
-- examples/: sheets of up to 2,000 bytes.
+- examples/: sheets of up to 2,000 bytes;
+- tests/oracle.stdin and tests/oracle.stdout: the fixed list that `differ --list` of harness/ writes, cases as `replay` reads them, with
+  the answers of the three files over stand-ins, and of plain Rust where a sheet isn't accepted.
 
 An answer stands on one line here, a space for each LF. `fixed` names a row of document 01's table (row 4), a decision of
 docs/DECISIONS.md (decision 9), or cites document 01.
 """
+import re
 import sys
 from pathlib import Path
 
@@ -43,6 +46,18 @@ def examples():
             ROWS.append((path.stem, "examples/", DECIDE, MOST, sheet, path.with_suffix(".answer").read_bytes()))
 
 
+def fixed_list():
+    """The cases of tests/oracle.stdin, with the answers of tests/oracle.stdout."""
+    cases = (TOP / "tests/oracle.stdin").read_bytes()
+    answers = re.split(rb"^# .*\n", (TOP / "tests/oracle.stdout").read_bytes(), flags=re.M)[1:]
+    for answer in answers:
+        name, head, cases = cases.split(b"\n", 2)
+        entry, room, length = head.decode().split(",")
+        sheet, cases = cases[: int(length)], cases[int(length) :]
+        name, fixed = name[2:].decode().split(": ")
+        ROWS.append((name, fixed, entry, int(room), sheet, answer))
+
+
 def written():
     """What `replay` reads, and what it must write."""
     stdin, stdout = [], []
@@ -59,6 +74,7 @@ def main():
     edits = len(ROWS)
     key_rules()
     examples()
+    fixed_list()
     files = [TOP / "crates/replay/stdin", TOP / "crates/replay/stdout"]
     texts = written()
     if sys.argv[1:] == ["--check"]:

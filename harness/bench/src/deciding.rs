@@ -1,9 +1,10 @@
 //! `lochkave_decide` beside plain Rust, from a sheet's bytes to its answer's.
 
-use crate::plain::{self, Room};
 use crate::proved;
 use crate::race::{Side, Table};
 use crate::texts::Random;
+use plain::Room;
+use sheets::{Line, Manner, Sheet};
 use std::path::Path;
 
 const MOST: usize = 65536;
@@ -11,9 +12,21 @@ const MOST: usize = 65536;
 type Decide = fn(&[u8], &mut [u8], &mut Room) -> u64;
 
 const SIDES: [(&str, Decide); 2] = [
-    ("plain Rust", plain::decide),
-    ("plain Rust, exact length first", plain::decide_exact),
+    ("plain Rust", |s, out, room| {
+        decide_known(plain::decide, s, out, room)
+    }),
+    ("plain Rust, exact length first", |s, out, room| {
+        decide_known(plain::decide_exact, s, out, room)
+    }),
 ];
+
+/// Refusal 1 on line 1 of a D sheet, as long as the library gives it.
+fn decide_known(decide: Decide, s: &[u8], out: &mut [u8], room: &mut Room) -> u64 {
+    if !lochkave::DECIDES_D && s.first() == Some(&b'D') {
+        return 1 << 32 | 1;
+    }
+    decide(s, out, room)
+}
 
 /// What a side returned and left in the output lent, which was filled with 126.
 fn ask(decide: impl Fn(&[u8], &mut [u8]) -> u64, sheet: &[u8], out: &mut [u8]) -> u64 {
@@ -98,218 +111,19 @@ fn compare_cases(folder: &Path, outs: &mut [Vec<u8>; 2], room: &mut Room) -> Res
     Ok(compared)
 }
 
-struct Lists(Vec<(u8, Vec<u64>)>);
-
-impl Lists {
-    fn text(&self) -> Vec<u8> {
-        let mut out = vec![];
-        for (letter, fields) in &self.0 {
-            out.push(*letter);
-            for f in fields {
-                out.extend_from_slice(format!(",{f}").as_bytes());
-            }
-            out.push(b'\n');
-        }
-        out
-    }
-}
-
-fn some_expr(random: &mut Random, names: usize) -> [u64; 3] {
-    match random.below(16) {
-        0 => [2, 0, 0],
-        1 => [1, random.below(names) as u64, 0],
-        2 => {
-            let digits = 1 + random.below(4) as u32;
-            [0, random.of_digits(digits), random.below(65536) as u64]
-        }
-        _ => [0, random.below(names) as u64, random.below(3) as u64],
-    }
-}
-
-fn some_keys(random: &mut Random, n: usize, names: usize) -> Vec<[u64; 3]> {
-    (0..n).map(|_| some_expr(random, names)).collect()
-}
-
-fn flat(keys: &[[u64; 3]]) -> Vec<u64> {
-    keys.concat()
-}
-
-/// A list that fits `n` keys, or most of them, in another order or another altogether.
-fn asked(random: &mut Random, l: &[[u64; 3]], g: &[[u64; 3]], names: usize) -> Vec<[u64; 3]> {
-    let mut r = if random.below(2) == 0 {
-        l.to_vec()
-    } else {
-        g.to_vec()
+/// A K or an I sheet, right or damaged.
+fn some_sheet(random: &mut sheets::Random) -> Vec<u8> {
+    let manner = Manner {
+        large: random.below(40) == 0,
+        planned: true,
     };
-    for _ in 0..random.below(3) {
-        if !r.is_empty() {
-            let (i, j) = (random.below(r.len()), random.below(r.len()));
-            r.swap(i, j);
-        }
-    }
-    match random.below(6) {
-        0 => {
-            let n = (l.len() + random.below(2)).min(32);
-            some_keys(random, n, names)
-        }
-        1 if !r.is_empty() => {
-            let i = random.below(r.len());
-            r[i] = match random.below(2) {
-                0 => [2, 0, 0],
-                _ => some_expr(random, names),
-            };
-            r
-        }
-        _ => r,
-    }
-}
-
-/// A right sheet of any op, K or I: few names, so that every outcome is frequent.
-fn right_sheet(random: &mut Random) -> Lists {
-    let names = 1 + random.below(4);
-    let n = if random.below(40) == 0 {
-        random.below(33)
-    } else {
-        random.below(5)
+    let sheet = match random.below(3) {
+        0 => sheets::input_sheet(random, manner),
+        _ => sheets::key_sheet(random, manner),
     };
-    let (l, g) = (some_keys(random, n, names), some_keys(random, n, names));
-    let rules = |random: &mut Random| {
-        let n = 2 * random.below(3);
-        flat(&some_keys(random, n, names))
-    };
-    let op = random.below(7) as u64;
-    let mode = match op {
-        0 => random.below(3),
-        3 => random.below(2),
-        _ => 0,
-    } as u64;
-    let s: Vec<u64> = (0..n).map(|_| random.below(4) as u64).collect();
-    let s = if op == 2 { s } else { vec![] };
-    if random.below(3) == 0 {
-        let side = |random: &mut Random| {
-            let mut fields = vec![random.below(4).min(1) as u64];
-            if fields[0] == 1 {
-                fields.extend(flat(&asked(random, &l, &g, names)));
-            }
-            fields
-        };
-        let (h, n) = (side(random), side(random));
-        let (w, v) = (rules(random), rules(random));
-        return Lists(vec![
-            (b'I', vec![op, mode]),
-            (b'L', flat(&l)),
-            (b'G', flat(&g)),
-            (b'S', s),
-            (b'H', h),
-            (b'N', n),
-            (b'W', w),
-            (b'V', v),
-        ]);
-    }
-    let ordered = op == 2 || (op == 0 && mode == 0);
-    let children = match op {
-        0..=2 => 2,
-        3..=5 => 1,
-        _ => random.below(9),
-    };
-    let join = if op == 0 { random.below(10) as u64 } else { 0 };
-    let o: Vec<u64> = (0..n).map(|_| random.below(names) as u64).collect();
-    let columns: Vec<[u64; 3]> = (0..n).map(|i| [0, o[i], i as u64]).collect();
-    let r = match op {
-        _ if random.below(8) == 0 => vec![],
-        3 => asked(random, &columns, &columns, names),
-        _ => asked(random, &l, &g, names),
-    };
-    let count = r.len() + random.below(3) / 2;
-    let m = some_keys(random, count.min(32), names);
-    let mut mark = || (random.below(4) > 0) as u64;
-    let (plain, partial) = (mark(), mark());
-    let a: Vec<u64> = (0..random.below(4))
-        .map(|_| random.below(names) as u64)
-        .collect();
-    let w = rules(random);
-    let only = |used: bool, list: Vec<u64>| if used { list } else { vec![] };
-    let mut lists = vec![
-        (
-            b'K',
-            vec![
-                op,
-                mode,
-                join,
-                random.below(3) as u64,
-                plain,
-                partial,
-                children as u64,
-            ],
-        ),
-        (b'R', flat(&r)),
-        (b'L', only(ordered, flat(&l))),
-        (b'G', only(ordered, flat(&g))),
-        (b'S', s),
-        (b'W', only(ordered, w)),
-        (b'O', only(op == 3, o)),
-        (b'A', only(op == 3, a)),
-        (b'M', only(op == 4, flat(&m))),
-    ];
-    for _ in 0..children {
-        let n = random.below(3);
-        lists.push((b'C', flat(&some_keys(random, n, names))));
-    }
-    Lists(lists)
-}
-
-/// Another number, a field more or less, a line more, less or elsewhere.
-fn damage_lists(random: &mut Random, lists: &mut Lists) {
-    let i = match random.below(3) {
-        0 => 0,
-        _ => random.below(lists.0.len()),
-    };
-    let j = random.below(lists.0.len());
-    let fields = &mut lists.0[i].1;
-    let k = random.below(fields.len() + 1);
-    match random.below(8) {
-        0 => lists.0.swap(i, j),
-        1 => {
-            lists.0.remove(i);
-        }
-        2 => {
-            let line = (lists.0[i].0, lists.0[i].1.clone());
-            lists.0.insert(j, line);
-        }
-        3 if k < fields.len() => {
-            fields.remove(k);
-        }
-        4 => fields.insert(k, random.next() % 4),
-        5 => {
-            let digits = 1 + random.below(20) as u32;
-            fields.insert(k, random.of_digits(digits));
-        }
-        _ if k < fields.len() => {
-            fields[k] = match random.below(4) {
-                0 => 65535 + random.next() % 2,
-                1 => random.next() % 70000,
-                _ => random.next() % 11,
-            }
-        }
-        _ => {
-            let more = fields.len() + 3 * random.below(33);
-            fields.resize(more, random.next() % 2);
-        }
-    }
-}
-
-const BYTES: &[u8] = b",,\n\n0019-+ KRLGSWOAMCIHNVD\r\0\xff";
-
-fn damage_text(random: &mut Random, text: &mut Vec<u8>) {
-    let place = random.below(text.len() + 1);
-    let b = BYTES[random.below(BYTES.len())];
-    match random.below(4) {
-        0 => text.truncate(place),
-        1 if place < text.len() => {
-            text.remove(place);
-        }
-        2 if place < text.len() => text[place] = b,
-        _ => text.insert(place, b),
+    match random.below(2) {
+        0 => sheet.text(),
+        _ => sheets::damage(random, &sheet),
     }
 }
 
@@ -321,18 +135,9 @@ pub fn compare(random: &mut Random, sheets: usize) -> Result<(), String> {
     let cases = compare_cases(&folder, &mut outs, &mut room)?;
     println!("deciding: {cases} cases of replay, no difference");
     let mut numbers = [0usize; 13];
+    let mut made = sheets::Random::new(random.next());
     for _ in 0..sheets {
-        let mut lists = right_sheet(random);
-        let way = random.below(4);
-        if way == 2 {
-            damage_lists(random, &mut lists);
-        }
-        let mut sheet = lists.text();
-        if way == 3 {
-            for _ in 0..1 + random.below(2) {
-                damage_text(random, &mut sheet);
-            }
-        }
+        let sheet = some_sheet(&mut made);
         let length = match random.below(8) {
             0 => random.below(200),
             _ => 4096,
@@ -394,18 +199,19 @@ fn timed_sheet(random: &mut Random, n: usize, end: End, rules: bool) -> Vec<u8> 
         vec![]
     };
     let s = (0..n).map(|_| random.below(4) as u64).collect();
-    Lists(vec![
-        (b'K', vec![2, 0, 0, 0, 0, 0, 2]),
-        (b'R', flat(&r)),
-        (b'L', flat(&l)),
-        (b'G', flat(&g)),
-        (b'S', s),
-        (b'W', flat(&w)),
-        (b'O', vec![]),
-        (b'A', vec![]),
-        (b'M', vec![]),
-        (b'C', vec![]),
-        (b'C', last),
+    let line = |letter, fields: Vec<u64>| Line::new(letter, fields);
+    Sheet(vec![
+        line(b'K', vec![2, 0, 0, 0, 0, 0, 2]),
+        line(b'R', r.concat()),
+        line(b'L', l.concat()),
+        line(b'G', g.concat()),
+        line(b'S', s),
+        line(b'W', w.concat()),
+        line(b'O', vec![]),
+        line(b'A', vec![]),
+        line(b'M', vec![]),
+        line(b'C', vec![]),
+        line(b'C', last),
     ])
     .text()
 }

@@ -4,7 +4,6 @@
 mod common;
 mod deciding;
 mod ordering;
-mod plain;
 mod proved;
 mod race;
 mod reading;

@@ -1,5 +1,5 @@
-//! The proved functions, as `libbench.a` and `liblochkave.a` export them. Nothing checks these declarations against
-//! the Rattle source; the comparing runs do.
+//! The proved functions, as `libbench.a` exports them and as the crate `lochkave` hands them on. Nothing checks these
+//! declarations against the Rattle source; the comparing runs do.
 
 /// A line that was found: the place after it, the number of its fields, the largest of their states
 /// (0 a number, 1 empty, 2 malformed) and the largest of their values. All 0 where there is none.
@@ -97,12 +97,10 @@ pub fn try_reorder(
     }
 }
 
-extern "C" {
-    fn lochkave_decide(sheet: *const u8, sheet_len: usize, out: *mut u8, out_len: usize) -> u64;
-}
-
 /// A refusal's number times 2^32 plus its line, or the count of bytes written.
 pub fn decide(sheet: &[u8], out: &mut [u8]) -> u64 {
-    // Sound for any slices: the contract has no `requires`.
-    unsafe { lochkave_decide(sheet.as_ptr(), sheet.len(), out.as_mut_ptr(), out.len()) }
+    match lochkave::decide_into(sheet, out) {
+        Ok(length) => length as u64,
+        Err(refusal) => (refusal.number as u64) << 32 | refusal.line as u64,
+    }
 }
