@@ -16,7 +16,7 @@ pub decision-fits : (s : List ℕ) → Fits (decision s)
 unfolding decision
 decision-fits s =
     by-test Fits (eqb (getD s 0 0) 75) (λ t. adjust-fits s)
-    (λ t. by-test Fits (eqb (getD s 0 0) 73) (λ u. inputs-fits s) (λ u. by-test Fits (eqb (getD s 0 0) 68) (λ v. plan-fits s) (λ v. tt)))
+    (λ t. by-test Fits (eqb (getD s 0 0) 73) (λ u. inputs-fits s) (λ u. plan-fits s))
 
 pub decision-room : (s : List ℕ) (room : ℕ) → mostBytes ≤ room → outcome s room ≡ decision s
 decision-room s room h = room-suffices room (decision s) h (decision-fits s)

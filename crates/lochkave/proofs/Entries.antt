@@ -1,7 +1,7 @@
 -- What an entry point returns and leaves, by what was read of the sheet.
 -- Assumes nothing.
 use Prim.Native.Nat.{ℕ, zero, suc, _+_, _*_}
-use mathlib.Core.Path.{_≡_, refl, sym, ap}
+use mathlib.Core.Path.{_≡_, refl, sym, ap, _∙_}
 use mathlib.Core.Bool.{cond}
 use mathlib.Core.List.{List, [], _∷_}
 use native.Mathlib.Omega.{arith}
@@ -56,29 +56,23 @@ leaves-refused o out n l r e f = rw e (f, refl)
 
 -- ---- by the first byte
 
+pub no-byte : (s : List ℕ) → length s ≡ 0 → 0 ≡ getD s 0 0
+no-byte [] h = refl
+no-byte (x ∷ xs) h = absurd (omega arith)
+
 module _ (s out : List ℕ) where
   module _ (k i d : Outcome) where
     abbrev By : Outcome
-    By = cond (eqb (getD s 0 0) 75) k (cond (eqb (getD s 0 0) 73) i (cond (eqb (getD s 0 0) 68) d (refused 1 1)))
+    By = cond (eqb (getD s 0 0) 75) k (cond (eqb (getD s 0 0) 73) i d)
 
-    pub first-none : length s ≡ 0 → Leaves By out 4294967297 out
-    first-none h = none s h
-      where
-        none : (xs : List ℕ) → length xs ≡ 0 → Leaves (cond (eqb (getD xs 0 0) 75) k (cond (eqb (getD xs 0 0) 73) i (cond (eqb (getD xs 0 0) 68) d (refused 1 1)))) out 4294967297 out
-        none [] h = (refl, refl)
-        none (x ∷ xs) h = absurd (omega arith)
+    pub first-key : (b n : ℕ) (out′ : List ℕ) → b ≡ getD s 0 0 → b ≡ 75 → Leaves k out n out′ → Leaves By out n out′
+    first-key b n out′ f e h = let g : getD s 0 0 ≡ 75 = sym f ∙ e in rw g h
 
-    pub first-key : (n : ℕ) (out′ : List ℕ) → getD s 0 0 ≡ 75 → Leaves k out n out′ → Leaves By out n out′
-    first-key n out′ e h = rw e h
+    pub first-join : (b n : ℕ) (out′ : List ℕ) → b ≡ getD s 0 0 → b ≡ 73 → Leaves i out n out′ → Leaves By out n out′
+    first-join b n out′ f e h = let g : getD s 0 0 ≡ 73 = sym f ∙ e in rw g h
 
-    pub first-join : (n : ℕ) (out′ : List ℕ) → getD s 0 0 ≡ 73 → Leaves i out n out′ → Leaves By out n out′
-    first-join n out′ e h = rw e h
-
-    pub first-plan : (n : ℕ) (out′ : List ℕ) → getD s 0 0 ≡ 68 → Leaves d out n out′ → Leaves By out n out′
-    first-plan n out′ e h = rw e h
-
-    pub first-other : (getD s 0 0 ≡ 75 → ⊥) → (getD s 0 0 ≡ 73 → ⊥) → (getD s 0 0 ≡ 68 → ⊥) → Leaves By out 4294967297 out
-    first-other a b c = rw (ne-eqb (getD s 0 0) 75 a, ne-eqb (getD s 0 0) 73 b, ne-eqb (getD s 0 0) 68 c) (refl, refl)
+    pub first-plan : (b n : ℕ) (out′ : List ℕ) → b ≡ getD s 0 0 → (b ≡ 75 → ⊥) → (b ≡ 73 → ⊥) → Leaves d out n out′ → Leaves By out n out′
+    first-plan b n out′ f x y h = rw (← f, ne-eqb b 75 x, ne-eqb b 73 y) h
 
 -- ---- K and I sheets
 

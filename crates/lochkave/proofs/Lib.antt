@@ -5,3 +5,4 @@ pub mod PlanBounded
 pub mod PlanLent
 pub mod PlanEntries
 pub mod DecisionFits
+pub mod OtherSheets

@@ -5,10 +5,9 @@ use mathlib.Core.List.{List}
 use mathlib.Core.Bool.{cond}
 use lib.Dec.{eqb}
 use lib.ListN.{getD}
-use Rattle.sheet.specs.KeyAnswers.{Outcome, refused, adjustDecision, inputsDecision}
+use Rattle.sheet.specs.KeyAnswers.{Outcome, adjustDecision, inputsDecision}
 use Rattle.plananswer.specs.PlanDecision.{planDecision}
 
--- by the first byte: a K, an I or a D sheet; anything else is a wrong first line
+-- by the first byte: a K sheet, an I sheet; anything else must be a D sheet, whose reading refuses any other first line by 1
 unfoldable pub decision : List ℕ → Outcome
-decision s =
-    cond (eqb (getD s 0 0) 75) (adjustDecision s) (cond (eqb (getD s 0 0) 73) (inputsDecision s) (cond (eqb (getD s 0 0) 68) (planDecision s) (refused 1 1)))
+decision s = cond (eqb (getD s 0 0) 75) (adjustDecision s) (cond (eqb (getD s 0 0) 73) (inputsDecision s) (planDecision s))

@@ -34,7 +34,7 @@ planAgain (sheet x) = wrote (planText x)
 unfoldable pub rewriting : List ℕ → Outcome
 rewriting s =
     cond (eqb (getD s 0 0) 75) (keyAgain (readKeySheet s))
-    (cond (eqb (getD s 0 0) 73) (joinAgain (readJoinSheet s)) (cond (eqb (getD s 0 0) 68) (planAgain (readPlan s)) (refused 1 1)))
+    (cond (eqb (getD s 0 0) 73) (joinAgain (readJoinSheet s)) (planAgain (readPlan s)))
 
 -- with the room of an output: `lochkave_decide`, and the functions for one kind of sheet
 abbrev pub outcome : List ℕ → ℕ → Outcome

@@ -4,7 +4,7 @@ mod again;
 mod plan;
 
 ghost use mathlib.Core.Path.{_≡_};
-ghost use lib.ListN.{length};
+ghost use lib.ListN.{length, getD};
 ghost use Rattle.sheet.specs.Outcomes.{answer, after};
 ghost use Rattle.lochkave.specs.Entry.{outcome, adjustOutcome, inputsOutcome, distributionOutcome, rewriteOutcome};
 use crate::again::refusal;
@@ -101,25 +101,30 @@ pub extern "C" fn lochkave_ensure_distribution(sheet: &[u8], out: &mut [u8]) -> 
     }
 }
 
+// The byte that says a sheet's kind; 0 where there is none.
+fn first_byte(sheet: &[u8]) -> u8
+    ensures { λ r. ⌜ r ≡ getD (now (sheet .entry)) 0 0 ⌝ }
+{
+    if sheet.len() == 0 {
+        return 0;
+    }
+    sheet[0]
+}
+
 // Decides a sheet, whose first byte says its kind.
 #[no_mangle]
 pub extern "C" fn lochkave_decide(sheet: &[u8], out: &mut [u8]) -> u64
     ensures result { λ r. ⌜ r ≡ answer (outcome (now (sheet .entry)) (length (now (out .entry)))) ⌝ }
     ensures bytes { λ _. ⌜ now (out .exit) ≡ after (outcome (now (sheet .entry)) (length (now (out .entry)))) (now (out .entry)) ⌝ }
 {
-    if sheet.len() == 0 {
-        return 4294967297;
-    }
-    if sheet[0] == 75 {
+    let kind = first_byte(sheet);
+    if kind == 75 {
         return lochkave_adjust_input_keys_ordering(sheet, out);
     }
-    if sheet[0] == 73 {
+    if kind == 73 {
         return lochkave_reorder_join_keys_to_inputs(sheet, out);
     }
-    if sheet[0] == 68 {
-        return lochkave_ensure_distribution(sheet, out);
-    }
-    4294967297
+    lochkave_ensure_distribution(sheet, out)
 }
 
 // Reads a sheet and writes it again from what was read.
@@ -128,17 +133,12 @@ pub extern "C" fn lochkave_rewrite(sheet: &[u8], out: &mut [u8]) -> u64
     ensures result { λ r. ⌜ r ≡ answer (rewriteOutcome (now (sheet .entry)) (length (now (out .entry)))) ⌝ }
     ensures bytes { λ _. ⌜ now (out .exit) ≡ after (rewriteOutcome (now (sheet .entry)) (length (now (out .entry)))) (now (out .entry)) ⌝ }
 {
-    if sheet.len() == 0 {
-        return 4294967297;
-    }
-    if sheet[0] == 75 {
+    let kind = first_byte(sheet);
+    if kind == 75 {
         return crate::again::rewrite_key_sheet(sheet, out);
     }
-    if sheet[0] == 73 {
+    if kind == 73 {
         return crate::again::rewrite_join_sheet(sheet, out);
     }
-    if sheet[0] == 68 {
-        return crate::again::rewrite_plan_sheet(sheet, out);
-    }
-    4294967297
+    crate::again::rewrite_plan_sheet(sheet, out)
 }

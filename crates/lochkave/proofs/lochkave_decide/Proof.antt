@@ -1,102 +1,77 @@
 use Rattle.lochkave.specs.Decision.{decision}
-use Rattle.lochkave.proofs.Entries.{first-none, first-key, first-join, first-plan, first-other}
+use Rattle.lochkave.proofs.Entries.{first-key, first-join, first-plan}
 use borrow.Author.Needs.{needs}
 use Rattle.lochkave.proofs.lochkave_decide.Statement.{statement}
 use Rattle.lochkave.proofs.lochkave_decide.Tie as tie
 use Rattle.lochkave.proofs.lochkave_decide.Reads as reads
 use Rattle.lochkave.proofs.lochkave_decide.Lts as lts
+use Rattle.lochkave.proofs.first_byte.Reads as first-byte-reads
 use Rattle.lochkave.proofs.lochkave_adjust_input_keys_ordering.Reads as lochkave-adjust-input-keys-ordering-reads
 use Rattle.lochkave.proofs.lochkave_ensure_distribution.Reads as lochkave-ensure-distribution-reads
 use Rattle.lochkave.proofs.lochkave_reorder_join_keys_to_inputs.Reads as lochkave-reorder-join-keys-to-inputs-reads
 
--- src/lib.rt:111:9
-returns : tie.Need-returns
-unfolding decision
-returns c =
-    let a = c .before .before .before .args in
-    first-none (a .sheet .now) (a .out .now) _ _ _ (c .if1 .taken)
+-- src/lib.rt:120:9
+first-byte-requires : tie.Need-first-byte-requires
+first-byte-requires c κs = search needs
 
--- src/lib.rt:113:8
-shared-slice-read-if2 : tie.Need-shared-slice-read-if2
-shared-slice-read-if2 c = search needs
-
--- src/lib.rt:114:9
+-- src/lib.rt:122:9
 lochkave-adjust-input-keys-ordering-requires :
     tie.Need-lochkave-adjust-input-keys-ordering-requires
 lochkave-adjust-input-keys-ordering-requires c κs = search needs
 
--- src/lib.rt:114:9
+-- src/lib.rt:122:9
 same-length : tie.Need-same-length
 same-length c = search needs
 
--- src/lib.rt:114:9
-returns-2 : tie.Need-returns-2
+-- src/lib.rt:122:9
+returns : tie.Need-returns
 unfolding decision
-returns-2 c =
-    let a = c .before .before .before .before .before .before .before .before .before .args in
-    first-key (a .sheet .now) (a .out .now) _ _ _ _ _ (c .before .before .before .before .if2 .taken) (c .before .before .lochkave-adjust-input-keys-ordering .ensures)
+returns c =
+    let a = c .before .before .before .before .before .before .before .before .args in
+    first-key (a .sheet .now) (a .out .now) _ _ _ _ _ _ (c .before .before .before .before .before .first-byte .ensures) (c .before .before .before .before .if1 .taken) (c .before .before .lochkave-adjust-input-keys-ordering .ensures)
 
--- src/lib.rt:116:8
-shared-slice-read-if3 : tie.Need-shared-slice-read-if3
-shared-slice-read-if3 c = search needs
-
--- src/lib.rt:117:9
+-- src/lib.rt:125:9
 lochkave-reorder-join-keys-to-inputs-requires :
     tie.Need-lochkave-reorder-join-keys-to-inputs-requires
 lochkave-reorder-join-keys-to-inputs-requires c κs = search needs
 
--- src/lib.rt:117:9
+-- src/lib.rt:125:9
 same-length-2 : tie.Need-same-length-2
 same-length-2 c = search needs
 
--- src/lib.rt:117:9
-returns-3 : tie.Need-returns-3
+-- src/lib.rt:125:9
+returns-2 : tie.Need-returns-2
 unfolding decision
-returns-3 c =
-    let a = c .before .before .before .before .before .before .before .before .before .before .before .args in
-    first-join (a .sheet .now) (a .out .now) _ _ _ _ _ (c .before .before .before .before .if3 .taken) (c .before .before .lochkave-reorder-join-keys-to-inputs .ensures)
+returns-2 c =
+    let a = c .before .before .before .before .before .before .before .before .before .args in
+    first-join (a .sheet .now) (a .out .now) _ _ _ _ _ _ (c .before .before .before .before .before .before .first-byte .ensures) (c .before .before .before .before .if2 .taken) (c .before .before .lochkave-reorder-join-keys-to-inputs .ensures)
 
--- src/lib.rt:119:8
-shared-slice-read-if4 : tie.Need-shared-slice-read-if4
-shared-slice-read-if4 c = search needs
-
--- src/lib.rt:120:9
+-- src/lib.rt:127:5
 lochkave-ensure-distribution-requires : tie.Need-lochkave-ensure-distribution-requires
 lochkave-ensure-distribution-requires c κs = search needs
 
--- src/lib.rt:120:9
+-- src/lib.rt:115:1
 same-length-3 : tie.Need-same-length-3
 same-length-3 c = search needs
 
--- src/lib.rt:120:9
-returns-4 : tie.Need-returns-4
+-- src/lib.rt:115:1
+returns-3 : tie.Need-returns-3
 unfolding decision
-returns-4 c =
-    let a = c .before .before .before .before .before .before .before .before .before .before .before .before .before .args in
-    first-plan (a .sheet .now) (a .out .now) _ _ _ _ _ (c .before .before .before .before .if4 .taken) (c .before .before .lochkave-ensure-distribution .ensures)
-
--- src/lib.rt:105:1
-returns-5 : tie.Need-returns-5
-unfolding decision
-returns-5 c =
+returns-3 c =
     let a = c .before .before .before .before .before .before .before .before .before .args in
-    first-other (a .sheet .now) (a .out .now) _ _ _ (c .before .before .before .before .if2 .left) (c .before .before .if3 .left) (c .if4 .left)
+    first-plan (a .sheet .now) (a .out .now) _ _ _ _ _ _ (c .before .before .before .before .before .before .first-byte .ensures) (c .before .before .before .before .before .if1 .left) (c .before .before .before .before .if2 .left) (c .before .before .lochkave-ensure-distribution .ensures)
 
 pub lochkave-decide-spec : {M : Type 1} → statement M
 lochkave-decide-spec =
     tie.close
     (tie.spec
-    returns
-    shared-slice-read-if2
+    first-byte-requires
     lochkave-adjust-input-keys-ordering-requires
     same-length
-    returns-2
-    shared-slice-read-if3
+    returns
     lochkave-reorder-join-keys-to-inputs-requires
     same-length-2
-    returns-3
-    shared-slice-read-if4
+    returns-2
     lochkave-ensure-distribution-requires
     same-length-3
-    returns-4
-    returns-5)
+    returns-3)
