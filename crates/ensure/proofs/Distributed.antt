@@ -1,32 +1,28 @@
 -- The tree with its marks set anew stands where the tree stood (`updated-stands`); the whole ends as its worked node does, or unchanged.
 -- Assumes nothing.
-use Prim.Native.Nat.{ℕ, _+_, _*_, _≤_, _<_}
-use mathlib.Core.Path.{_≡_, refl, sym, ap, subst, _∙_}
-use mathlib.Core.Bool.{Bool, true, false, cond}
-use mathlib.Core.List.{List, [], _++_}
+use Prim.Native.Nat.{ℕ, _+_, _*_, _≤_}
+use mathlib.Core.Path.{_≡_, refl, sym, ap, _∙_}
+use mathlib.Core.Bool.{true, false}
+use mathlib.Core.List.{List, _++_}
 use native.Mathlib.Omega.{arith}
 use lib.ListN.{length, drop}
-use lib.Seq.{sets}
 use Rattle.exchange.specs.declared.settings.Settings.{Settings}
-use Rattle.exchange.specs.Trees.{node, none, _∷ᶠ_, trees, Plan}
+use Rattle.exchange.specs.Trees.{node, none, _∷ᶠ_, Plan}
 use Rattle.exchange.specs.Facts.{Facts}
 use Rattle.exchange.specs.Rows.{childrenAt, flatten}
 use Rattle.exchange.specs.Runs.{Stands, Ready, Becomes}
-use Rattle.exchange.specs.Sizes.{lines}
-use Rattle.exchange.specs.Skeleton.{below}
 use Rattle.exchange.specs.Partitioning.{workedOf}
 use Rattle.exchange.specs.Worked.{removed}
 use Rattle.exchange.specs.Children.{updateChildren}
-use Rattle.exchange.specs.Ensure.{Answer, Ensured as Decided, answered, ensureWorked, unchanged, hasChildren, ensured}
+use Rattle.exchange.specs.Ensure.{Answer, answered, ensureWorked, unchanged, hasChildren, ensured}
 use Rattle.exchange.proofs.TreeRows.{tree-in}
 use Rattle.exchange.proofs.OrderWritten.{stored-there}
 use Rattle.exchange.proofs.Marking.{children-read}
 use Rattle.exchange.proofs.WorkedNode.{worked-at}
 use Rattle.exchange.proofs.AnswerLines.{lines-rows, lines-updates, answer-lines}
 use Rattle.ensure.specs.declared.outcome.Ensured.{Ensured}
-use Rattle.ensure.specs.Outcomes.{factsBy, Ends}
+use Rattle.ensure.specs.Outcomes.{Ends}
 use Rattle.ensure.specs.Lent.{Sheet, Worked as WorkedAt}
-use Rattle.ensure.proofs.Finishing.{root-in}
 
 ensured-worked : (s : Settings) (f : Facts) (t : Plan) → hasChildren s f (updateChildren t) ≡ true → ensured s f t ≡ ensureWorked s f (workedOf t)
 unfolding ensured

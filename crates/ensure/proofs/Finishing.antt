@@ -1,6 +1,6 @@
 -- The rows of an answer, by the row of the worked node and the forms of its children (`shape-of`): what `finish_worked` writes.
 -- Assumes nothing.
-use Prim.Native.Nat.{ℕ, zero, suc, _+_, _≤_, _<_}
+use Prim.Native.Nat.{ℕ, suc, _+_, _≤_, _<_}
 use mathlib.Core.Path.{_≡_, refl, sym, ap, ap₂, subst, _∙_}
 use mathlib.Core.Bool.{Bool, cond, _&&_}
 use mathlib.Core.List.{List, [], _∷_, _++_, map}
@@ -13,10 +13,9 @@ use Rattle.exchange.specs.declared.row.Node.{Node}
 use Rattle.exchange.specs.declared.row.Step.{Step}
 use Rattle.exchange.specs.Trees.{node, none, _∷ᶠ_, trees, root, Operator, Plan, Plans}
 use Rattle.exchange.specs.Settings.{isSet}
-use Rattle.exchange.specs.Forms.{formOf, formNumber}
 use Rattle.exchange.specs.Facts.{ChildFacts, Facts, Row, rowOf as factOf}
-use Rattle.exchange.specs.FactRows.{nodeFacts, childFacts, factRow}
-use Rattle.exchange.specs.States.{Child, ChildState, needOf, childrenFrom}
+use Rattle.exchange.specs.FactRows.{nodeFacts, factRow}
+use Rattle.exchange.specs.States.{ChildState, needOf, childrenFrom}
 use Rattle.exchange.specs.Standings.{formNumbers}
 use Rattle.exchange.specs.Relationships.{enforced}
 use Rattle.exchange.specs.Operators.{mark}

@@ -6,7 +6,7 @@ use mathlib.Core.Option.{Option, some, none as nothing}
 use mathlib.Core.List.{List, [], _∷_, _++_, map}
 use native.Mathlib.Omega.{arith}
 use lib.ListN.{length, drop, take}
-use mathlib.Core.Logic.{_⊎_, inl, inr, ⊎-elim}
+use mathlib.Core.Logic.{_⊎_, ⊎-elim}
 use types.Run.{OneOf}
 use denote.Enum.Declared.{tagOf}
 use Rattle.exchange.proofs.relationship.Enforcing as E
@@ -14,7 +14,7 @@ use Rattle.exchange.specs.declared.settings.Settings.{Settings}
 use Rattle.exchange.specs.declared.partitioning.Worked.{Worked}
 use Rattle.exchange.specs.declared.relationship.Enforcing.{Enforcing}
 use Rattle.exchange.specs.declared.relationship.Enforcing.the-variants.{Enforced, Stuck, Missing as Lacking}
-use Rattle.exchange.specs.Trees.{node, trees, root, Operator, Plan, Plans}
+use Rattle.exchange.specs.Trees.{node, trees, root, Operator, Plan}
 use Rattle.exchange.specs.Facts.{Facts, NodeFacts}
 use Rattle.exchange.specs.FactRows.{nodeFacts, factRow, askedBy}
 use Rattle.exchange.specs.States.{Child, ChildState, childrenFrom}

@@ -1,10 +1,10 @@
 -- What `ensure_distribution` asks of what it is lent.
-use Prim.Native.Nat.{ℕ, _+_, _*_, _≤_, _<_}
+use Prim.Native.Nat.{ℕ, _+_, _≤_, _<_}
 use mathlib.Core.Path.{_≡_}
 use mathlib.Core.List.{List, [], _++_}
 use lib.ListN.{length, take, drop, getD}
 use Rattle.exchange.specs.declared.settings.Settings.{Settings}
-use Rattle.exchange.specs.Trees.{node, root, trees, Plan, Plans}
+use Rattle.exchange.specs.Trees.{root, trees, Plan}
 use Rattle.exchange.specs.Facts.{Facts}
 use Rattle.exchange.specs.FactRows.{childFacts}
 use Rattle.exchange.specs.Found.{indexOf}

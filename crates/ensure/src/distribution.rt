@@ -12,7 +12,7 @@ use exchange::worked::remove_dist_changing_operators;
 ghost use mathlib.Core.Path.{_≡_};
 ghost use mathlib.Core.List.{List, _++_};
 ghost use Prim.Native.Nat.{ℕ, _+_, _*_, _≤_};
-ghost use lib.ListN.{length, take, drop};
+ghost use lib.ListN.{length, take};
 ghost use Rattle.exchange.specs.Trees.{Plan};
 ghost use Rattle.exchange.specs.Facts.{Facts};
 ghost use Rattle.exchange.specs.Rows.{flatten};

@@ -1,7 +1,7 @@
 -- The outcome of `ensure_distribution` on rows, as the outcome of a sheet: refusals 9 and 11, or the answer's bytes.
 -- Assumes nothing.
 use Prim.Native.Nat.{ℕ, _≤_}
-use mathlib.Core.Path.{_≡_, refl, sym, ap, _∙_}
+use mathlib.Core.Path.{_≡_, refl, sym}
 use mathlib.Core.List.{List}
 use native.Mathlib.Omega.{arith}
 use lib.ListN.{length, take}
@@ -11,7 +11,7 @@ use Rattle.exchange.specs.Rows.{flatten}
 use Rattle.exchange.specs.Ensure.{Answer, Ensured as Decided, missingRow, unenforceable, answered}
 use Rattle.ensure.specs.declared.outcome.Ensured.{Ensured}
 use Rattle.ensure.specs.declared.outcome.Ensured.the-variants.{Answered, Missing, Unenforceable}
-use Rattle.ensure.specs.Outcomes.{outcome, Ends}
+use Rattle.ensure.specs.Outcomes.{Ends}
 use Rattle.plananswer.specs.PlanTexts.{planAnswerText, distributed}
 use Rattle.plananswer.specs.RowTexts.{rowsText}
 use Rattle.plananswer.proofs.RowLines.{stored-answer}

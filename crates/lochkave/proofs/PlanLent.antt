@@ -1,27 +1,23 @@
 -- What of a D sheet in its rooms is lent to the decision: its tree, F rows, X rows and masks are the sheet's (`lent-facts`), and they are as the decision asks.
 -- Assumes nothing.
 use Prim.Native.Nat.{ℕ, zero, suc, _≤_, _<_}
-use mathlib.Core.Path.{_≡_, refl, sym, ap, subst, _∙_}
+use mathlib.Core.Path.{_≡_, sym, ap, subst, _∙_}
 use mathlib.Core.List.{List, [], _∷_, _++_, map, append-nil}
 use native.Mathlib.Omega.{arith}
 use lib.ListN.{length, take, getD, length-append}
 use lib.Seq.{take-at, length-take-le}
 use Rattle.sheet.specs.Sizes.{Each}
 use Rattle.exchange.specs.declared.settings.Settings.{Settings}
-use Rattle.exchange.specs.Trees.{trees}
 use Rattle.exchange.specs.Facts.{ChildFacts, Facts}
 use Rattle.exchange.specs.FactRows.{childFacts, factRow}
 use Rattle.exchange.specs.Found.{indexOf}
 use Rattle.exchange.specs.Rows.{flatten}
 use Rattle.exchange.specs.Sizes.{lines}
-use Rattle.exchange.specs.Skeleton.{below}
-use Rattle.exchange.specs.Partitioning.{workedOf}
 use Rattle.exchange.proofs.AnswerLines.{lines-rows}
 use Rattle.ensure.specs.Outcomes.{factsBy}
 use Rattle.ensure.specs.Lent.{Known, Sheet}
 use Rattle.plansheet.specs.PlanLines.{twoTo}
-use Rattle.plansheet.specs.PlanSheets.{PlanSheet, childCount}
-use Rattle.plansheet.specs.PlanRooms.{PlanHeld}
+use Rattle.plansheet.specs.PlanSheets.{PlanSheet}
 use Rattle.plansheet.specs.PlanTexts.{planText}
 use Rattle.plananswer.specs.SheetTexts.{sheetRowsText}
 use Rattle.plananswer.proofs.SheetRows.{rows-sheet}

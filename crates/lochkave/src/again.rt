@@ -9,7 +9,6 @@ ghost use Rattle.sheet.specs.Outcomes.{answer, after, within};
 ghost use Rattle.plansheet.specs.PlanSheets.{PlanSheet, readPlan};
 ghost use Rattle.plansheet.specs.PlanTexts.{planText};
 ghost use Rattle.lochkave.specs.PlanHeld.{Holds, HeldFits, HeldLong};
-ghost use Rattle.sheet.specs.SheetLines.{Full};
 ghost use Rattle.lochkave.specs.Entry.{keyAgain, joinAgain, planAgain, Gives};
 use answers::sheet_text::put_sheet;
 use exchange::fact::FactRow;

@@ -6,7 +6,7 @@ use mathlib.Core.Logic.{inl, inr, _↔_}
 use Prim.Native.Nat.{ℕ}
 use native.Mathlib.Omega.{arith}
 use mathlib.Core.List.{List}
-use Rattle.exchange.specs.Ensure.{Answer, Ensured, missingRow, unenforceable, answered, ensured}
+use Rattle.exchange.specs.Ensure.{Ensured, missingRow, unenforceable, answered, ensured}
 use Rattle.sheet.specs.KeySheets.{Reading, sheet, turned}
 use Rattle.sheet.specs.KeyAnswers.{refused, wrote}
 use Rattle.sheet.proofs.AnswersFit.{Fits}

@@ -190,6 +190,32 @@ fn exchange(random: &mut Random, children: u64, under: usize, forms: &[u64]) -> 
     Sheet(lines).text()
 }
 
+/// T lines of a tree of so many operators, up to eight under each.
+fn bush(operators: usize, lines: &mut Vec<Line>) {
+    let children = (operators - 1).min(8);
+    let mut line = Line::new(b'T', [0, 8, 0, 0, 1, 1, 0, children as u64]);
+    line.fields[3] = None;
+    lines.push(line);
+    for child in 0..children {
+        bush((operators - 1 - child).div_ceil(children), lines);
+    }
+}
+
+/// A wide tree: an operator over eight children, each the top of such a tree.
+fn wide(operators: usize) -> Vec<u8> {
+    let mut lines = vec![Line::new(b'D', [16, 1, 0, 8192, 1, 4, 0, 0, 1])];
+    bush(operators, &mut lines);
+    lines.push(Line::new(b'B', [0, 0, 0, 0]));
+    for _ in 0..8 {
+        lines.push(Line::new(b'F', [1, 0, 0, 9000, 0, 0, 0]));
+    }
+    for child in 1..=8 {
+        lines.extend([0, 6].map(|form| row_line(child, form, 16)));
+    }
+    lines.push(Line::new(b'Y', vec![0; 256]));
+    Sheet(lines).text()
+}
+
 /// Forms that a keyed child may pass through, and all.
 const KEYED: [u64; 8] = [0, 1, 4, 5, 8, 9, 12, 13];
 const ALL: [u64; 16] = [0, 1, 2, 3, 4, 5, 6, 7, 8, 9, 10, 11, 12, 13, 14, 15];
@@ -231,6 +257,17 @@ pub fn race() -> ExitCode {
     for under in [1, 2, 4, 8, 16, 32, 64, 127] {
         let name = format!("D, {} operators", 1 + 2 * under);
         row(&name, &repeat(|| exchange(random, 2, under, &KEYED)));
+    }
+    head("trees");
+    for n in [16, 64, 256] {
+        let chains = repeat(|| exchange(random, 1, n - 1, &[0, 1, 6, 7]));
+        row(&format!("D, a chain of {n} operators"), &chains);
+    }
+    for n in [16, 64, 256] {
+        row(
+            &format!("D, a wide tree of {n} operators"),
+            &repeat(|| wide(n)),
+        );
     }
     ExitCode::SUCCESS
 }

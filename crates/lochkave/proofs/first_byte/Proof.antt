@@ -1,20 +1,17 @@
+-- `first_byte` meets its contract.
+-- Assumes nothing.
 use Rattle.lochkave.proofs.Entries.{no-byte}
 use borrow.Author.Needs.{needs}
 use Rattle.lochkave.proofs.first_byte.Statement.{statement}
 use Rattle.lochkave.proofs.first_byte.Tie as tie
-use Rattle.lochkave.proofs.first_byte.Reads as reads
-use Rattle.lochkave.proofs.first_byte.Lts as lts
 
--- src/lib.rt:109:9
 returns : tie.Need-returns
 returns c =
     no-byte (c .before .args .sheet .now) (c .if1 .taken)
 
--- src/lib.rt:111:5
 shared-slice-read-result : tie.Need-shared-slice-read-result
 shared-slice-read-result c = search needs
 
--- src/lib.rt:105:1
 returns-2 : tie.Need-returns-2
 returns-2 c = search needs
 

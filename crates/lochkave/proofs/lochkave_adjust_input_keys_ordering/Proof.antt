@@ -10,11 +10,6 @@ use Rattle.lochkave.proofs.Entries.{full-zeros, was-turned, was-read, l
 use borrow.Author.Needs.{needs}
 use Rattle.lochkave.proofs.lochkave_adjust_input_keys_ordering.Statement.{statement}
 use Rattle.lochkave.proofs.lochkave_adjust_input_keys_ordering.Tie as tie
-use Rattle.lochkave.proofs.lochkave_adjust_input_keys_ordering.Reads as reads
-use Rattle.lochkave.proofs.lochkave_adjust_input_keys_ordering.Lts as lts
-use Rattle.answers.proofs.key.answer_key_sheet.Reads as answer-key-sheet-reads
-use Rattle.lochkave.proofs.again.refusal.Reads as refusal-reads
-use Rattle.sheet.proofs.sheets.read_key_sheet.Reads as read-key-sheet-reads
 
 slice-aggregate-read-key-sheet : tie.Need-slice-aggregate-read-key-sheet
 slice-aggregate-read-key-sheet c = search needs

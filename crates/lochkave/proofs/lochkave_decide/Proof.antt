@@ -1,60 +1,46 @@
+-- `lochkave_decide` meets its contract: by the first byte.
+-- Assumes nothing.
 use Rattle.lochkave.specs.Decision.{decision}
 use Rattle.lochkave.proofs.Entries.{first-key, first-join, first-plan}
 use borrow.Author.Needs.{needs}
 use Rattle.lochkave.proofs.lochkave_decide.Statement.{statement}
 use Rattle.lochkave.proofs.lochkave_decide.Tie as tie
-use Rattle.lochkave.proofs.lochkave_decide.Reads as reads
-use Rattle.lochkave.proofs.lochkave_decide.Lts as lts
-use Rattle.lochkave.proofs.first_byte.Reads as first-byte-reads
-use Rattle.lochkave.proofs.lochkave_adjust_input_keys_ordering.Reads as lochkave-adjust-input-keys-ordering-reads
-use Rattle.lochkave.proofs.lochkave_ensure_distribution.Reads as lochkave-ensure-distribution-reads
-use Rattle.lochkave.proofs.lochkave_reorder_join_keys_to_inputs.Reads as lochkave-reorder-join-keys-to-inputs-reads
 
--- src/lib.rt:120:9
 first-byte-requires : tie.Need-first-byte-requires
 first-byte-requires c κs = search needs
 
--- src/lib.rt:122:9
 lochkave-adjust-input-keys-ordering-requires :
     tie.Need-lochkave-adjust-input-keys-ordering-requires
 lochkave-adjust-input-keys-ordering-requires c κs = search needs
 
--- src/lib.rt:122:9
 same-length : tie.Need-same-length
 same-length c = search needs
 
--- src/lib.rt:122:9
 returns : tie.Need-returns
 unfolding decision
 returns c =
     let a = c .before .before .before .before .before .before .before .before .args in
     first-key (a .sheet .now) (a .out .now) _ _ _ _ _ _ (c .before .before .before .before .before .first-byte .ensures) (c .before .before .before .before .if1 .taken) (c .before .before .lochkave-adjust-input-keys-ordering .ensures)
 
--- src/lib.rt:125:9
 lochkave-reorder-join-keys-to-inputs-requires :
     tie.Need-lochkave-reorder-join-keys-to-inputs-requires
 lochkave-reorder-join-keys-to-inputs-requires c κs = search needs
 
--- src/lib.rt:125:9
 same-length-2 : tie.Need-same-length-2
 same-length-2 c = search needs
 
--- src/lib.rt:125:9
 returns-2 : tie.Need-returns-2
 unfolding decision
 returns-2 c =
     let a = c .before .before .before .before .before .before .before .before .before .args in
     first-join (a .sheet .now) (a .out .now) _ _ _ _ _ _ (c .before .before .before .before .before .before .first-byte .ensures) (c .before .before .before .before .if2 .taken) (c .before .before .lochkave-reorder-join-keys-to-inputs .ensures)
 
--- src/lib.rt:127:5
 lochkave-ensure-distribution-requires : tie.Need-lochkave-ensure-distribution-requires
 lochkave-ensure-distribution-requires c κs = search needs
 
--- src/lib.rt:115:1
 same-length-3 : tie.Need-same-length-3
 same-length-3 c = search needs
 
--- src/lib.rt:115:1
 returns-3 : tie.Need-returns-3
 unfolding decision
 returns-3 c =

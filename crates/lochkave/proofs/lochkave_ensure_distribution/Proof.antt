@@ -1,3 +1,5 @@
+-- `lochkave_ensure_distribution` meets its contract: a refusal, or the decision on the sheet that is held.
+-- Assumes nothing.
 use native.Mathlib.Omega.{arith}
 use Rattle.plansheet.specs.PlanSheets.{readPlan}
 use Rattle.plananswer.specs.PlanDecision.{planDecision}
@@ -7,60 +9,43 @@ use Rattle.lochkave.proofs.PlanEntries.{plan-was-turned, plan-was-held,
 use borrow.Author.Needs.{needs}
 use Rattle.lochkave.proofs.lochkave_ensure_distribution.Statement.{statement}
 use Rattle.lochkave.proofs.lochkave_ensure_distribution.Tie as tie
-use Rattle.lochkave.proofs.lochkave_ensure_distribution.Reads as reads
-use Rattle.lochkave.proofs.lochkave_ensure_distribution.Lts as lts
-use Rattle.lochkave.proofs.again.refusal.Reads as refusal-reads
-use Rattle.lochkave.proofs.plan.answer_held.Reads as answer-held-reads
-use Rattle.plansheet.proofs.plan.read_plan.Reads as read-plan-reads
 
--- src/lib.rt:69:9
 slice-aggregate-read-plan : tie.Need-slice-aggregate-read-plan
 slice-aggregate-read-plan c = search needs
 
--- src/lib.rt:70:9
 slice-aggregate-read-plan-2 : tie.Need-slice-aggregate-read-plan-2
 slice-aggregate-read-plan-2 c = search needs
 
--- src/lib.rt:71:9
 slice-aggregate-read-plan-3 : tie.Need-slice-aggregate-read-plan-3
 slice-aggregate-read-plan-3 c = search needs
 
--- src/lib.rt:72:9
 slice-aggregate-read-plan-4 : tie.Need-slice-aggregate-read-plan-4
 slice-aggregate-read-plan-4 c = search needs
 
--- src/lib.rt:73:9
 slice-aggregate-read-plan-5 : tie.Need-slice-aggregate-read-plan-5
 slice-aggregate-read-plan-5 c = search needs
 
--- src/lib.rt:74:9
 slice-aggregate-read-plan-6 : tie.Need-slice-aggregate-read-plan-6
 slice-aggregate-read-plan-6 c = search needs
 
--- src/lib.rt:75:9
 slice-aggregate-read-plan-7 : tie.Need-slice-aggregate-read-plan-7
 slice-aggregate-read-plan-7 c = search needs
 
--- src/lib.rt:76:9
 slice-aggregate-read-plan-8 : tie.Need-slice-aggregate-read-plan-8
 slice-aggregate-read-plan-8 c = search needs
 
--- src/lib.rt:67:9
 read-plan-requires : tie.Need-read-plan-requires
 read-plan-requires c κs = search needs
 
--- src/lib.rt:79:25
 enum-known-p : tie.Need-enum-known-p
 enum-known-p c = search needs
 
--- src/lib.rt:79:43
 refusal-requires : tie.Need-refusal-requires
 refusal-requires c κs =
     let a = c .before .before .before .before .before .before .before .before .before .before .before .before .before .before .before .before .before .before .before .before .before .before .args in
     let q = c .before .before .before .before .before .before .before .before .before .before .before .read-plan in
     plan-turned-few (a .sheet .now) _ _ (plan-was-turned (readPlan (a .sheet .now)) (q .result) _ _ (q .ensures .0) (c .before .p .given .1))
 
--- src/lib.rt:79:43
 returns : tie.Need-returns
 returns c =
     let a = c .before .before .before .before .before .before .before .before .before .before .before .before .before .before .before .before .before .before .before .before .before .before .before .args in
@@ -68,31 +53,24 @@ returns c =
     leaves-refused (planDecision (a .sheet .now)) (a .out .now) _ _ _
     (plan-turned (a .sheet .now) _ _ (plan-was-turned (readPlan (a .sheet .now)) (q .result) _ _ (q .ensures .0) (c .before .before .p .given .1))) (c .refusal .ensures)
 
--- src/lib.rt:81:13
 enum-known-p-2 : tie.Need-enum-known-p-2
 enum-known-p-2 c = search needs
 
--- src/lib.rt:92:17
 slice-aggregate-answer-held : tie.Need-slice-aggregate-answer-held
 slice-aggregate-answer-held c = search needs
 
--- src/lib.rt:94:17
 slice-aggregate-answer-held-2 : tie.Need-slice-aggregate-answer-held-2
 slice-aggregate-answer-held-2 c = search needs
 
--- src/lib.rt:95:17
 slice-aggregate-answer-held-3 : tie.Need-slice-aggregate-answer-held-3
 slice-aggregate-answer-held-3 c = search needs
 
--- src/lib.rt:96:17
 slice-aggregate-answer-held-4 : tie.Need-slice-aggregate-answer-held-4
 slice-aggregate-answer-held-4 c = search needs
 
--- src/lib.rt:97:17
 slice-aggregate-answer-held-5 : tie.Need-slice-aggregate-answer-held-5
 slice-aggregate-answer-held-5 c = search needs
 
--- src/lib.rt:87:13
 answer-held-requires : tie.Need-answer-held-requires
 answer-held-requires c κs =
     let a = c .before .before .before .before .before .before .before .before .before .before .before .before .before .before .before .before .before .before .before .before .before .before .before .before .before .before .before .before .args in
@@ -100,11 +78,9 @@ answer-held-requires c κs =
     let w = plan-was-held (readPlan (a .sheet .now)) (q .result) _ _ _ _ _ (q .ensures .0) (c .before .before .before .before .before .before .before .p2 .given .1) in
     room-held (a .sheet .now) _ _ _ _ w _ _ _ _ _ _ (q .ensures .1) (omega (arith, q .kept .1 .1 .1 .1 .1 .0)) (omega (arith, q .kept .1 .1 .1 .1 .1 .1 .1 .0))
 
--- src/lib.rt:87:13
 same-length : tie.Need-same-length
 same-length c = search needs
 
--- src/lib.rt:87:13
 returns-2 : tie.Need-returns-2
 returns-2 c =
     let a = c .before .before .before .before .before .before .before .before .before .before .before .before .before .before .before .before .before .before .before .before .before .before .before .before .before .before .before .before .before .before .before .before .args in

@@ -10,11 +10,6 @@ use Rattle.lochkave.proofs.Entries.{full-zeros, was-turned, was-read, l
 use borrow.Author.Needs.{needs}
 use Rattle.lochkave.proofs.lochkave_reorder_join_keys_to_inputs.Statement.{statement}
 use Rattle.lochkave.proofs.lochkave_reorder_join_keys_to_inputs.Tie as tie
-use Rattle.lochkave.proofs.lochkave_reorder_join_keys_to_inputs.Reads as reads
-use Rattle.lochkave.proofs.lochkave_reorder_join_keys_to_inputs.Lts as lts
-use Rattle.answers.proofs.join.answer_join_sheet.Reads as answer-join-sheet-reads
-use Rattle.lochkave.proofs.again.refusal.Reads as refusal-reads
-use Rattle.sheet.proofs.sheets.read_join_sheet.Reads as read-join-sheet-reads
 
 slice-aggregate-read-join-sheet : tie.Need-slice-aggregate-read-join-sheet
 slice-aggregate-read-join-sheet c = search needs

@@ -1,58 +1,44 @@
+-- `lochkave_rewrite` meets its contract: by the first byte.
+-- Assumes nothing.
 use Rattle.lochkave.specs.Entry.{rewriting}
 use Rattle.lochkave.proofs.Entries.{first-key, first-join, first-plan}
 use borrow.Author.Needs.{needs}
 use Rattle.lochkave.proofs.lochkave_rewrite.Statement.{statement}
 use Rattle.lochkave.proofs.lochkave_rewrite.Tie as tie
-use Rattle.lochkave.proofs.lochkave_rewrite.Reads as reads
-use Rattle.lochkave.proofs.lochkave_rewrite.Lts as lts
-use Rattle.lochkave.proofs.again.rewrite_join_sheet.Reads as rewrite-join-sheet-reads
-use Rattle.lochkave.proofs.again.rewrite_key_sheet.Reads as rewrite-key-sheet-reads
-use Rattle.lochkave.proofs.again.rewrite_plan_sheet.Reads as rewrite-plan-sheet-reads
-use Rattle.lochkave.proofs.first_byte.Reads as first-byte-reads
 
--- src/lib.rt:136:9
 first-byte-requires : tie.Need-first-byte-requires
 first-byte-requires c κs = search needs
 
--- src/lib.rt:138:9
 rewrite-key-sheet-requires : tie.Need-rewrite-key-sheet-requires
 rewrite-key-sheet-requires c κs = search needs
 
--- src/lib.rt:138:9
 same-length : tie.Need-same-length
 same-length c = search needs
 
--- src/lib.rt:138:9
 returns : tie.Need-returns
 unfolding rewriting
 returns c =
     let a = c .before .before .before .before .before .before .before .before .args in
     first-key (a .sheet .now) (a .out .now) _ _ _ _ _ _ (c .before .before .before .before .before .first-byte .ensures) (c .before .before .before .before .if1 .taken) (c .before .before .rewrite-key-sheet .ensures)
 
--- src/lib.rt:141:9
 rewrite-join-sheet-requires : tie.Need-rewrite-join-sheet-requires
 rewrite-join-sheet-requires c κs = search needs
 
--- src/lib.rt:141:9
 same-length-2 : tie.Need-same-length-2
 same-length-2 c = search needs
 
--- src/lib.rt:141:9
 returns-2 : tie.Need-returns-2
 unfolding rewriting
 returns-2 c =
     let a = c .before .before .before .before .before .before .before .before .before .args in
     first-join (a .sheet .now) (a .out .now) _ _ _ _ _ _ (c .before .before .before .before .before .before .first-byte .ensures) (c .before .before .before .before .if2 .taken) (c .before .before .rewrite-join-sheet .ensures)
 
--- src/lib.rt:143:5
 rewrite-plan-sheet-requires : tie.Need-rewrite-plan-sheet-requires
 rewrite-plan-sheet-requires c κs = search needs
 
--- src/lib.rt:131:1
 same-length-3 : tie.Need-same-length-3
 same-length-3 c = search needs
 
--- src/lib.rt:131:1
 returns-3 : tie.Need-returns-3
 unfolding rewriting
 returns-3 c =

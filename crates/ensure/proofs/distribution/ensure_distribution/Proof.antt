@@ -1,3 +1,5 @@
+-- `ensure_distribution` meets its contract: a leaf, or what its worked node comes to.
+-- Assumes nothing.
 use mathlib.Core.Path.{sym, _∙_}
 use native.Mathlib.Omega.{arith}
 use lib.ListN.{take}
@@ -7,67 +9,48 @@ use Rattle.ensure.proofs.Distributed.{sheet-stands, sheet-ready, sheet-
 use borrow.Author.Needs.{needs}
 use Rattle.ensure.proofs.distribution.ensure_distribution.Statement.{statement}
 use Rattle.ensure.proofs.distribution.ensure_distribution.Tie as tie
-use Rattle.ensure.proofs.distribution.ensure_distribution.Reads as reads
-use Rattle.ensure.proofs.distribution.ensure_distribution.Lts as lts
-use Rattle.ensure.proofs.distribution.leave_unchanged.Reads as leave-unchanged-reads
-use Rattle.ensure.proofs.worked.ensure_worked.Reads as ensure-worked-reads
-use Rattle.exchange.proofs.row.children_at.Reads as children-at-reads
-use Rattle.exchange.proofs.update.update_children.Reads as update-children-reads
-use Rattle.exchange.proofs.worked.remove_dist_changing_operators.Reads as remove-dist-changing-operators-reads
 
--- src/distribution.rt:60:5
 update-children-requires : tie.Need-update-children-requires
 update-children-requires c κs = search needs
 
--- src/distribution.rt:61:8
 children-at-requires : tie.Need-children-at-requires
 children-at-requires c κs =
     stands-in _ _ (sheet-stands (c .before .before .before .before .before .before .args .src .now) _ (c .before .before .update-children .ensures) _ (c .before .before .before .before .before .before .pre .1 .1))
 
--- src/distribution.rt:62:9
 leave-unchanged-requires : tie.Need-leave-unchanged-requires
 leave-unchanged-requires c κs =
     sheet-ready (c .before .before .before .before .before .before .before .before .before .before .args .src .now) _ (c .before .before .before .before .before .before .update-children .ensures) _ (c .before .before .before .before .before .before .before .before .before .before .pre .1 .1) _ (c .before .before .before .before .before .before .before .before .before .before .pre .1 .0 .2)
 
--- src/distribution.rt:62:9
 same-length : tie.Need-same-length
 same-length c = search needs
 
--- src/distribution.rt:62:9
 same-length-2 : tie.Need-same-length-2
 same-length-2 c = search needs
 
--- src/distribution.rt:62:9
 returns : tie.Need-returns
 returns c =
     let a = c .before .before .before .before .before .before .before .before .before .before .before .before .args in
     (ends-leaf (a .src .now) _ (c .before .before .before .before .before .before .before .before .update-children .ensures) (a .s) (factsBy (a .b) (a .facts .now) (take (a .n) (a .rows .now)) (a .masks .now)) _ (a .dst .now) _ (sym (c .before .before .before .before .before .children-at .ensures) ∙ c .before .before .before .before .if1 .taken) (c .before .leave-unchanged .ensures), c .before .before .before .before .before .before .before .before .update-children .ensures)
 
--- src/distribution.rt:64:9
 remove-dist-changing-operators-requires : tie.Need-remove-dist-changing-operators-requires
 remove-dist-changing-operators-requires c κs =
     sheet-stands (c .before .before .before .before .before .before .before .before .before .args .src .now) _ (c .before .before .before .before .before .update-children .ensures) _ (c .before .before .before .before .before .before .before .before .before .pre .1 .1)
 
--- src/distribution.rt:65:5
 ensure-worked-requires : tie.Need-ensure-worked-requires
 ensure-worked-requires c κs =
     let a = c .before .before .before .before .before .before .before .before .before .before .before .before .before .args in
     let q = c .before .before .before .before .before .before .before .before .before .before .before .before .before .pre in
     (q .0, ((q .1 .0 .0, omega (arith, q .1 .0 .1, c .before .before .before .before .before .before .before .before .before .update-children .kept .0)), sheet-worked (a .src .now) _ (c .before .before .before .before .before .before .before .before .before .update-children .ensures) (a .s) (factsBy (a .b) (a .facts .now) (take (a .n) (a .rows .now)) (a .masks .now)) _ (c .before .before .before .remove-dist-changing-operators .ensures) _ _ (q .1 .1) (q .1 .0 .0) (q .1 .0 .2) (λ z. c .before .before .before .before .before .if1 .left (c .before .before .before .before .before .before .children-at .ensures ∙ z))))
 
--- src/distribution.rt:42:1
 same-length-3 : tie.Need-same-length-3
 same-length-3 c = search needs
 
--- src/distribution.rt:42:1
 same-length-4 : tie.Need-same-length-4
 same-length-4 c = search needs
 
--- src/distribution.rt:42:1
 same-length-5 : tie.Need-same-length-5
 same-length-5 c = search needs
 
--- src/distribution.rt:42:1
 returns-2 : tie.Need-returns-2
 returns-2 c =
     let a = c .before .before .before .before .before .before .before .before .before .before .before .before .before .before .before .before .args in

@@ -1,10 +1,9 @@
+-- `interleave` meets its contract: the limit's mark and number stay as they were.
+-- Assumes nothing.
 use mathlib.Core.Path.{refl}
 use Rattle.ensure.proofs.finished.interleave.Statement.{statement}
 use Rattle.ensure.proofs.finished.interleave.Tie as tie
-use Rattle.ensure.proofs.finished.interleave.Reads as reads
-use Rattle.ensure.proofs.finished.interleave.Lts as lts
 
--- src/finished.rt:34:1
 returns : tie.Need-returns
 returns c =
     let n = c .args .n in

@@ -1,3 +1,5 @@
+-- `put_worked` meets its contract: a legal row is that of its operator.
+-- Assumes nothing.
 use mathlib.Core.Path.{refl, ap, _∙_}
 use mathlib.Core.Bool.{true, false}
 use lib.ListN.{set}
@@ -7,39 +9,28 @@ use Rattle.ensure.proofs.Finishing.{packed-row, put-chosen}
 use borrow.Author.Needs.{needs}
 use Rattle.ensure.proofs.finished.put_worked.Statement.{statement}
 use Rattle.ensure.proofs.finished.put_worked.Tie as tie
-use Rattle.ensure.proofs.finished.put_worked.Reads as reads
-use Rattle.ensure.proofs.finished.put_worked.Lts as lts
-use Rattle.ensure.proofs.finished.interleave.Reads as interleave-reads
-use Rattle.exchange.proofs.row.put_node.Reads as put-node-reads
 
--- src/finished.rt:58:32
 interleave-requires : tie.Need-interleave-requires
 interleave-requires c κs = search needs
 
--- src/finished.rt:58:9
 put-node-requires : tie.Need-put-node-requires
 put-node-requires c κs = search needs
 
--- src/finished.rt:59:9
 same-length : tie.Need-same-length
 same-length c = search needs
 
--- src/finished.rt:59:9
 returns : tie.Need-returns
 returns c =
     let a = c .before .before .before .before .before .args in
     put-chosen (a .interleaves) true (a .rows .now) _ (interleaved (operatorOf (a .worked))) (operatorOf (a .worked)) (a .children) (c .before .before .before .before .if1 .taken)
     (c .before .put-node .ensures ∙ ap (set (a .rows .now) 0) (packed-row _ _ (a .children) (c .before .before .interleave .ensures .1 (c .before .before .before .before .before .pre .1)) (c .before .before .interleave .ensures .0)))
 
--- src/finished.rt:61:5
 put-node-requires-2 : tie.Need-put-node-requires-2
 put-node-requires-2 c κs = search needs
 
--- src/finished.rt:53:1
 same-length-2 : tie.Need-same-length-2
 same-length-2 c = search needs
 
--- src/finished.rt:53:1
 returns-2 : tie.Need-returns-2
 returns-2 c =
     let a = c .before .before .before .before .args in

@@ -1,3 +1,5 @@
+-- `worked_forms` meets its contract: needs and counts are those of the children, so the forms are those of their states (`told-worked`).
+-- Assumes nothing.
 use mathlib.Core.Path.{_≡_, refl, sym, ap, _∙_}
 use lib.ListN.{length, take}
 use lib.Seq.{length-take-le}
@@ -7,60 +9,44 @@ use Rattle.ensure.proofs.Forming.{stood-in, stood-below, told-worked}
 use borrow.Author.Needs.{needs}
 use Rattle.ensure.proofs.worked.worked_forms.Statement.{statement}
 use Rattle.ensure.proofs.worked.worked_forms.Tie as tie
-use Rattle.ensure.proofs.worked.worked_forms.Reads as reads
-use Rattle.ensure.proofs.worked.worked_forms.Lts as lts
-use Rattle.exchange.proofs.decide.child_forms.Reads as child-forms-reads
-use Rattle.exchange.proofs.places.child_places.Reads as child-places-reads
-use Rattle.exchange.proofs.row.node_at.Reads as node-at-reads
 
--- src/worked.rt:43:17
 add-below : tie.Need-add-below
 add-below c =
     omega (arith, stood-in (c .before .before .before .args .src .now) (c .before .before .before .args .at) _ (c .before .before .before .pre .1 .1))
 
--- src/worked.rt:46:15
 node-at-requires : tie.Need-node-at-requires
 node-at-requires c κs =
     stood-in (c .before .before .before .args .src .now) (c .before .before .before .args .at) _ (c .before .before .before .pre .1 .1)
 
--- src/worked.rt:56:9
 slice-aggregate-child-places : tie.Need-slice-aggregate-child-places
 slice-aggregate-child-places c = search needs
 
--- src/worked.rt:57:9
 slice-aggregate-child-places-2 : tie.Need-slice-aggregate-child-places-2
 slice-aggregate-child-places-2 c = search needs
 
--- src/worked.rt:58:9
 slice-aggregate-child-places-3 : tie.Need-slice-aggregate-child-places-3
 slice-aggregate-child-places-3 c = search needs
 
--- src/worked.rt:52:5
 child-places-requires : tie.Need-child-places-requires
 child-places-requires c κs =
     (stood-below (c .before .before .before .before .before .before .before .args .src .now) (c .before .before .before .before .before .before .before .args .at) _ (c .before .before .before .before .before .before .before .pre .1 .1), let few = c .before .before .before .before .before .before .before .pre .1 .0 .0 in (omega arith, omega arith, omega arith))
 
--- src/worked.rt:65:9
 array-share-prefix-needs : tie.Need-array-share-prefix-needs
 array-share-prefix-needs c =
     omega (arith, c .before .before .before .before .before .before .before .before .before .before .before .pre .1 .0 .0, c .before .before .before .child-places .kept .1 .1 .1 .1 .0)
 
--- src/worked.rt:65:9
 slice-aggregate-child-forms : tie.Need-slice-aggregate-child-forms
 slice-aggregate-child-forms c =
     sym (length-take-le _ _ (omega (arith, c .before .before .before .before .before .before .before .before .before .before .before .before .pre .1 .0 .0, c .before .before .before .before .child-places .kept .1 .1 .1 .1 .0)))
 
--- src/worked.rt:66:9
 array-share-prefix-counts : tie.Need-array-share-prefix-counts
 array-share-prefix-counts c =
     omega (arith, c .before .before .before .before .before .before .before .before .before .before .before .before .pre .1 .0 .0, c .before .before .before .before .child-places .kept .1 .1 .1 .1 .1 .0)
 
--- src/worked.rt:66:9
 slice-aggregate-child-forms-2 : tie.Need-slice-aggregate-child-forms-2
 slice-aggregate-child-forms-2 c =
     sym (length-take-le _ _ (omega (arith, c .before .before .before .before .before .before .before .before .before .before .before .before .before .pre .1 .0 .0, c .before .before .before .before .before .child-places .kept .1 .1 .1 .1 .1 .0)))
 
--- src/worked.rt:61:5
 child-forms-requires : tie.Need-child-forms-requires
 child-forms-requires c κs =
     let a = c .before .before .before .before .before .before .before .before .before .before .before .before .before .before .args in
@@ -72,11 +58,9 @@ child-forms-requires c κs =
     let m : length (take k counts) ≡ k = length-take-le k counts (omega (arith, c .before .before .before .before .before .before .before .before .before .before .before .before .before .before .pre .1 .0 .0, c .before .before .before .before .before .before .child-places .kept .1 .1 .1 .1 .1 .0)) in
     ((m ∙ sym n, sym n, omega (arith, n, c .before .before .before .before .before .before .before .before .before .before .before .before .before .before .pre .1 .0 .0), q .1 .0 .1 ∙ sym n), (q .0 .rowed, q .0 .indexed))
 
--- src/worked.rt:26:1
 same-length : tie.Need-same-length
 same-length c = search needs
 
--- src/worked.rt:26:1
 returns : tie.Need-returns
 returns c =
     let a = c .before .before .before .before .before .before .before .before .before .before .before .before .before .before .before .before .before .args in

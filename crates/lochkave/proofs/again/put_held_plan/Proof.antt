@@ -1,3 +1,5 @@
+-- `put_held_plan` meets its contract: the rows in the rooms give the sheet's text (`lent-text`).
+-- Assumes nothing.
 use mathlib.Core.Path.{sym}
 use native.Mathlib.Omega.{arith}
 use lib.Seq.{length-take-le}
@@ -5,58 +7,46 @@ use Rattle.lochkave.proofs.PlanLent.{lent-few, lent-sets, lent-long, le
 use borrow.Author.Needs.{needs}
 use Rattle.lochkave.proofs.again.put_held_plan.Statement.{statement}
 use Rattle.lochkave.proofs.again.put_held_plan.Tie as tie
-use Rattle.lochkave.proofs.again.put_held_plan.Reads as reads
-use Rattle.lochkave.proofs.again.put_held_plan.Lts as lts
-use Rattle.plananswer.proofs.sheet_text.put_plan_sheet.Reads as put-plan-sheet-reads
-use Rattle.plansheet.proofs.line.sets_of.Reads as sets-of-reads
 
--- src/again.rt:89:9
 sets-of-requires : tie.Need-sets-of-requires
 sets-of-requires c κs =
     let a = c .before .before .before .args in
     let p = c .before .before .before .pre .held in
     lent-few (p .sheet) (a .settings) (a .lines) (a .children) (a .n) (a .rows .now) (a .node) (a .facts .now) (a .xs .now) (a .masks .now) (a .index .now) (p .is)
 
--- src/again.rt:94:9
 slice-aggregate-put-plan-sheet : tie.Need-slice-aggregate-put-plan-sheet
 slice-aggregate-put-plan-sheet c =
     let a = c .before .before .before .before .before .before .args in
     let p = c .before .before .before .before .before .before .pre .held in
     sym (lent-long (p .sheet) (a .settings) (a .lines) (a .children) (a .n) (a .rows .now) (a .node) (a .facts .now) (a .xs .now) (a .masks .now) (a .index .now) (p .is))
 
--- src/again.rt:96:9
 slice-aggregate-put-plan-sheet-2 : tie.Need-slice-aggregate-put-plan-sheet-2
 slice-aggregate-put-plan-sheet-2 c =
     let a = c .before .before .before .before .before .before .before .args in
     let p = c .before .before .before .before .before .before .before .pre .held in
     sym (lent-count (p .sheet) (a .settings) (a .lines) (a .children) (a .n) (a .rows .now) (a .node) (a .facts .now) (a .xs .now) (a .masks .now) (a .index .now) (p .is) (p .roomy))
 
--- src/again.rt:97:9
 slice-aggregate-put-plan-sheet-3 : tie.Need-slice-aggregate-put-plan-sheet-3
 slice-aggregate-put-plan-sheet-3 c =
     let a = c .before .before .before .before .before .before .before .before .args in
     let p = c .before .before .before .before .before .before .before .before .pre .held in
     sym (lent-rows (p .sheet) (a .settings) (a .lines) (a .children) (a .n) (a .rows .now) (a .node) (a .facts .now) (a .xs .now) (a .masks .now) (a .index .now) (p .is))
 
--- src/again.rt:98:9
 slice-aggregate-put-plan-sheet-4 : tie.Need-slice-aggregate-put-plan-sheet-4
 slice-aggregate-put-plan-sheet-4 c =
     let a = c .before .before .before .before .before .before .before .before .before .args in
     let p = c .before .before .before .before .before .before .before .before .before .pre .held in
     sym (length-take-le _ _ (omega (arith, c .before .before .before .before .before .sets-of .ensures, lent-sets (p .sheet) (a .settings) (a .lines) (a .children) (a .n) (a .rows .now) (a .node) (a .facts .now) (a .xs .now) (a .masks .now) (a .index .now) (p .is) (p .masked))))
 
--- src/again.rt:90:5
 put-plan-sheet-requires : tie.Need-put-plan-sheet-requires
 put-plan-sheet-requires c κs =
     let a = c .before .before .before .before .before .before .before .before .before .args in
     let p = c .before .before .before .before .before .before .before .before .before .pre .held in
     rw (c .before .before .before .before .before .sets-of .ensures, lent-text (p .sheet) (a .settings) (a .lines) (a .children) (a .n) (a .rows .now) (a .node) (a .facts .now) (a .xs .now) (a .masks .now) (a .index .now) (p .is)) (omega (arith, c .before .before .before .before .before .before .before .before .before .pre .fits))
 
--- src/again.rt:72:1
 same-length : tie.Need-same-length
 same-length c = search needs
 
--- src/again.rt:72:1
 returns : tie.Need-returns
 returns c =
     let a = c .before .before .before .before .before .before .before .before .before .before .before .before .args in

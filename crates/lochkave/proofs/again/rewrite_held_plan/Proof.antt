@@ -1,3 +1,5 @@
+-- `rewrite_held_plan` meets its contract: the text is as long as the sheet was.
+-- Assumes nothing.
 use mathlib.Core.Path.{ap}
 use lib.ListN.{length}
 use Rattle.answers.proofs.Room.{room-written, room-short}
@@ -7,11 +9,7 @@ use native.Mathlib.Omega.{arith}
 use borrow.Author.Needs.{needs}
 use Rattle.lochkave.proofs.again.rewrite_held_plan.Statement.{statement}
 use Rattle.lochkave.proofs.again.rewrite_held_plan.Tie as tie
-use Rattle.lochkave.proofs.again.rewrite_held_plan.Reads as reads
-use Rattle.lochkave.proofs.again.rewrite_held_plan.Lts as lts
-use Rattle.lochkave.proofs.again.put_held_plan.Reads as put-held-plan-reads
 
--- src/again.rt:121:9
 returns : tie.Need-returns
 returns c =
     let a = c .before .before .before .before .args in
@@ -20,17 +18,14 @@ returns c =
     let same = one-text x (p .held .sheet) (a .settings) (a .lines) (a .children) (a .n) (a .rows .now) (a .node) (a .facts .now) (a .xs .now) (a .masks .now) (a .index .now) h (p .held .is) in
     room-short (a .out .now) (planText x) (omega (arith, c .if1 .taken, p .long, ap length same))
 
--- src/again.rt:123:5
 put-held-plan-requires : tie.Need-put-held-plan-requires
 put-held-plan-requires c κs =
     let a = c .before .before .before .before .before .args in
     record { held = c .before .before .before .before .before .pre .held; fits = omega (arith, c .before .before .before .before .before .pre .long, c .before .if1 .left) }
 
--- src/again.rt:103:1
 same-length : tie.Need-same-length
 same-length c = search needs
 
--- src/again.rt:103:1
 returns-2 : tie.Need-returns-2
 returns-2 c =
     let a = c .before .before .before .before .before .before .before .before .args in

@@ -11,11 +11,6 @@ use Rattle.lochkave.proofs.Entries.{full-zeros, was-turned, Was, was-re
 use borrow.Author.Needs.{needs}
 use Rattle.lochkave.proofs.again.rewrite_join_sheet.Statement.{statement}
 use Rattle.lochkave.proofs.again.rewrite_join_sheet.Tie as tie
-use Rattle.lochkave.proofs.again.rewrite_join_sheet.Reads as reads
-use Rattle.lochkave.proofs.again.rewrite_join_sheet.Lts as lts
-use Rattle.answers.proofs.sheet_text.put_sheet.Reads as put-sheet-reads
-use Rattle.lochkave.proofs.again.refusal.Reads as refusal-reads
-use Rattle.sheet.proofs.sheets.read_join_sheet.Reads as read-join-sheet-reads
 
 slice-aggregate-read-join-sheet : tie.Need-slice-aggregate-read-join-sheet
 slice-aggregate-read-join-sheet c = search needs

@@ -15,11 +15,6 @@ use Rattle.lochkave.proofs.Entries.{full-zeros, was-turned, Was, was-re
 use borrow.Author.Needs.{needs}
 use Rattle.lochkave.proofs.again.rewrite_key_sheet.Statement.{statement}
 use Rattle.lochkave.proofs.again.rewrite_key_sheet.Tie as tie
-use Rattle.lochkave.proofs.again.rewrite_key_sheet.Reads as reads
-use Rattle.lochkave.proofs.again.rewrite_key_sheet.Lts as lts
-use Rattle.answers.proofs.sheet_text.put_sheet.Reads as put-sheet-reads
-use Rattle.lochkave.proofs.again.refusal.Reads as refusal-reads
-use Rattle.sheet.proofs.sheets.read_key_sheet.Reads as read-key-sheet-reads
 
 slice-aggregate-read-key-sheet : tie.Need-slice-aggregate-read-key-sheet
 slice-aggregate-read-key-sheet c = search needs

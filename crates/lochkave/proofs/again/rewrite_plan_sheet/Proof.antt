@@ -1,3 +1,5 @@
+-- `rewrite_plan_sheet` meets its contract: a refusal, or the sheet that is held.
+-- Assumes nothing.
 use native.Mathlib.Omega.{arith}
 use Rattle.plansheet.specs.PlanSheets.{readPlan}
 use Rattle.lochkave.specs.Entry.{planAgain}
@@ -7,60 +9,43 @@ use Rattle.lochkave.proofs.PlanEntries.{plan-was-turned, plan-was-held,
 use borrow.Author.Needs.{needs}
 use Rattle.lochkave.proofs.again.rewrite_plan_sheet.Statement.{statement}
 use Rattle.lochkave.proofs.again.rewrite_plan_sheet.Tie as tie
-use Rattle.lochkave.proofs.again.rewrite_plan_sheet.Reads as reads
-use Rattle.lochkave.proofs.again.rewrite_plan_sheet.Lts as lts
-use Rattle.lochkave.proofs.again.refusal.Reads as refusal-reads
-use Rattle.lochkave.proofs.again.rewrite_held_plan.Reads as rewrite-held-plan-reads
-use Rattle.plansheet.proofs.plan.read_plan.Reads as read-plan-reads
 
--- src/again.rt:152:9
 slice-aggregate-read-plan : tie.Need-slice-aggregate-read-plan
 slice-aggregate-read-plan c = search needs
 
--- src/again.rt:153:9
 slice-aggregate-read-plan-2 : tie.Need-slice-aggregate-read-plan-2
 slice-aggregate-read-plan-2 c = search needs
 
--- src/again.rt:154:9
 slice-aggregate-read-plan-3 : tie.Need-slice-aggregate-read-plan-3
 slice-aggregate-read-plan-3 c = search needs
 
--- src/again.rt:155:9
 slice-aggregate-read-plan-4 : tie.Need-slice-aggregate-read-plan-4
 slice-aggregate-read-plan-4 c = search needs
 
--- src/again.rt:156:9
 slice-aggregate-read-plan-5 : tie.Need-slice-aggregate-read-plan-5
 slice-aggregate-read-plan-5 c = search needs
 
--- src/again.rt:157:9
 slice-aggregate-read-plan-6 : tie.Need-slice-aggregate-read-plan-6
 slice-aggregate-read-plan-6 c = search needs
 
--- src/again.rt:158:9
 slice-aggregate-read-plan-7 : tie.Need-slice-aggregate-read-plan-7
 slice-aggregate-read-plan-7 c = search needs
 
--- src/again.rt:159:9
 slice-aggregate-read-plan-8 : tie.Need-slice-aggregate-read-plan-8
 slice-aggregate-read-plan-8 c = search needs
 
--- src/again.rt:150:9
 read-plan-requires : tie.Need-read-plan-requires
 read-plan-requires c κs = search needs
 
--- src/again.rt:162:25
 enum-known-p : tie.Need-enum-known-p
 enum-known-p c = search needs
 
--- src/again.rt:162:43
 refusal-requires : tie.Need-refusal-requires
 refusal-requires c κs =
     let a = c .before .before .before .before .before .before .before .before .before .before .before .before .before .before .before .before .before .before .before .before .before .before .args in
     let q = c .before .before .before .before .before .before .before .before .before .before .before .read-plan in
     plan-turned-few (a .sheet .now) _ _ (plan-was-turned (readPlan (a .sheet .now)) (q .result) _ _ (q .ensures .0) (c .before .p .given .1))
 
--- src/again.rt:162:43
 returns : tie.Need-returns
 returns c =
     let a = c .before .before .before .before .before .before .before .before .before .before .before .before .before .before .before .before .before .before .before .before .before .before .before .args in
@@ -68,31 +53,24 @@ returns c =
     leaves-refused (planAgain (readPlan (a .sheet .now))) (a .out .now) _ _ _
     (again-turned (a .sheet .now) _ _ (plan-was-turned (readPlan (a .sheet .now)) (q .result) _ _ (q .ensures .0) (c .before .before .p .given .1))) (c .refusal .ensures)
 
--- src/again.rt:164:13
 enum-known-p-2 : tie.Need-enum-known-p-2
 enum-known-p-2 c = search needs
 
--- src/again.rt:176:17
 slice-aggregate-rewrite-held-plan : tie.Need-slice-aggregate-rewrite-held-plan
 slice-aggregate-rewrite-held-plan c = search needs
 
--- src/again.rt:178:17
 slice-aggregate-rewrite-held-plan-2 : tie.Need-slice-aggregate-rewrite-held-plan-2
 slice-aggregate-rewrite-held-plan-2 c = search needs
 
--- src/again.rt:179:17
 slice-aggregate-rewrite-held-plan-3 : tie.Need-slice-aggregate-rewrite-held-plan-3
 slice-aggregate-rewrite-held-plan-3 c = search needs
 
--- src/again.rt:180:17
 slice-aggregate-rewrite-held-plan-4 : tie.Need-slice-aggregate-rewrite-held-plan-4
 slice-aggregate-rewrite-held-plan-4 c = search needs
 
--- src/again.rt:181:17
 slice-aggregate-rewrite-held-plan-5 : tie.Need-slice-aggregate-rewrite-held-plan-5
 slice-aggregate-rewrite-held-plan-5 c = search needs
 
--- src/again.rt:170:13
 rewrite-held-plan-requires : tie.Need-rewrite-held-plan-requires
 rewrite-held-plan-requires c κs =
     let a = c .before .before .before .before .before .before .before .before .before .before .before .before .before .before .before .before .before .before .before .before .before .before .before .before .before .before .before .before .args in
@@ -100,11 +78,9 @@ rewrite-held-plan-requires c κs =
     let w = plan-was-held (readPlan (a .sheet .now)) (q .result) _ _ _ _ _ (q .ensures .0) (c .before .before .before .before .before .before .before .p2 .given .1) in
     room-long (a .sheet .now) _ _ _ _ w _ _ _ _ _ _ (q .ensures .1) (omega (arith, q .kept .1 .1 .1 .1 .1 .0)) (omega (arith, q .kept .1 .1 .1 .1 .1 .1 .1 .0))
 
--- src/again.rt:170:13
 same-length : tie.Need-same-length
 same-length c = search needs
 
--- src/again.rt:170:13
 returns-2 : tie.Need-returns-2
 returns-2 c =
     let a = c .before .before .before .before .before .before .before .before .before .before .before .before .before .before .before .before .before .before .before .before .before .before .before .before .before .before .before .before .before .before .before .args in
