@@ -36,7 +36,7 @@
 extern "C" {
 #endif
 
-/* Decides a K or an I sheet. Any other first line is refusal 1 on line 1. */
+/* Decides a K, an I or a D sheet. Any other first line is refusal 1 on line 1. */
 uint64_t lochkave_decide(const uint8_t *sheet, size_t sheet_len, uint8_t *out, size_t out_len);
 
 /* Decides a K sheet: `adjust_input_keys_ordering`. Any other first line is refusal 1 on line 1. */
@@ -45,7 +45,10 @@ uint64_t lochkave_adjust_input_keys_ordering(const uint8_t *sheet, size_t sheet_
 /* Decides an I sheet: `reorder_join_keys_to_inputs`. Any other first line is refusal 1 on line 1. It never gives refusals 6 and 10. */
 uint64_t lochkave_reorder_join_keys_to_inputs(const uint8_t *sheet, size_t sheet_len, uint8_t *out, size_t out_len);
 
-/* Reads a K or an I sheet and writes it again from what was read: the same bytes. Refusals 1 to 6 and 12 only. */
+/* Decides a D sheet: `ensure_distribution`. Any other first line is refusal 1 on line 1. It never gives refusals 5 and 10. */
+uint64_t lochkave_ensure_distribution(const uint8_t *sheet, size_t sheet_len, uint8_t *out, size_t out_len);
+
+/* Reads a sheet and writes it again from what was read: the same bytes. Refusals 1 to 8 and 12 only. */
 uint64_t lochkave_rewrite(const uint8_t *sheet, size_t sheet_len, uint8_t *out, size_t out_len);
 
 /* The two halves of a result. */

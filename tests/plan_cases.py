@@ -191,7 +191,8 @@ case("129 X rows, the last with a wrong mark", eight(ALL_ROWS + ["X,1,0,1,0,2,0,
 case("8 and 2", QUIET, both(field(6, 3, "2"), line(7, "Y,0,")), "e,2,7", "Line before Sheet")
 case("8 and 9", QUIET, line(6, ROW.format(1, 16, 4)), "e,8,0", "Sheet before Work")
 
-# Row 9: a row that is needed and missing, for each form.
+# Row 9: a row that is needed and missing, for each form. Forms 10, 11, 14 and 15 are never passed: a relationship exchange is given to keyed children alone.
+SPLIT_FIRST = both(field(1, 3, "1"), both(field(6, 6, "1"), put(9, ROW.format(1, 1, 4))))  # the first of two children is split at its source
 for name, sheet, edit in [
     ("form 0", QUIET, drop(6)),
     ("form 0 of a child that is split", SPLIT, drop(6)),
@@ -206,7 +207,9 @@ for name, sheet, edit in [
     ("form 7", SPLIT, both(field(7, 3, "2"), drop(8))),
     ("form 8 in the first round", PAIR, drop(9)),
     ("form 8 in the second round", PAIR, drop(11)),
+    ("form 9", PAIR, SPLIT_FIRST),
     ("form 12", HASHED, both(field(9, 5, "0"), line(12, "Y,1,0,0,0"))),
+    ("form 13", HASHED, both(SPLIT_FIRST, both(put(10, "X,1,5,4,0,0,1,1,0,0,0,0,0,0"), line(14, "Y,1,0,0,0")))),
 ]:
     case(f"{name} is missing", sheet, edit, "e,9,0", '"Rows needed are those of each form a child passes through, 0 included"')
 case("9 and 12", QUIET, drop(6), "e,9,0", "Work before Write", room=0)
@@ -231,6 +234,7 @@ case("the second child alone", PAIR, line(12, "Y,2,0,0,0"), PAIR_SECOND, '"bit n
 case("round robin by the count after the split", SPLIT, field(7, 3, "2"), "d,1,0,0,0 t,1,0,1,0,,0,0,0,1 t,0,13,4,0,,0,0,1,1 t,2,0,2,0,,0,0,1,0", '"Wrong, though plausible: testing round robin only before the split"')
 case("a merge over a split", SPLIT, both(field(3, 7, "1"), line(8, ROW.format(1, 3, 1))), "d,1,0,0,0 t,1,0,1,0,,0,0,0,1 t,0,2,1,0,,0,0,1,1 t,2,0,4,0,,0,0,1,0", "a single need and four partitions after the split")
 case("a keyed exchange over a split", SPLIT, both(field(3, 7, "2"), line(8, ROW.format(1, 5, 4))), "d,1,0,0,0 t,1,0,1,0,,0,0,0,1 t,0,12,4,0,,0,0,1,1 t,2,0,4,0,,0,0,1,0", "a keyed need that its row does not meet")
+case("a relationship exchange over a split", PAIR, both(SPLIT_FIRST, put(10, "X,1,9,4,1,1,1,1,0,0,0,0,0,0")), "d,1,0,0,0 t,1,5,1,0,,0,0,0,2 t,0,12,4,0,,0,0,1,1 t,2,0,4,0,,0,0,1,0 t,0,12,4,0,,0,0,1,1 t,3,0,1,0,,0,0,1,0", "necessity goes by the count before the split; then the rounds")
 case("X rows the other way about", HASHED, both(swap(8, 11), swap(9, 10)), HASHED_BOTH, "X rows in any order")
 case("a limited merge is the worked node", LEAF, both(put(2, "T,1,1,0,0,0,0,0,1"), put(5, "F,0,1,2,0,0,0,0", ROW.format(1, 0, 1))), "e,2,7", "two sets of one child, one mask")
 case("a limited merge is the worked node, with its masks", LEAF, both(put(2, "T,1,1,0,0,0,0,0,1"), both(put(5, "F,0,1,2,0,0,0,0", ROW.format(1, 0, 1)), line(7, "Y,0,0"))), "d,1,0,0,0 t,1,1,1,0,0,0,0,0,1 t,2,0,1,0,,0,0,1,0", "decision 1: a merge with a limit stays")
