@@ -12,21 +12,11 @@ const MOST: usize = 65536;
 type Decide = fn(&[u8], &mut [u8], &mut Room) -> u64;
 
 const SIDES: [(&str, Decide); 2] = [
-    ("plain Rust", |s, out, room| {
-        decide_known(plain::decide, s, out, room)
-    }),
+    ("plain Rust", |s, out, room| plain::decide(s, out, room)),
     ("plain Rust, exact length first", |s, out, room| {
-        decide_known(plain::decide_exact, s, out, room)
+        plain::decide_exact(s, out, room)
     }),
 ];
-
-/// Refusal 1 on line 1 of a D sheet, as long as the library gives it.
-fn decide_known(decide: Decide, s: &[u8], out: &mut [u8], room: &mut Room) -> u64 {
-    if !lochkave::DECIDES_D && s.first() == Some(&b'D') {
-        return 1 << 32 | 1;
-    }
-    decide(s, out, room)
-}
 
 /// What a side returned and left in the output lent, which was filled with 126.
 fn ask(decide: impl Fn(&[u8], &mut [u8]) -> u64, sheet: &[u8], out: &mut [u8]) -> u64 {

@@ -25,11 +25,9 @@ fn agreed(sides: &mut Sides, sheet: &[u8], room: usize) -> Result<Vec<u8>, Strin
     let name = || String::from_utf8_lossy(sheet).into_owned();
     let result = sides.plain(Question::Decide, sheet, room);
     let answer = printed(result.ok_or_else(name)?, &sides.theirs);
-    if lochkave::DECIDES_D || sheet.first() != Some(&b'D') {
-        let library = sides.library(Question::Decide, sheet, room);
-        if printed(library, &sides.ours) != answer {
-            return Err(name());
-        }
+    let library = sides.library(Question::Decide, sheet, room);
+    if printed(library, &sides.ours) != answer {
+        return Err(name());
     }
     let work = answer[0] != b'e' || [&b"e,9,"[..], b"e,10", b"e,11"].contains(&&answer[..4]);
     if work && files(sheet) != answer {

@@ -30,11 +30,6 @@ fn differ((accepted, damaged): (u64, u64), seed: u64) -> ExitCode {
     if !oracle::AVAILABLE {
         println!("NOT run: the comparison with the three files, which are not at hand");
     }
-    if !lochkave::DECIDES_D {
-        println!(
-            "NOT run: the library on D sheets, which it doesn't decide yet (every function must refuse them by 1 on line 1)"
-        );
-    }
     let mut run = Run::new();
     run.examples();
     sheets::short_key_sheets().for_each(|sheet| run.accepted("short K sheets", &sheet.text()));

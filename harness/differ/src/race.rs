@@ -35,14 +35,8 @@ fn best(sheets: &[Vec<u8>], sides: &mut [(Decide, usize)]) -> Vec<f64> {
 
 /// ns a sheet: plain Rust, plain Rust with the exact length first, the library, the files.
 fn race_one(sheets: &[Vec<u8>]) -> [f64; 4] {
-    let exchange = sheets[0][0] == b'D';
     let (mut plain_out, mut exact_out, mut ours) = (vec![0; MOST], vec![0; MOST], vec![0; MOST]);
     let (mut plain_room, mut exact_room) = (Room::new(), Room::new());
-    let library = if exchange && !lochkave::DECIDES_D {
-        0
-    } else {
-        ROUNDS
-    };
     let files = if oracle::AVAILABLE { FILE_ROUNDS } else { 0 };
     let mut sides: Vec<(Decide, usize)> = vec![
         (
@@ -55,7 +49,7 @@ fn race_one(sheets: &[Vec<u8>]) -> [f64; 4] {
         ),
         (
             Box::new(|s| lochkave::decide_into(s, &mut ours).map_or(0, |n| n as u64)),
-            library,
+            ROUNDS,
         ),
         (Box::new(|s| oracle::decide(s).len() as u64), files),
     ];
@@ -259,7 +253,7 @@ pub fn race() -> ExitCode {
         row(&name, &repeat(|| exchange(random, 2, under, &KEYED)));
     }
     head("trees");
-    for n in [16, 64, 256] {
+    for n in [8, 16, 64, 256] {
         let chains = repeat(|| exchange(random, 1, n - 1, &[0, 1, 6, 7]));
         row(&format!("D, a chain of {n} operators"), &chains);
     }

@@ -19,9 +19,6 @@ use std::fmt;
 /// So many bytes of output suffice for every answer.
 pub const ANSWER_MOST: usize = 65536;
 
-/// Whether the library that was linked decides D sheets. Until it does, they are refused by 1 on line 1.
-pub const DECIDES_D: bool = cfg!(decides_d);
-
 /// Why a sheet was not decided. The output lent is then as it was.
 #[derive(Clone, Copy, Debug, PartialEq, Eq, Hash)]
 pub struct Refusal {
@@ -85,24 +82,12 @@ unsafe extern "C" {
         out_len: usize,
     ) -> u64;
     fn lochkave_rewrite(sheet: *const u8, sheet_len: usize, out: *mut u8, out_len: usize) -> u64;
-    #[cfg(decides_d)]
     fn lochkave_ensure_distribution(
         sheet: *const u8,
         sheet_len: usize,
         out: *mut u8,
         out_len: usize,
     ) -> u64;
-}
-
-/// Stands for the function that a library without it lacks: every sheet is a wrong line 1.
-#[cfg(not(decides_d))]
-unsafe extern "C" fn lochkave_ensure_distribution(
-    _: *const u8,
-    _: usize,
-    _: *mut u8,
-    _: usize,
-) -> u64 {
-    1 << 32 | 1
 }
 
 /// What is asked of a sheet: one of the library's functions.

@@ -82,9 +82,8 @@ fn every_number_has_a_meaning() {
 #[test]
 fn a_leaf() {
     let leaf = b"D,4,0,0,8192,0,9,0,0,0\nT,0,1,0,,0,1,0,0\nB,0,0,0,0\nY,0\n";
-    let expected = match lochkave::DECIDES_D {
-        true => Ok(b"d,0,0,0,0\nt,1,0,1,0,,0,0,0,0\n".to_vec()),
-        false => Err(refusal(1, 1)),
-    };
-    assert_eq!(decide(leaf), expected);
+    assert_eq!(
+        decide(leaf),
+        Ok(b"d,0,0,0,0\nt,1,0,1,0,,0,0,0,0\n".to_vec())
+    );
 }

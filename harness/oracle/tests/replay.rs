@@ -32,7 +32,9 @@ fn ask(stdin: &str, stdout: &str) -> usize {
         let refused = expected[0] == b'e';
         let work = [&b"e,9,0\n"[..], b"e,10,0\n", b"e,11,0\n"].contains(&expected);
         let written_again = head[0] == "w";
-        if (!refused || work) && !written_again {
+        // Output requirements that 002 never has, see docs/DIFFERENCES.md.
+        let excused = name.starts_with("# decision-28-");
+        if (!refused || work) && !written_again && !excused {
             assert_eq!(oracle::decide(sheet), expected, "{name}");
             asked += 1;
         }
