@@ -76,15 +76,12 @@ fn replay_cases() {
         cases = rest;
         assert_eq!(line(&mut answers), name);
         let expected = answer_of(&mut answers);
-        // These two cases say that D sheets aren't decided yet.
-        if sheet.first() == Some(&b'D') && "dw".contains(head[0]) && expected == b"e,1,1\n" {
-            continue;
-        }
         let mut out = vec![126; space];
         let result = match head[0] {
             "d" => decide(sheet, &mut out, &mut room),
             "k" => decide_only(b'K', sheet, &mut out, &mut room),
             "i" => decide_only(b'I', sheet, &mut out, &mut room),
+            "x" => decide_only(b'D', sheet, &mut out, &mut room),
             _ => rewrite(sheet, &mut out, &mut room),
         };
         assert_eq!(printed(result, &out), expected, "{name}");
@@ -96,5 +93,5 @@ fn replay_cases() {
         assert!(out[written..].iter().all(|b| *b == 126), "{name}");
         seen += 1;
     }
-    assert!(seen > 500, "{seen} cases");
+    assert!(seen > 1300, "{seen} cases");
 }
