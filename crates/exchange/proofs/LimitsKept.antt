@@ -29,16 +29,16 @@ and-false false = refl
 pub own-none : (o : Operator) (ts : Plans) → o .limit ≡ nothing → ownLimit o ts ≡ []
 own-none o ts e = go (isAddedSort o) (eqb (o .mask) 0)
   where
-    go : (a m : Bool) → cond a (cond m (limitOf (idBelow ts) (o .limit)) []) (limitOf (o .id) (o .limit)) ≡ []
+    go : (a m : Bool) → cond a (cond m (limitOf (idBelow ts) true (o .limit)) []) (limitOf (o .id) (isSortPreservingMerge o) (o .limit)) ≡ []
     go true true = rw e
     go true false = refl
     go false m = rw e
 
 -- an operator that has an id where it has a limit owns it
-pub own-owned : (o : Operator) (ts : Plans) → OwnsLimit o → ownLimit o ts ≡ limitOf (o .id) (o .limit)
+pub own-owned : (o : Operator) (ts : Plans) → OwnsLimit o → ownLimit o ts ≡ limitOf (o .id) (isSortPreservingMerge o) (o .limit)
 own-owned o ts h = go (o .limit) refl
   where
-    go : (l : Option ℕ) → o .limit ≡ l → ownLimit o ts ≡ limitOf (o .id) (o .limit)
+    go : (l : Option ℕ) → o .limit ≡ l → ownLimit o ts ≡ limitOf (o .id) (isSortPreservingMerge o) (o .limit)
     go nothing e = own-none o ts e ∙ rw e
     go (some l) e = rw (named, and-false)
       where
@@ -88,22 +88,23 @@ limits-grow = record {
 
 limits-merge : (o : Operator) (ts : Plans) (l : Option ℕ) → o .limit ≡ l
     → limits (cond (isPresent l) (above (limitedSort l (o .order) (coalesced o)) (node (coalesced o) ts)) (node (coalesced o) ts))
-    ≡ limitOf (o .id) l ++ limitss ts
+    ≡ limitOf (o .id) true l ++ limitss ts
 unfolding limits
 limits-merge o ts nothing e = refl
-limits-merge o ts (some l) e = ap (λ ls. limitOf (o .id) (some l) ++ ls) (append-nil (limitss ts))
+limits-merge o ts (some l) e = ap (λ ls. limitOf (o .id) true (some l) ++ ls) (append-nil (limitss ts))
 
-limits-replaced : (o : Operator) (ts : Plans) → OwnsLimit o → limits (replaceOperator o ts) ≡ limitOf (o .id) (o .limit) ++ limitss ts
+limits-replaced : (o : Operator) (ts : Plans)
+    → OwnsLimit o → limits (replaceOperator o ts) ≡ limitOf (o .id) (isSortPreservingMerge o) (o .limit) ++ limitss ts
 unfolding limits
-limits-replaced o ts h = go (isSortPreservingMerge o) (isRepartition o && eqb (o .keeps) 1)
+limits-replaced o ts h = go (isSortPreservingMerge o) (isRepartition o && eqb (o .keeps) 1) refl
   where
-    go : (b r : Bool)
+    go : (b r : Bool) → isSortPreservingMerge o ≡ b
         → limits (cond b (cond (isPresent (o .limit)) (above (limitedSort (o .limit) (o .order) (coalesced o)) (node (coalesced o) ts)) (node (coalesced o) ts))
         (cond r (node (relaxed o) ts) (node o ts)))
-        ≡ limitOf (o .id) (o .limit) ++ limitss ts
-    go true r = limits-merge o ts (o .limit) refl
-    go false true = ap (λ ls. ls ++ limitss ts) (own-owned (relaxed o) ts h)
-    go false false = ap (λ ls. ls ++ limitss ts) (own-owned o ts h)
+        ≡ limitOf (o .id) (isSortPreservingMerge o) (o .limit) ++ limitss ts
+    go true r e = limits-merge o ts (o .limit) refl ∙ rw e
+    go false true e = ap (λ ls. ls ++ limitss ts) (own-owned (relaxed o) ts h)
+    go false false e = ap (λ ls. ls ++ limitss ts) (own-owned o ts h)
 
 limits-either : (b : Bool) (t u : Plan) → limits t ≡ limits u → limits (cond b t u) ≡ limits u
 limits-either true t u e = e

@@ -6,16 +6,18 @@ use mathlib.Core.Bool.{Bool, true, false, cond}
 use mathlib.Core.List.{List, [], _∷_, _++_}
 use lib.ListN.{length}
 use native.Mathlib.Omega.{arith}
+use borrow.Author.Tests.{eqb-true}
 use Rattle.exchange.specs.Trees.{node, none, _∷ᶠ_, root, Operator, Plan, Plans}
 use Rattle.exchange.specs.declared.settings.Settings.{Settings}
 use Rattle.exchange.specs.Facts.{ChildFacts, Facts}
-use Rattle.exchange.specs.Operators.{mark, track}
+use Rattle.exchange.specs.Operators.{isSortPreservingMerge, isUnion, mark, track}
 use Rattle.exchange.specs.Children.{changesDistribution, updateChild, updateEach, updateChildren, isRemoved, removeDistChangingOperators, removeAbove}
 use Rattle.exchange.specs.States.{ChildState, childrenFrom}
 use Rattle.exchange.specs.Ensure.{Answer, answered, becomesInterleave, interleaved, handled, finished, ensured}
 use Rattle.exchange.specs.Skeleton.{below}
-use Rattle.exchange.specs.Limits.{ownLimit, limits, limitss, OwnsLimit, Owned, Owneds}
+use Rattle.exchange.specs.Limits.{limitOf, ownLimit, limits, limitss, OwnsLimit, Owned, Owneds}
 use Rattle.exchange.proofs.Passing.{Alls}
+use Rattle.exchange.proofs.RowsFit.{and-first}
 use Rattle.exchange.proofs.Growing.{OfPlans, grown-steps, grown-relates}
 use Rattle.exchange.proofs.Answered.{Finished, Came, leaf, worked, came-always}
 use Rattle.exchange.proofs.OperatorsKept.{of-answer}
@@ -111,15 +113,19 @@ module _ (s : Settings) (f : Facts) where
   limitss-handled w n k (t ∷ᶠ ts) (g ∷ fs) (c ∷ cs) o h =
       ap₂ _++_ (limits-handled s (f .node) w n c (h .0 (o .0) .1) ∙ h .0 (o .0) .0) (limitss-handled w n (suc k) ts fs cs (o .1) (h .1))
 
-  own-worked : (b : Bool) (w : Operator) (ts us : Plans) → OwnsLimit w → ownLimit (cond b (interleaved w) w) ts ≡ ownLimit w us
-  own-worked true w ts us h = sym (own-owned w us h)
-  own-worked false w ts us h = own-owned w ts h ∙ sym (own-owned w us h)
+  -- a union is no merge
+  own-worked : (b : Bool) (w : Operator) (ts us : Plans)
+      → (b ≡ true → isUnion w ≡ true) → OwnsLimit w → ownLimit (cond b (interleaved w) w) ts ≡ ownLimit w us
+  own-worked true w ts us u h =
+      let other : isSortPreservingMerge w ≡ false = rw (eqb-true (w .kind) 9 (u refl)) in
+      ap (λ m. limitOf (w .id) m (w .limit)) (sym other) ∙ sym (own-owned w us h)
+  own-worked false w ts us u h = own-owned w ts h ∙ sym (own-owned w us h)
 
   limits-finished : (u : Plan) (a : Answer) → Owned u → Finished s f (OfPlans SameLimits) (root u) (below u) a → limits (a .plan) ≡ limits u
   unfolding finished limits
   limits-finished (node w ts) a o h =
       ap (λ (x : Answer). limits (x .plan)) (h .is)
-      ∙ ap₂ _++_ (own-worked (becomesInterleave s w (h .states)) w (handled s f w (length (h .states)) (h .states)) ts (o .0))
+      ∙ ap₂ _++_ (own-worked (becomesInterleave s w (h .states)) w (handled s f w (length (h .states)) (h .states)) ts (and-first (isUnion w) _) (o .0))
       (limitss-handled w (length (h .states)) 1 ts (f .children) (h .states) (o .1) (h .each))
 
   limits-came : (t : Plan) (a : Answer) → Owned t → Came s f (OfPlans SameLimits) t a → limits (a .plan) ≡ limits (removeDistChangingOperators t)

@@ -1,4 +1,4 @@
--- The limits of a tree, each with the id of the operator whose it is.
+-- The limits of a tree, each with the id of the operator whose it is, and whether that is a merge.
 -- Renders demand 3, "Every limit on the sheet is kept: on its operator or, where a merge became a coalesce, on the sort put directly above".
 use Prim.Native.Nat.{ℕ}
 use mathlib.Core.Path.{_≡_}
@@ -7,18 +7,19 @@ use mathlib.Core.Option.{Option, some, none as nothing}
 use mathlib.Core.List.{List, [], _∷_, _++_}
 use lib.Dec.{eqb, leb}
 use Rattle.exchange.specs.Trees.{node, none, _∷ᶠ_, root, trees, Operator, Plan, Plans}
-use Rattle.exchange.specs.Operators.{isCoalescePartitions, hasLimit}
+use Rattle.exchange.specs.Operators.{isSortPreservingMerge, isCoalescePartitions, hasLimit}
 use Rattle.exchange.specs.Children.{isRemoved}
 use Rattle.exchange.specs.Skeleton.{isAddedSort}
 
 pub record Limit : Type 0 where
   pub id : ℕ
+  pub merge : Bool
   pub rows : ℕ
 
 -- a limit of the operator with that id, if there is one
-abbrev pub limitOf : ℕ → Option ℕ → List Limit
-limitOf id nothing = []
-limitOf id (some l) = record { id = id; rows = l } ∷ []
+abbrev pub limitOf : ℕ → Bool → Option ℕ → List Limit
+limitOf id merge nothing = []
+limitOf id merge (some l) = record { id = id; merge = merge; rows = l } ∷ []
 
 -- the id of the coalesce that stands there alone, else 0
 abbrev pub idBelow : Plans → ℕ
@@ -29,7 +30,8 @@ idBelow (t ∷ᶠ u ∷ᶠ ts) = 0
 -- an operator's own limit. That of an added sort without entries is the merge's that became the coalesce right below;
 -- one with entries, for a required order, repeats the limit of the worked node, which still has it
 abbrev pub ownLimit : Operator → Plans → List Limit
-ownLimit o ts = cond (isAddedSort o) (cond (eqb (o .mask) 0) (limitOf (idBelow ts) (o .limit)) []) (limitOf (o .id) (o .limit))
+ownLimit o ts =
+    cond (isAddedSort o) (cond (eqb (o .mask) 0) (limitOf (idBelow ts) true (o .limit)) []) (limitOf (o .id) (isSortPreservingMerge o) (o .limit))
 
 -- in preorder
 unfoldable mutual

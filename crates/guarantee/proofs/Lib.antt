@@ -1,0 +1,11 @@
+pub mod Tops
+pub mod ChildForms
+pub mod Remarked
+pub mod Limits
+pub mod ChildNeeds
+pub mod PlanAnswered
+pub mod Operators
+pub mod Partitioning
+pub mod Together
+pub mod Bared
+pub mod PlanGuaranteed

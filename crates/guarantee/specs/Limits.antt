@@ -2,17 +2,17 @@
 use Prim.Native.Nat.{ℕ}
 use mathlib.Core.Path.{_≡_}
 use mathlib.Core.Logic.{_⊎_}
-use mathlib.Core.Option.{some, none as nothing}
+use mathlib.Core.Option.{some}
 use mathlib.Core.Bool.{true}
 use Rattle.exchange.specs.Trees.{node, none, _∷ᶠ_, root, Operator, Plan, Plans}
 use Rattle.exchange.specs.Operators.{isSortPreservingMerge, isCoalescePartitions}
 use Rattle.exchange.specs.Skeleton.{isAddedSort}
 use Rattle.plananswer.specs.Sizes.{Everywhere}
 
--- these trees are one, a coalesce without a limit that has the operator's id
+-- these trees are one, whose root is a coalesce with the operator's id
 abbrev pub BecameCoalesce : Operator → Plans → Type 0
 BecameCoalesce o none = ⊥
-BecameCoalesce o (t ∷ᶠ none) = (root t .id ≡ o .id) × (isCoalescePartitions (root t) ≡ true) × (root t .limit ≡ nothing)
+BecameCoalesce o (t ∷ᶠ none) = (root t .id ≡ o .id) × (isCoalescePartitions (root t) ≡ true)
 BecameCoalesce o (t ∷ᶠ u ∷ᶠ ts) = ⊥
 
 -- the sheet's operator o has the limit l: p has its id and that limit

@@ -31,7 +31,7 @@ unfolding placesFrom
 places-from m n zero h = tt
 places-from m n (suc k) h = (h, places-from m (suc n) k (omega arith))
 
-abbrev Placed : Operator → ℕ → Type 0
+abbrev pub Placed : Operator → ℕ → Type 0
 Placed o n = 1 ≤ o .id
 
 legal-placed : (x : PlanSheet) → LegalPlan x → Every Placed (x .plan)
@@ -94,5 +94,8 @@ module _ (s : List ℕ) (x : PlanSheet) (e : readPlan s ≡ sheet x) where
   pub read-one-below : OneBelow (x .plan)
   read-one-below = one-below (x .plan) (plan-read-legal s x e .operators)
 
+  pub read-placed : Everys Placed (below (workedOf (x .plan)))
+  read-placed = below-placed (workedOf (x .plan)) (every-worked-on Placed (λ m o n h. h) (x .plan) placed)
+
   pub read-none-added : noneAdded (childrenOf (x .facts) (x .plan)) ≡ true
-  read-none-added = none-added 1 (below (workedOf (x .plan))) (x .facts .children) (below-placed (workedOf (x .plan)) (every-worked-on Placed (λ m o n h. h) (x .plan) placed))
+  read-none-added = none-added 1 (below (workedOf (x .plan))) (x .facts .children) read-placed
