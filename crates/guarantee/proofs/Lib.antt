@@ -1,1 +1,2 @@
 pub mod LinesOnce
+pub mod AnswersOnce
