@@ -1,2 +1,3 @@
 pub mod LinesOnce
 pub mod AnswersOnce
+pub mod KeysGuaranteed
