@@ -1,3 +1,4 @@
 pub mod LinesOnce
 pub mod AnswersOnce
 pub mod KeysGuaranteed
+pub mod SheetsOnce
