@@ -2,3 +2,4 @@ pub mod LinesOnce
 pub mod AnswersOnce
 pub mod KeysGuaranteed
 pub mod SheetsOnce
+pub mod KeyNeeded
