@@ -3,3 +3,4 @@ pub mod AnswersOnce
 pub mod KeysGuaranteed
 pub mod SheetsOnce
 pub mod KeyNeeded
+pub mod BadKeyPlanners
