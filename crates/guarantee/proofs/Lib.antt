@@ -9,3 +9,9 @@ pub mod Partitioning
 pub mod Together
 pub mod Bared
 pub mod PlanGuaranteed
+pub mod LinesOnce
+pub mod AnswersOnce
+pub mod KeysGuaranteed
+pub mod SheetsOnce
+pub mod KeyNeeded
+pub mod BadKeyPlanners

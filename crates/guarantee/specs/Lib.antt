@@ -6,3 +6,4 @@ pub mod Limits
 pub mod Partitioning
 pub mod Together
 pub mod Guarantee
+pub mod BadPlanners

@@ -1,0 +1,75 @@
+-- Planners that demand 3 rules out, each an `Outcome` of any sheet's bytes.
+-- Document 01, "Tries bad planners: pairs in sheet order always (demand 3's "exactly" stops it); "impossible" before searching (3); ..".
+use Prim.Native.Nat.{ℕ}
+use mathlib.Core.Bool.{cond, _&&_, _||_}
+use mathlib.Core.List.{List, []}
+use lib.Dec.{eqb}
+use lib.ListN.{length, getD}
+use Rattle.keys.specs.Reorder.{Tried, met, rewrite, meets}
+use Rattle.keys.specs.Expressions.{Expression, sameExpr}
+use Rattle.keys.specs.Adjust.{KeySheet, KeyAnswer, Adjustment, answered, handOver, given, directionsOf, adjustInputKeysOrdering}
+use Rattle.keys.specs.Kept.{orderTried}
+use Rattle.sheet.specs.KeySheets.{Reading, sheet, turned, readKeySheet}
+use Rattle.sheet.specs.KeyAnswers.{Outcome, refused, adjusted}
+use Rattle.lochkave.specs.Decision.{decision}
+
+-- K sheets by f, every other sheet as `decision` has it
+abbrev pub keysBy : (KeySheet → Adjustment) → Reading KeySheet → Outcome
+keysBy f (turned n l) = refused n l
+keysBy f (sheet x) = adjusted (f x)
+
+abbrev pub plannerBy : (KeySheet → Adjustment) → List ℕ → Outcome
+plannerBy f s = cond (eqb (getD s 0 0) 75) (keysBy f (readKeySheet s)) (decision s)
+
+-- the answer of a join whose order was tried, with t
+abbrev pub joinAnswer : KeySheet → Tried Expression → KeyAnswer
+joinAnswer x t = record {
+  changed = 1;
+  report = t .report;
+  positions = t .positions;
+  required = x .required;
+  left = t .left;
+  right = t .right;
+  directions = directionsOf (x .directions) t;
+  projection = [];
+  children = handOver (given (t .left)) (given (t .right)) (x .children);
+}
+
+-- a planner of joins by f, every other K sheet as `decision` has it
+abbrev pub joinsBy : (KeySheet → KeyAnswer) → KeySheet → Adjustment
+joinsBy f x = cond (orderTried (x .op) (x .mode)) (answered (f x)) (adjustInputKeysOrdering sameExpr x)
+
+-- ---- "pairs in sheet order always"
+
+-- L, G and S as they stood, with any report and any positions
+module _ (report : KeySheet → ℕ) (positions : KeySheet → List ℕ) where
+  abbrev pub asItStood : KeySheet → KeyAnswer
+  asItStood x = record {
+    changed = 1;
+    report = report x;
+    positions = positions x;
+    required = x .required;
+    left = x .left;
+    right = x .right;
+    directions = x .directions;
+    projection = [];
+    children = handOver (given (x .left)) (given (x .right)) (x .children);
+  }
+
+  unfoldable pub sheetOrderAlways : List ℕ → Outcome
+  sheetOrderAlways = plannerBy (joinsBy asItStood)
+
+-- ---- "impossible" before searching
+
+-- what isn't met as it stands, raw or rewritten, is called impossible
+abbrev pub unsearched : KeySheet → Tried Expression
+unsearched x =
+    let w = x .rewriting in
+    let r = x .required in
+    cond (eqb (length (x .left)) (length r)
+    && (meets sameExpr r (x .left) (x .right) || meets sameExpr (rewrite sameExpr w r) (rewrite sameExpr w (x .left)) (rewrite sameExpr w (x .right))))
+    (met (x .left) (x .right))
+    (record { report = 3; positions = []; left = x .left; right = x .right })
+
+unfoldable pub impossibleUnsearched : List ℕ → Outcome
+impossibleUnsearched = plannerBy (joinsBy (λ x. joinAnswer x (unsearched x)))
