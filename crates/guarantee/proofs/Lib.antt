@@ -15,3 +15,9 @@ pub mod KeysGuaranteed
 pub mod SheetsOnce
 pub mod KeyNeeded
 pub mod BadKeyPlanners
+pub mod PlanAnswersOnce
+pub mod Guarantee
+pub mod PlanSpeaks
+pub mod PlanNeeded
+pub mod BadPlanPlanners
+pub mod LimitElsewhere

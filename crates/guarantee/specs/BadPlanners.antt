@@ -1,5 +1,5 @@
--- Planners that demand 3 rules out, each an `Outcome` of any sheet's bytes.
--- Document 01, "Tries bad planners: pairs in sheet order always (demand 3's "exactly" stops it); "impossible" before searching (3); ..".
+-- Bad planners, each an `Outcome` of any sheet's bytes. Document 01, "Tries bad planners: pairs in sheet order always (demand 3's "exactly" stops it);
+-- "impossible" before searching (3); keys ordered, trees copied (2, and 3 by partitioning); one stock decision (2); every sheet turned back (2 and the table)".
 use Prim.Native.Nat.{ℕ}
 use mathlib.Core.Bool.{cond, _&&_, _||_}
 use mathlib.Core.List.{List, []}
@@ -10,8 +10,12 @@ use Rattle.keys.specs.Expressions.{Expression, sameExpr}
 use Rattle.keys.specs.Adjust.{KeySheet, KeyAnswer, Adjustment, answered, handOver, given, directionsOf, adjustInputKeysOrdering}
 use Rattle.keys.specs.Kept.{orderTried}
 use Rattle.sheet.specs.KeySheets.{Reading, sheet, turned, readKeySheet}
-use Rattle.sheet.specs.KeyAnswers.{Outcome, refused, adjusted}
+use Rattle.sheet.specs.KeyAnswers.{Outcome, refused, wrote, adjusted}
+use Rattle.exchange.specs.Ensure.{Answer}
+use Rattle.plansheet.specs.PlanSheets.{PlanSheet, readPlan}
+use Rattle.plananswer.specs.PlanTexts.{planAnswerText}
 use Rattle.lochkave.specs.Decision.{decision}
+use Rattle.guarantee.specs.Operators.{worked}
 
 -- K sheets by f, every other sheet as `decision` has it
 abbrev pub keysBy : (KeySheet → Adjustment) → Reading KeySheet → Outcome
@@ -73,3 +77,27 @@ unsearched x =
 
 unfoldable pub impossibleUnsearched : List ℕ → Outcome
 impossibleUnsearched = plannerBy (joinsBy (λ x. joinAnswer x (unsearched x)))
+
+-- ---- "keys ordered, trees copied"
+
+-- the tree of a D sheet as it stands, from its worked node on
+abbrev pub copied : PlanSheet → Answer
+copied x = record { changed = 1; window = 0; interleave = 0; tracked = 0; plan = worked x }
+
+abbrev pub copying : Reading PlanSheet → Outcome
+copying (turned n l) = refused n l
+copying (sheet x) = wrote (planAnswerText (copied x))
+
+unfoldable pub treesCopied : List ℕ → Outcome
+treesCopied s = cond (eqb (getD s 0 0) 68) (copying (readPlan s)) (decision s)
+
+-- ---- "one stock decision"
+
+abbrev pub stock : List ℕ → List ℕ → Outcome
+stock answer s = wrote answer
+
+-- ---- "every sheet turned back"
+
+-- with any number and any line
+abbrev pub turnedBack : (List ℕ → ℕ) → (List ℕ → ℕ) → List ℕ → Outcome
+turnedBack number line s = refused (number s) (line s)
