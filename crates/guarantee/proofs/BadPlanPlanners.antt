@@ -45,7 +45,7 @@ use Rattle.guarantee.proofs.PlanSpeaks.{plan-says}
 abbrev pub mergeSheet : List ℕ
 mergeSheet = bytes "D,4,0,0,8192,0,9,0,0,0\nT,0,1,0,,0,0,0,1\nT,0,2,0,,0,0,1,0\nB,0,0,0,0\nF,0,1,2,0,0,0,0\nX,1,0,2,0,0,0,0,0,0,0,0,0,0\nX,1,2,1,0,0,0,0,0,0,0,0,0,0\nY,0,0\n"
 
-abbrev asked : PlanSheet
+abbrev pub asked : PlanSheet
 asked = record {
   settings = settings 4 0 0 8192 0 9 0 0 0;
   plan = above (line 1 0 1 0 absent 0 0 0) (leaf (line 2 0 2 0 absent 0 0 1));
@@ -62,7 +62,7 @@ given = record {
   plan = above (told 1 0 1 0 absent 0 0 0 0) (leaf (told 2 0 2 0 absent 0 0 0 0));
 }
 
-merge-read : readPlan mergeSheet ≡ sheet asked
+pub merge-read : readPlan mergeSheet ≡ sheet asked
 unfolding onto parts run field fields lineFields firstOf fits allowsAll lineNumber rowsOf chain packedRow flatten grow withinBits allWithinBits isRepeated noneRepeated childNumbered rowsFit factsFit removeDistChangingOperators childrenFrom overAny twoTo operatorRows planOf childCount readMasks readChildren readFacts readPlan
 merge-read = refl
 

@@ -9,12 +9,11 @@ use lib.ListN.{getD}
 use Rattle.sheet.specs.KeyAnswers.{wrote, adjustDecision, inputsDecision}
 use Rattle.plananswer.specs.PlanDecision.{planDecision}
 use Rattle.lochkave.specs.Decision.{decision}
-use Rattle.guarantee.specs.Conditions.{NoPlaceholder, SplitsGain}
-use Rattle.guarantee.specs.Guarantee.{Guaranteed}
+use Rattle.guarantee.specs.Guarantee.{Guaranteed, Demand3}
 use Rattle.guarantee.proofs.KeysGuaranteed.{keys-guaranteed, inputs-guaranteed}
 use Rattle.guarantee.proofs.PlanGuaranteed.{plan-guaranteed}
 
-pub guaranteed : (sheet answer : List ℕ) → decision sheet ≡ wrote answer → NoPlaceholder sheet → SplitsGain sheet → Guaranteed sheet answer
+pub guaranteed : Demand3
 unfolding decision
 guaranteed s a e clean gains = go (eqb (getD s 0 0) 75) (eqb (getD s 0 0) 73) e
   where

@@ -21,3 +21,5 @@ pub mod PlanSpeaks
 pub mod PlanNeeded
 pub mod BadPlanPlanners
 pub mod LimitElsewhere
+pub mod OperatorLost
+pub mod DealtApart

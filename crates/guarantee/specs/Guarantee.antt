@@ -1,15 +1,18 @@
--- Demand 3, whole, of any sheet and any answer, both as bytes. That `decision` gives such answers is `guaranteed` of proofs/Guarantee.
+-- DEMAND 3, WHOLE. `Guaranteed` says it of any sheet and any answer, both as bytes; `Demand3`, that every answer of `decision` is guaranteed. It is proved in
+-- proofs/Guarantee. Each sentence has a file of its name beside this one.
 use Prim.Native.Nat.{ℕ}
 use mathlib.Core.Path.{_≡_}
 use mathlib.Core.List.{List}
 use Rattle.keys.specs.Adjust.{KeySheet, KeyAnswer}
 use Rattle.keys.specs.Inputs.{JoinSheet, JoinAnswer}
 use Rattle.sheet.specs.KeySheets.{sheet, readKeySheet, readJoinSheet}
-use Rattle.sheet.specs.KeyAnswers.{keyAnswerText, joinAnswerText}
+use Rattle.sheet.specs.KeyAnswers.{wrote, keyAnswerText, joinAnswerText}
 use Rattle.exchange.specs.Ensure.{Answer}
 use Rattle.plansheet.specs.PlanSheets.{PlanSheet, readPlan}
 use Rattle.plananswer.specs.PlanTexts.{planAnswerText}
 use Rattle.plananswer.specs.Sizes.{Everywhere}
+use Rattle.lochkave.specs.Decision.{decision}
+use Rattle.guarantee.specs.Conditions.{NoPlaceholder, SplitsGain}
 use Rattle.guarantee.specs.Pairs.{KeyPairs, JoinPairs}
 use Rattle.guarantee.specs.Exactness.{KeyExact, JoinExact}
 use Rattle.guarantee.specs.Operators.{worked, OperatorsKept}
@@ -43,3 +46,7 @@ pub data Guaranteed (s a : List ℕ) : Type 0 where
   keys : (x : KeySheet) (r : KeyAnswer) → readKeySheet s ≡ sheet x → a ≡ keyAnswerText r → KeysKept x r → Guaranteed s a
   inputs : (x : JoinSheet) (r : JoinAnswer) → readJoinSheet s ≡ sheet x → a ≡ joinAnswerText r → InputsKept x r → Guaranteed s a
   plan : (x : PlanSheet) (r : Answer) → readPlan s ≡ sheet x → a ≡ planAnswerText r → NoNeeds r → PlanKept x r → Guaranteed s a
+
+-- whatever is decided of any sheet that holds no placeholder, and where no child whose mark `gains` is 0 is split at its source
+abbrev pub Demand3 : Type 0
+Demand3 = (s a : List ℕ) → decision s ≡ wrote a → NoPlaceholder s → SplitsGain s → Guaranteed s a
