@@ -14,11 +14,17 @@
  *
  *    1   wrong, missing or extra line, or a line without LF. A missing line is the line after the last.
  *    2   malformed field, wrong number of fields, a number over the field's largest
- *    3   more than 32 entries, 8 children or 65,536 bytes. Bytes beyond 65,536 count as the line that holds the first of them.
+ *    3   more than 32 entries, 8 children, 256 T lines, 8 entries of a required order or 65,536 bytes. Bytes beyond 65,536 count as the
+ *        line that holds the first of them.
  *    4   undefined code, mark, direction or expression
  *    6   child count unfit for the operator
- *    5   line 0: L and G differ in length, S doesn't fit L, or a list that isn't used has entries
- *   10   line 0: a name for J isn't found
+ *    5   line 0: L and G differ in length, S doesn't fit L, or a list that isn't used has entries (K and I sheets)
+ *    7   line 0: target or batch out of range (D sheets, as 8, 9 and 11)
+ *    8   line 0: an X row is there twice, is of an unknown child or form, or has a count, an order or a mask that doesn't fit; a Y mask
+ *        has a bit beyond the children
+ *    9   line 0: an X row is needed and missing
+ *   10   line 0: a name for J isn't found (K sheets)
+ *   11   line 0: relationships between children can't be enforced
  *   12   line 0: the answer is longer than `out_len`
  *
  * An output of 65,536 bytes always suffices. Sheets, answers and refusals are described in docs/DECISIONS.md and examples/README.md.
