@@ -9,11 +9,11 @@ use lib.ListN.{getD}
 use Rattle.sheet.specs.KeyAnswers.{wrote, adjustDecision, inputsDecision}
 use Rattle.plananswer.specs.PlanDecision.{planDecision}
 use Rattle.lochkave.specs.Decision.{decision}
-use Rattle.guarantee.specs.Guarantee.{Guaranteed, Demand3}
+use Rattle.guarantee.specs.Guarantee.{Guaranteed, AnswersGuaranteed}
 use Rattle.guarantee.proofs.KeysGuaranteed.{keys-guaranteed, inputs-guaranteed}
 use Rattle.guarantee.proofs.PlanGuaranteed.{plan-guaranteed}
 
-pub guaranteed : Demand3
+pub guaranteed : AnswersGuaranteed
 unfolding decision
 guaranteed s a e clean gains = go (eqb (getD s 0 0) 75) (eqb (getD s 0 0) 73) e
   where

@@ -1,4 +1,4 @@
--- DEMAND 3, WHOLE. `Guaranteed` says it of any sheet and any answer, both as bytes; `Demand3`, that every answer of `decision` is guaranteed. It is proved in
+-- DEMAND 3, WHOLE. `Guaranteed` says it of any sheet and any answer, both as bytes; `AnswersGuaranteed`, that every answer of `decision` is guaranteed. It is proved in
 -- proofs/Guarantee. Each sentence has a file of its name beside this one.
 use Prim.Native.Nat.{ℕ}
 use mathlib.Core.Path.{_≡_}
@@ -48,5 +48,5 @@ pub data Guaranteed (s a : List ℕ) : Type 0 where
   plan : (x : PlanSheet) (r : Answer) → readPlan s ≡ sheet x → a ≡ planAnswerText r → NoNeeds r → PlanKept x r → Guaranteed s a
 
 -- whatever is decided of any sheet that holds no placeholder, and where no child whose mark `gains` is 0 is split at its source
-abbrev pub Demand3 : Type 0
-Demand3 = (s a : List ℕ) → decision s ≡ wrote a → NoPlaceholder s → SplitsGain s → Guaranteed s a
+abbrev pub AnswersGuaranteed : Type 0
+AnswersGuaranteed = (s a : List ℕ) → decision s ≡ wrote a → NoPlaceholder s → SplitsGain s → Guaranteed s a
