@@ -4,6 +4,8 @@ use mathlib.Core.Path.{_≡_}
 use mathlib.Core.List.{List, [], _∷_, map}
 use mathlib.Core.Option.{Option, some, none as nothing}
 use Rattle.exchange.specs.declared.status.Asked.{Asked}
+use Rattle.exchange.specs.declared.status.RepartitionRequirementStatus.{RepartitionRequirementStatus as Told}
+use Rattle.exchange.specs.Status.{RepartitionRequirementStatus}
 use Rattle.exchange.specs.declared.partitioning.Worked.{Worked}
 use Rattle.exchange.specs.declared.partitioning.Standing.{Standing}
 use Rattle.exchange.specs.declared.step.Formed.{Formed}
@@ -33,6 +35,10 @@ stateFor a c =
       row = factRow (c .row);
       plan = node (operatorBy 0 (c .count) (a .need)) none;
     }
+
+-- the status of a child that a struct stands for
+abbrev pub statusBy : Child → Told → RepartitionRequirementStatus
+statusBy k t = record { child = k; roundrobinBeneficial = t .beneficial; roundrobinBeneficialStats = t .stats; hashNecessary = t .necessary }
 
 -- the form that a step leaves
 abbrev pub formed : Option ChildState → Formed

@@ -59,7 +59,14 @@ fn required_replaced(met: bool, desirable: bool, streaming: bool, tracked: bool)
     !desirable
 }
 
-fn sorted_entries(replaced: bool, met: bool, aftermet: bool, entries: u64, constants: u64) -> u64
+// The entries of the sort that restores a held order where it was given up; none where the order still holds.
+fn add_sort_above_with_check(
+    replaced: bool,
+    met: bool,
+    aftermet: bool,
+    entries: u64,
+    constants: u64,
+) -> u64
     requires { ⌜ entries ≤ 8 ⌝ }
     ensures { λ r. ⌜ r ≡ sortedEntries replaced met aftermet entries constants ⌝ }
 {
@@ -148,7 +155,7 @@ fn order_required(k: Known) -> Handling
         streams(k),
         k.tracked == 1,
     );
-    let entries = sorted_entries(replaced, met, k.aftermet == 1, k.entries, k.constants);
+    let entries = add_sort_above_with_check(replaced, met, k.aftermet == 1, k.entries, k.constants);
     Handling {
         replaced: replaced,
         entries: entries,

@@ -25,7 +25,7 @@ fn put_given_up(replaced: bool, src: &[Row], at: usize, dst: &mut [Row], to: usi
 }
 
 // The same below a sort by the entries, if there are any, with the limit of `limiting`.
-fn put_sorted(
+fn add_sort_above(
     entries: u64,
     limiting: Node,
     replaced: bool,
@@ -65,7 +65,7 @@ pub fn put_handled(
     requires { ⌜ Ready (handledBy h (operatorOf limiting .limit)) (now src) at (length (now dst)) to ⌝ }
     ensures { λ r. ⌜ Maps (handledBy h (operatorOf limiting .limit)) (now (src .entry)) at (now (dst .entry)) to (now (dst .exit)) r ⌝ }
 {
-    let s = put_sorted(h.entries, limiting, h.replaced, src, at, &mut *dst, to);
+    let s = add_sort_above(h.entries, limiting, h.replaced, src, at, &mut *dst, to);
     if h.cleared {
         update::set_mark(&mut *dst, to, 0);
     }

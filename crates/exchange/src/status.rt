@@ -5,9 +5,11 @@ ghost use mathlib.Core.Bool.{_&&_, _||_};
 ghost use Prim.Native.Nat.{_≤_};
 ghost use lib.Dec.{ltb};
 ghost use lib.ListN.{length};
-ghost use Rattle.exchange.specs.Status.{rowsGain, asksAlignment, needsAlignment};
+ghost use Rattle.exchange.specs.Status.{rowsGain, asksAlignment, needsAlignment, statusOf};
 ghost use Rattle.exchange.specs.Operators.{isKeyed};
 ghost use Rattle.exchange.specs.FactRows.{childFacts, childFor, childrenBy};
+ghost use Rattle.exchange.specs.States.{Child, needOf, countOf};
+ghost use Rattle.exchange.specs.Standings.{statusBy};
 
 // The places of an F row.
 pub const GAINS: usize = 0;
@@ -71,7 +73,7 @@ pub fn asks_alignment(s: Settings, a: Asked) -> bool
 }
 
 // A keyed child is hashed for its own partitions, or since one of the keyed children asks.
-pub fn hash_necessary(need: u64, count: u64, aligned: bool) -> bool
+fn hash_necessary(need: u64, count: u64, aligned: bool) -> bool
     ensures { λ r. ⌜ r ≡ (isKeyed need && (ltb 1 count || aligned)) ⌝ }
 {
     if need != 2 {
@@ -81,6 +83,38 @@ pub fn hash_necessary(need: u64, count: u64, aligned: bool) -> bool
         return true;
     }
     aligned
+}
+
+// What is known of a child before any child is changed.
+pub struct RepartitionRequirementStatus {
+    pub beneficial: bool,
+    pub stats: bool,
+    pub necessary: bool,
+}
+
+// Of a child of that need, count before the split and F row, given whether any of the children asks (`needs_alignment`).
+pub fn get_repartition_requirement_status(
+    s: Settings,
+    aligned: bool,
+    need: u64,
+    count: u64,
+    facts: ChildRow,
+) -> RepartitionRequirementStatus
+    ensures { λ r. ⌜ ((k : Child) → needOf k ≡ need → countOf k ≡ count → k .facts ≡ childFacts facts → statusBy k r ≡ statusOf s aligned k) ⌝ }
+{
+    let a = Asked {
+        number: 0,
+        need: need,
+        count: count,
+        facts: facts,
+    };
+    let stats = rows_gain(s, a);
+    let necessary = hash_necessary(need, count, aligned);
+    RepartitionRequirementStatus {
+        beneficial: facts[GAINS] == 1,
+        stats: stats,
+        necessary: necessary,
+    }
 }
 
 // Whether any of the children asks.

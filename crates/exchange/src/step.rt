@@ -17,7 +17,7 @@ use crate::settings::Settings;
 use crate::status::Asked;
 use crate::status::ChildRow;
 use crate::status::SPLITS;
-use crate::status::hash_necessary;
+use crate::status::get_repartition_requirement_status;
 use crate::status::needs_alignment;
 use crate::status::rows_gain;
 ghost use mathlib.Core.Path.{_≡_};
@@ -131,7 +131,9 @@ fn satisfy_distribution(
     if a.need != 2 {
         return satisfy_unspecified(s, w, a, c, index, rows, n);
     }
-    if !hash_necessary(a.need, a.count, aligned) {
+    let facts = a.facts;
+    let t = get_repartition_requirement_status(s, aligned, a.need, a.count, facts);
+    if !t.necessary {
         return Formed::Form(c.form);
     }
     if !needs_hash_repartition(s, w, a, c) {

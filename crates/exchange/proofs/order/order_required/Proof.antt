@@ -18,8 +18,8 @@ streams-requires c κs = search needs
 required-replaced-requires : tie.Need-required-replaced-requires
 required-replaced-requires c κs = search needs
 
-sorted-entries-requires : tie.Need-sorted-entries-requires
-sorted-entries-requires c κs = search needs
+add-sort-above-with-check-requires : tie.Need-add-sort-above-with-check-requires
+add-sort-above-with-check-requires c κs = search needs
 
 returns : tie.Need-returns
 returns c =
@@ -27,7 +27,7 @@ returns c =
     let r = c .before .before .required-replaced .ensures ∙ (λ i. requiredReplaced (isSet (k .met)) (c .before .before .before .before .before .desirable .ensures i) (c .before .before .before .before .streams .ensures i) (eqb (k .tracked) 1)) in
     λ j. record {
       replaced = r j;
-      entries = (c .sorted-entries .ensures ∙ (λ i. sortedEntries (r i) (isSet (k .met)) (isSet (k .aftermet)) (k .entries) (k .constants))) j;
+      entries = (c .add-sort-above-with-check .ensures ∙ (λ i. sortedEntries (r i) (isSet (k .met)) (isSet (k .aftermet)) (k .entries) (k .constants))) j;
       cleared = true;
     }
 
@@ -38,5 +38,5 @@ order-required-spec =
     desirable-requires
     streams-requires
     required-replaced-requires
-    sorted-entries-requires
+    add-sort-above-with-check-requires
     returns)

@@ -1,12 +1,12 @@
--- `exchange::ordered::put_sorted` meets its contract.
+-- `exchange::ordered::add_sort_above` meets its contract.
 -- Assumes nothing.
 use native.Mathlib.Omega.{arith}
 use Rattle.exchange.specs.Rows.{operatorOf}
 use Rattle.exchange.specs.Handling.{givenUp, sortedBy}
 use Rattle.exchange.proofs.OrderWritten.{ready-as, maps-as, sorted-none, ready-under, under-in, sorted-wrote}
 use borrow.Author.Needs.{needs}
-use Rattle.exchange.proofs.ordered.put_sorted.Statement.{statement}
-use Rattle.exchange.proofs.ordered.put_sorted.Tie as tie
+use Rattle.exchange.proofs.ordered.add_sort_above.Statement.{statement}
+use Rattle.exchange.proofs.ordered.add_sort_above.Tie as tie
 
 put-given-up-requires : tie.Need-put-given-up-requires
 put-given-up-requires c κs =
@@ -53,8 +53,8 @@ returns-2 c =
     let a = c .before .before .before .before .before .before .before .before .before .before .args in
     sorted-wrote (a .replaced) (a .entries) (operatorOf (a .limiting) .limit) (c .before .before .before .before .before .before .before .before .before .if1 .left) _ _ _ _ _ _ _ _ _ (c .before .before .before .before .before .before .before .before .before .before .pre .1) (c .before .before .before .before .before .before .before .put-given-up2 .ensures) (c .before .before .before .before .node-at .ensures) (c .before .before .required-sort .ensures) (c .before .put-node .ensures)
 
-pub put-sorted-spec : {M : Type 1} → statement M
-put-sorted-spec =
+pub add-sort-above-spec : {M : Type 1} → statement M
+add-sort-above-spec =
     tie.close
     (tie.spec
     put-given-up-requires
