@@ -6,7 +6,7 @@ use exchange::row::Node;
 ghost use mathlib.Core.Path.{_≡_};
 ghost use Rattle.exchange.specs.Operators.{track};
 ghost use Rattle.exchange.specs.Replace.{coalesced};
-ghost use Rattle.exchange.specs.ReplaceRows.{relaxedOr};
+ghost use Rattle.exchange.specs.ReplaceRows.{mergeSort, relaxedOr};
 ghost use Rattle.exchange.specs.Step.{splitOperator};
 ghost use Rattle.nodes.specs.Nodes.{nodeIn, putIn, changedIn, newMark, splitRow};
 
@@ -57,6 +57,16 @@ pub extern "C" fn nodes_coalesce(ns: &mut [Node], i: usize)
 {
     if i < ns.len() {
         ns[i] = replace::coalesced(ns[i]);
+    }
+}
+
+// A merge becomes the sort that takes its limit.
+#[no_mangle]
+pub extern "C" fn nodes_sort(ns: &mut [Node], i: usize)
+    ensures { λ _. ⌜ now (ns .exit) ≡ changedIn mergeSort (now (ns .entry)) i ⌝ }
+{
+    if i < ns.len() {
+        ns[i] = value::sort(ns[i]);
     }
 }
 

@@ -5,7 +5,7 @@ use exchange::replace;
 use exchange::row::Node;
 ghost use mathlib.Core.Path.{_≡_};
 ghost use Rattle.exchange.specs.Operators.{track as trackTo};
-ghost use Rattle.exchange.specs.ReplaceRows.{relaxedOr};
+ghost use Rattle.exchange.specs.ReplaceRows.{mergeSort, relaxedOr};
 ghost use Rattle.exchange.specs.Step.{splitOperator};
 ghost use Rattle.nodes.specs.Nodes.{zero as zeroNode, settled, changed, newMark, splitRow};
 
@@ -71,6 +71,12 @@ pub fn track_new(n: Node) -> Node
     ensures { λ r. ⌜ r ≡ changed (trackTo newMark) n ⌝ }
 {
     operator::track(NEW_MARK, settle(n))
+}
+
+pub fn sort(n: Node) -> Node
+    ensures { λ r. ⌜ r ≡ changed mergeSort n ⌝ }
+{
+    replace::sorted(settle(n))
 }
 
 pub fn relax(n: Node) -> Node
