@@ -4,11 +4,12 @@ pub mod value;
 use exchange::replace;
 use exchange::row::Node;
 ghost use mathlib.Core.Path.{_≡_};
+ghost use Rattle.exchange.specs.Ensure.{interleaved};
 ghost use Rattle.exchange.specs.Operators.{track};
 ghost use Rattle.exchange.specs.Replace.{coalesced};
 ghost use Rattle.exchange.specs.ReplaceRows.{mergeSort, relaxedOr};
 ghost use Rattle.exchange.specs.Step.{splitOperator};
-ghost use Rattle.nodes.specs.Nodes.{nodeIn, putIn, changedIn, newMark, splitRow};
+ghost use Rattle.nodes.specs.Nodes.{changed, nodeIn, putIn, changedIn, newMark, splitRow};
 
 // The node at `i`, or one of zeros past the end.
 #[no_mangle]
@@ -80,6 +81,16 @@ pub extern "C" fn nodes_relax(ns: &mut [Node], i: usize)
     }
 }
 
+// A union dealt in turn.
+#[no_mangle]
+pub extern "C" fn nodes_interleave(ns: &mut [Node], i: usize)
+    ensures { λ _. ⌜ now (ns .exit) ≡ changedIn interleaved (now (ns .entry)) i ⌝ }
+{
+    if i < ns.len() {
+        ns[i] = value::interleave(ns[i]);
+    }
+}
+
 // The count and the order of a child that was split.
 #[no_mangle]
 pub extern "C" fn nodes_split(ns: &mut [Node], i: usize, count: u64, order: u64)
@@ -88,4 +99,13 @@ pub extern "C" fn nodes_split(ns: &mut [Node], i: usize, count: u64, order: u64)
     if i < ns.len() {
         ns[i] = value::split(ns[i], count, order);
     }
+}
+
+// A union dealt in turn, as a run of one node.
+pub fn interleave_one(n: Node) -> Node
+    ensures { λ r. ⌜ r ≡ changed interleaved n ⌝ }
+{
+    let mut ns = [n];
+    nodes_interleave(&mut ns, 0);
+    ns[0]
 }

@@ -1,9 +1,11 @@
 // What is done to one node's value, by the functions of `exchange`.
 use exchange::fact::FactRow;
+use exchange::kind;
 use exchange::operator;
 use exchange::replace;
 use exchange::row::Node;
 ghost use mathlib.Core.Path.{_≡_};
+ghost use Rattle.exchange.specs.Ensure.{interleaved};
 ghost use Rattle.exchange.specs.Operators.{track as trackTo};
 ghost use Rattle.exchange.specs.ReplaceRows.{mergeSort, relaxedOr};
 ghost use Rattle.exchange.specs.Step.{splitOperator};
@@ -77,6 +79,25 @@ pub fn sort(n: Node) -> Node
     ensures { λ r. ⌜ r ≡ changed mergeSort n ⌝ }
 {
     replace::sorted(settle(n))
+}
+
+// A union dealt in turn: its order is lost.
+pub fn interleave(n: Node) -> Node
+    ensures { λ r. ⌜ r ≡ changed interleaved n ⌝ }
+{
+    let m = settle(n);
+    Node {
+        id: m.id,
+        kind: kind::INTERLEAVE,
+        count: m.count,
+        keeps: m.keeps,
+        limited: m.limited,
+        limit: m.limit,
+        order: 0,
+        mask: m.mask,
+        tracked: m.tracked,
+        need: m.need,
+    }
 }
 
 pub fn relax(n: Node) -> Node
