@@ -3,7 +3,7 @@
 --     clauses h        the contract: where i is below the length the list at exit has `h` of the node, where h is what g's contract says of its result, and else it is as it was
 --     changes          it meets that contract, from g's theorem
 -- A walk of the MIR, by hand. Where the test holds the borrow is opened, node i is taken out of the row and read, whole, and the copy is passed to g. What g returns is stored in the node's place, and the borrow is closed. It stays open over the call.
--- Assumes nothing.
+-- Assumes nothing. Written by `laws.py` for 0 numbers beside the index.
 use mathlib.Core.Path.{_≡_, refl, sym, ap, subst, _∙_}
 use Prim.Native.Nat.{ℕ, _<_, _≤_, _^_}
 use mathlib.Core.List.{List, [], _∷_}
