@@ -1,4 +1,4 @@
-// What is done to one node's value, by the functions of `exchange`.
+// What is done to one node's value, by the functions of `exchange` where it has one.
 use exchange::fact::FactRow;
 use exchange::kind;
 use exchange::operator;
