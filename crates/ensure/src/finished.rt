@@ -12,6 +12,7 @@ use exchange::row::{self};
 use exchange::settings::Settings;
 use exchange::status::ChildRow;
 use exchange::update::mark_number;
+use nodes::interleave_one;
 ghost use mathlib.Core.Path.{_≡_};
 ghost use mathlib.Core.Bool.{cond, _&&_};
 ghost use mathlib.Core.List.{List, _++_};
@@ -30,32 +31,13 @@ ghost use Rattle.exchange.specs.Ensure.{interleaved, childStates, finished, ans
 ghost use Rattle.ensure.specs.Outcomes.{factsBy, Ends};
 ghost use Rattle.ensure.specs.Lent.{Known, Came};
 
-// A union dealt in turn: its order is lost.
-fn interleave(n: Node) -> Node
-    ensures { λ r. ⌜ operatorOf r ≡ interleaved (operatorOf n) ⌝ }
-    ensures { λ r. ⌜ (nodeOf (operatorOf n) ≡ n → nodeOf (operatorOf r) ≡ r) ⌝ }
-{
-    Node {
-        id: n.id,
-        kind: kind::INTERLEAVE,
-        count: n.count,
-        keeps: n.keeps,
-        limited: n.limited,
-        limit: n.limit,
-        order: 0,
-        mask: n.mask,
-        tracked: n.tracked,
-        need: n.need,
-    }
-}
-
 // The worked node's row, as an interleave where it becomes one.
 fn put_worked(rows: &mut [Row], worked: Node, children: u64, interleaves: bool)
     requires { ⌜ (0 < length (now rows)) × (nodeOf (operatorOf worked) ≡ worked) ⌝ }
     ensures { λ _. ⌜ now (rows .exit) ≡ set (now (rows .entry)) 0 (rowOf (cond interleaves (interleaved (operatorOf worked)) (operatorOf worked)) children) ⌝ }
 {
     if interleaves {
-        row::put_node(rows, 0, interleave(worked), children);
+        row::put_node(rows, 0, interleave_one(worked), children);
         return;
     }
     row::put_node(rows, 0, worked, children);

@@ -16,7 +16,7 @@ ghost use Rattle.exchange.specs.Replace.{coalesced as coalescedOf, repla
 ghost use Rattle.exchange.specs.ReplaceRows.{mergeSort, relaxedOr, heads};
 
 // A merge that keeps neither the order nor the limit.
-fn coalesced(n: Node) -> Node
+pub fn coalesced(n: Node) -> Node
     ensures { λ r. ⌜ r ≡ nodeOf (coalescedOf (operatorOf n)) ⌝ }
 {
     Node {
@@ -34,7 +34,7 @@ fn coalesced(n: Node) -> Node
 }
 
 // The sort above it, where the merge had a limit.
-fn sorted(merge: Node) -> Node
+pub fn sorted(merge: Node) -> Node
     requires { ⌜ nodeOf (operatorOf merge) ≡ merge ⌝ }
     ensures { λ r. ⌜ r ≡ nodeOf (mergeSort (operatorOf merge)) ⌝ }
 {
@@ -52,7 +52,7 @@ fn sorted(merge: Node) -> Node
 }
 
 // An exchange keeps the order no more.
-fn relaxed(n: Node) -> Node
+pub fn relaxed(n: Node) -> Node
     requires { ⌜ nodeOf (operatorOf n) ≡ n ⌝ }
     ensures { λ r. ⌜ r ≡ nodeOf (relaxedOr (operatorOf n)) ⌝ }
 {

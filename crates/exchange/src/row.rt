@@ -35,6 +35,7 @@ pub const WIDTH: usize = 11;
 pub type Row = [u64; WIDTH];
 
 // An operator. An absent limit has `limited` 0 and `limit` 0.
+#[repr(C)]
 pub struct Node {
     pub id: u64,
     pub kind: u64,

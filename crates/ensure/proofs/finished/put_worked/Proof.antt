@@ -3,15 +3,17 @@
 use mathlib.Core.Path.{refl, ap, _∙_}
 use mathlib.Core.Bool.{true, false}
 use lib.ListN.{set}
-use Rattle.exchange.specs.Rows.{operatorOf}
+use Rattle.exchange.specs.declared.row.Node.{Node}
+use Rattle.exchange.specs.Rows.{packed, operatorOf}
 use Rattle.exchange.specs.Ensure.{interleaved}
+use Rattle.exchange.proofs.TreeRows.{row-packed}
 use Rattle.ensure.proofs.Finishing.{packed-row, put-chosen}
 use borrow.Author.Needs.{needs}
 use Rattle.ensure.proofs.finished.put_worked.Statement.{statement}
 use Rattle.ensure.proofs.finished.put_worked.Tie as tie
 
-interleave-requires : tie.Need-interleave-requires
-interleave-requires c κs = search needs
+interleave-one-requires : tie.Need-interleave-one-requires
+interleave-one-requires c κs = search needs
 
 put-node-requires : tie.Need-put-node-requires
 put-node-requires c κs = search needs
@@ -23,7 +25,7 @@ returns : tie.Need-returns
 returns c =
     let a = c .before .before .before .before .before .args in
     put-chosen (a .interleaves) true (a .rows .now) _ (interleaved (operatorOf (a .worked))) (operatorOf (a .worked)) (a .children) (c .before .before .before .before .if1 .taken)
-    (c .before .put-node .ensures ∙ ap (set (a .rows .now) 0) (packed-row _ _ (a .children) (c .before .before .interleave .ensures .1 (c .before .before .before .before .before .pre .1)) (c .before .before .interleave .ensures .0)))
+    (c .before .put-node .ensures ∙ ap (set (a .rows .now) 0) (ap (λ (n : Node). packed n (a .children)) (c .before .before .interleave-one .ensures) ∙ row-packed (interleaved (operatorOf (a .worked))) (a .children)))
 
 put-node-requires-2 : tie.Need-put-node-requires-2
 put-node-requires-2 c κs = search needs
@@ -41,7 +43,7 @@ pub put-worked-spec : {M : Type 1} → statement M
 put-worked-spec =
     tie.close
     (tie.spec
-    interleave-requires
+    interleave-one-requires
     put-node-requires
     same-length
     returns
