@@ -1,5 +1,6 @@
 // ensure_distribution.
 use crate::outcome::Ensured;
+use crate::update::update_children;
 use crate::worked::ensure_worked;
 use exchange::fact::FactRow;
 use exchange::partitioning::NodeRow;
@@ -7,7 +8,6 @@ use exchange::row::Row;
 use exchange::row::{self};
 use exchange::settings::Settings;
 use exchange::status::ChildRow;
-use exchange::update::update_children;
 use exchange::worked::remove_dist_changing_operators;
 ghost use mathlib.Core.Path.{_≡_};
 ghost use mathlib.Core.List.{List, _++_};

@@ -1,8 +1,9 @@
 // The answer, once the forms of the worked node's children are known.
+use crate::interleave::becomes_interleave;
 use crate::outcome::Ensured;
+use crate::update::mark_number;
 use exchange::fact::FactRow;
 use exchange::finish::finish_children;
-use exchange::interleave::becomes_interleave;
 use exchange::kind;
 use exchange::partitioning::NodeRow;
 use exchange::partitioning::{self};
@@ -11,7 +12,6 @@ use exchange::row::Row;
 use exchange::row::{self};
 use exchange::settings::Settings;
 use exchange::status::ChildRow;
-use exchange::update::mark_number;
 use nodes::interleave_one;
 ghost use mathlib.Core.Path.{_≡_};
 ghost use mathlib.Core.Bool.{cond, _&&_};

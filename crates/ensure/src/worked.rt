@@ -1,7 +1,6 @@
 // ensure_distribution from the worked node on.
 use crate::finished::finish_worked;
 use crate::outcome::Ensured;
-use exchange::decide::child_forms;
 use exchange::fact::FactRow;
 use exchange::partitioning::NodeRow;
 use exchange::partitioning::Worked;
@@ -11,6 +10,7 @@ use exchange::row::Row;
 use exchange::row::{self};
 use exchange::settings::Settings;
 use exchange::status::ChildRow;
+use forms::decide::child_forms;
 ghost use mathlib.Core.Path.{_≡_};
 ghost use mathlib.Core.List.{List, _++_};
 ghost use Prim.Native.Nat.{ℕ, _+_, _≤_};

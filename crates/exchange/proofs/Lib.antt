@@ -24,7 +24,6 @@ pub mod LimitsOfAnswers
 pub mod Beneath
 pub mod Tests
 pub mod FactRows
-pub mod Formed
 pub mod NewOperators
 pub mod BuiltRows
 pub mod Headed
@@ -33,7 +32,6 @@ pub mod RowsFit
 pub mod ChildHad
 pub mod PartitioningHad
 pub mod UnmetChild
-pub mod Rounds
 pub mod Weights
 pub mod AnswerLines
 pub mod LimitsOfSheets
@@ -41,13 +39,8 @@ pub mod Passed
 pub mod Marking
 pub mod MarkStored
 pub mod OrderWritten
-pub mod Each
-pub mod Steps
-pub mod Turns
-pub mod Rounded
 pub mod Reached
 pub mod Ensured
-pub mod Standing
 pub mod RoundsLoop
 pub mod Interleaved
 pub mod FinishWritten
@@ -58,4 +51,3 @@ pub mod PlacesRead
 pub mod FirstAndOthers
 pub mod FinishEach
 pub mod FinishedHandled
-pub mod Decided

@@ -1,10 +1,8 @@
 // Exchange rules: ensure_distribution and its steps.
 pub mod child;
-pub mod decide;
 pub mod fact;
 pub mod finish;
 pub mod form;
-pub mod interleave;
 pub mod kind;
 pub mod operator;
 pub mod order;
@@ -17,5 +15,4 @@ pub mod row;
 pub mod settings;
 pub mod status;
 pub mod step;
-pub mod update;
 pub mod worked;

@@ -6,7 +6,6 @@ use crate::row::Node;
 use crate::row::Row;
 use crate::row::Step;
 use crate::row::{self};
-use crate::update;
 ghost use mathlib.Core.Path.{_≡_};
 ghost use lib.ListN.{length};
 ghost use Rattle.exchange.specs.Rows.{nodeOf, operatorOf};
@@ -67,7 +66,7 @@ pub fn put_handled(
 {
     let s = add_sort_above(h.entries, limiting, h.replaced, src, at, &mut *dst, to);
     if h.cleared {
-        update::set_mark(&mut *dst, to, 0);
+        row::set_mark(&mut *dst, to, 0);
     }
     s
 }

@@ -1,8 +1,8 @@
 // Operators as rows of numbers, lent as slices: a tree is its rows in preorder.
 ghost use mathlib.Core.Path.{_≡_};
-ghost use mathlib.Core.List.{List, _++_};
+ghost use mathlib.Core.List.{List, [], _++_};
 ghost use Prim.Native.Nat.{ℕ, _+_, _<_};
-ghost use lib.ListN.{length, set, drop};
+ghost use lib.ListN.{length, getD, set, drop};
 ghost use Rattle.exchange.specs.Trees.{Plan};
 ghost use Rattle.exchange.specs.Rows.{packed, unpacked, nodeAt, childrenAt, flatten};
 ghost use Rattle.exchange.specs.Runs.{Stands, Ready, Readys, Maps, MapsAll};
@@ -109,6 +109,14 @@ pub fn put_node(rows: &mut [Row], to: usize, n: Node, children: u64)
     ensures { λ _. ⌜ now (rows .exit) ≡ set (now (rows .entry)) to (packed n children) ⌝ }
 {
     rows[to] = pack(n, children);
+}
+
+// The mark of the row at `at`.
+pub fn set_mark(rows: &mut [Row], at: usize, m: u64)
+    requires { ⌜ at < length (now rows) ⌝ }
+    ensures { λ _. ⌜ now (rows .exit) ≡ set (now (rows .entry)) at (set (getD (now (rows .entry)) at []) 8 m) ⌝ }
+{
+    rows[at][TRACKED] = m;
 }
 
 // The place past the tree at `at`.
