@@ -9,21 +9,21 @@ use crate::plan::answer_held;
 use plansheet::plan::Plan;
 use plansheet::plan::read_plan;
 
-// A sheet of fewer bytes has at most 96 T lines and 64 X rows: a T line takes ten bytes at least, an X row fifteen.
-pub(crate) const SHORT: usize = 960;
+// A sheet of fewer bytes has at most 64 T lines and 39 X rows: a T line takes 17 bytes at least, an X row 28.
+pub(crate) const SHORT: usize = 1088;
 
 // A sheet of fewer bytes than that.
 pub(crate) fn distribute_short(sheet: &[u8], out: &mut [u8]) -> u64
-    requires { ⌜ length (now sheet) < 960 ⌝ }
+    requires { ⌜ length (now sheet) < 1088 ⌝ }
     ensures result { λ r. ⌜ r ≡ answer (distributionOutcome (now (sheet .entry)) (length (now (out .entry)))) ⌝ }
     ensures bytes { λ _. ⌜ now (out .exit) ≡ after (distributionOutcome (now (sheet .entry)) (length (now (out .entry)))) (now (out .entry)) ⌝ }
 {
     let mut fields = [[0u64; 2]; 256];
     let mut head = [0u64; 9];
-    let mut rows = [[0u64; 11]; 96];
+    let mut rows = [[0u64; 11]; 64];
     let mut node = [0u64; 4];
     let mut facts = [[0u64; 7]; 8];
-    let mut xs = [[0u64; 13]; 64];
+    let mut xs = [[0u64; 13]; 39];
     let mut masks = [0u64; 256];
     let mut index = [0u64; 129];
     let p = read_plan(

@@ -176,10 +176,10 @@ module _ (s : List ℕ) (rs : List (List Field)) (ls : List (List ℕ)) (l p : �
       let h : 0 + length rs ≤ 256 = few-lines treeShape childRules mostLines 1 0 (run-of .line) (run-of .place) (run-of .lines) rs ls l p (run-of .is) (omega arith) in
       omega arith
 
-  tree-fits : (room : ℕ) → RoomFor 256 10 (length s) room → length rs ≤ room
+  tree-fits : (room : ℕ) → RoomFor 256 17 (length s) room → length rs ≤ room
   tree-fits room h =
       let q = run-of in
-      let b : 10 * length rs ≤ length s + 1 =
+      let b : 17 * length rs ≤ length s + 1 =
       omega (arith, tree-bytes 1 0 (q .line) (q .place) (q .lines) rs ls l p (q .is), run-left settingsLine 1 0 1 0 (parts 10 s) (q .front) (q .lines) (q .line) (q .place) (q .after), size-parts 10 s) in
       tree-room (length s) room (length rs) h tree-few b
 
@@ -193,7 +193,7 @@ module _ (s : List ℕ) (rs : List (List Field)) (ls : List (List ℕ)) (l p : �
       let c : childrenOf (getD (operatorRows 1 rs) (length (removed (planOf rs))) []) ≤ 8 = few-children treeShape childRules mostLines 1 0 (run-of .line) (run-of .place) (run-of .lines) rs ls l p (run-of .is) 1 (length (removed (planOf rs))) in
       omega (arith, w .children, ap (λ (ys : List (List ℕ)). childrenOf (getD ys (length (removed (planOf rs))) [])) tree-rows)
 
-  pub tree-stands : (rows rows′ : List (List ℕ)) → rows′ ≡ sets rows 0 (operatorRows 1 rs) → RoomFor 256 10 (length s) (length rows) → rows′ ≡ flatten (planOf rs) ++ drop (length rs) rows
+  pub tree-stands : (rows rows′ : List (List ℕ)) → rows′ ≡ sets rows 0 (operatorRows 1 rs) → RoomFor 256 17 (length s) (length rows) → rows′ ≡ flatten (planOf rs) ++ drop (length rs) rows
   tree-stands rows rows′ o h =
       let m : length (operatorRows 1 rs) ≡ length rs = operators-made .long rs in
       o ∙ sets-front rows (operatorRows 1 rs) (omega (arith, tree-fits (length rows) h)) ∙ rw (m, tree-rows)
@@ -266,7 +266,7 @@ pub record TreeRead (s head head′ : List ℕ) (rows rows′ : List (List ℕ))
   pub is : readPlan s ≡ withFacts (settingsOf (values (headLine s))) (planOf rs) (readFacts (childCount (planOf rs)) l p (parts 10 (drop p s)))
 
 tree-of :
-    (s head head′ : List ℕ) (rows rows′ : List (List ℕ)) (rs : List (List Field)) (ls : List (List ℕ)) (l p : ℕ) → 9 ≤ length head → RoomFor 256 10 (length s) (length rows) →
+    (s head head′ : List ℕ) (rows rows′ : List (List ℕ)) (rs : List (List Field)) (ls : List (List ℕ)) (l p : ℕ) → 9 ≤ length head → RoomFor 256 17 (length s) (length rows) →
     treeRun s ≡ read rs ls l p → TreeHeld s rs ls l p head head′ rows rows′ → TreeRead s head head′ rows rows′ (length rs) p l
 tree-of s head head′ rows rows′ rs ls l p a b e h = record {
   rs = rs;
@@ -281,7 +281,7 @@ tree-of s head head′ rows rows′ rs ls l p a b e h = record {
 }
 
 tree·at :
-    (s head head′ : List ℕ) (rows rows′ : List (List ℕ)) (count p l : ℕ) (run : Run) → treeRun s ≡ run → 9 ≤ length head → RoomFor 256 10 (length s) (length rows) →
+    (s head head′ : List ℕ) (rows rows′ : List (List ℕ)) (count p l : ℕ) (run : Run) → treeRun s ≡ run → 9 ≤ length head → RoomFor 256 17 (length s) (length rows) →
     R.Read count p l ≡ rowsBy run → TreeLeft s run head head′ rows rows′ → TreeRead s head head′ rows rows′ count p l
 tree·at s head head′ rows rows′ count p l (refused n m) t a b e h = let z : _≡_ {A = ℕ} 0 1 = cc in absurd (omega arith)
 tree·at s head head′ rows rows′ count p l (read rs ls m q) t a b e h =
@@ -291,7 +291,7 @@ tree·at s head head′ rows rows′ count p l (read rs ls m q) t a b e h =
     rw (e₀, e₁, e₂) at (tree-of s head head′ rows rows′ rs ls m q a b t h)
 
 pub tree-read :
-    (s head head′ : List ℕ) (rows rows′ : List (List ℕ)) (count p l : ℕ) → 9 ≤ length head → RoomFor 256 10 (length s) (length rows) →
+    (s head head′ : List ℕ) (rows rows′ : List (List ℕ)) (count p l : ℕ) → 9 ≤ length head → RoomFor 256 17 (length s) (length rows) →
     R.Read count p l ≡ rowsBy (treeRun s) → TreeLeft s (treeRun s) head head′ rows rows′ → TreeRead s head head′ rows rows′ count p l
 tree-read s head head′ rows rows′ count p l a b e h = tree·at s head head′ rows rows′ count p l (treeRun s) refl a b e h
 

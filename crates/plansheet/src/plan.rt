@@ -179,7 +179,7 @@ fn read_after_tree(
     masks: &mut [u64],
     index: &mut [u64],
 ) -> Plan
-    requires { ⌜ (256 ≤ length (now fields)) × (9 ≤ length (now head)) × (4 ≤ length (now node)) × (8 ≤ length (now facts)) × RoomFor 128 15 (length (now s)) (length (now xs)) × (256 ≤ length (now masks)) × (length (now index) ≡ 129) × (at ≤ length (now s)) × (line ≤ at + 1) ⌝ }
+    requires { ⌜ (256 ≤ length (now fields)) × (9 ≤ length (now head)) × (4 ≤ length (now node)) × (8 ≤ length (now facts)) × RoomFor 128 28 (length (now s)) (length (now xs)) × (256 ≤ length (now masks)) × (length (now index) ≡ 129) × (at ≤ length (now s)) × (line ≤ at + 1) ⌝ }
     requires { ⌜ TreeStands (now rows) ⌝ }
     ensures answer { λ r. ⌜ ((t : PlanTree) (rest : List (List ℕ)) → now (rows .entry) ≡ flatten t ++ rest → lines ≡ length (flatten t) → r ≡ planBy (withFacts (settingsOf (now (head .entry))) t (readFacts (childCount t) line at (parts 10 (drop at (now (s .entry))))))) ⌝ }
     ensures held { λ _. ⌜ ((t : PlanTree) (rest : List (List ℕ)) (x : PlanSheet) → now (rows .entry) ≡ flatten t ++ rest → lines ≡ length (flatten t) → withFacts (settingsOf (now (head .entry))) t (readFacts (childCount t) line at (parts 10 (drop at (now (s .entry))))) ≡ sheet x → PlanHeld x (now (rows .entry)) (now (node .exit)) (now (facts .exit)) (now (xs .exit)) (now (masks .exit)) (now (index .exit))) ⌝ }
@@ -226,7 +226,7 @@ pub fn read_plan(
     masks: &mut [u64],
     index: &mut [u64],
 ) -> Plan
-    requires { ⌜ (256 ≤ length (now fields)) × (9 ≤ length (now head)) × RoomFor 256 10 (length (now s)) (length (now rows)) × (4 ≤ length (now node)) × (8 ≤ length (now facts)) × RoomFor 128 15 (length (now s)) (length (now xs)) × (256 ≤ length (now masks)) × (length (now index) ≡ 129) ⌝ }
+    requires { ⌜ (256 ≤ length (now fields)) × (9 ≤ length (now head)) × RoomFor 256 17 (length (now s)) (length (now rows)) × (4 ≤ length (now node)) × (8 ≤ length (now facts)) × RoomFor 128 28 (length (now s)) (length (now xs)) × (256 ≤ length (now masks)) × (length (now index) ≡ 129) ⌝ }
     ensures answer { λ r. ⌜ r ≡ planBy (readPlan (now (s .entry))) ⌝ }
     ensures held { λ _. ⌜ ((x : PlanSheet) → readPlan (now (s .entry)) ≡ sheet x → PlanHeld x (now (rows .exit)) (now (node .exit)) (now (facts .exit)) (now (xs .exit)) (now (masks .exit)) (now (index .exit))) ⌝ }
 {

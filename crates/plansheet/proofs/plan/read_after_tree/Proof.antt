@@ -65,7 +65,7 @@ facts-are c t rest h =
     ap (λ (k : ℕ). readFacts k (a .line) (a .at) (parts 10 (drop (a .at) (a .s .now)))) (sym (many (c .before .before .before .before .before .before .before .before .before .before .before .before .before .before .before .before) t rest h)) ∙ lines c .is
 
 -- no more X rows than the sheet's bytes can be
-bytes : (c : tie.After-known-told) → 15 * c .before .f .given .0 .0 ≤ length (c .before .before .before .before .before .before .before .before .before .before .before .before .before .before .before .before .before .before .before .before .before .before .before .args .s .now) + 1
+bytes : (c : tie.After-known-told) → 28 * c .before .f .given .0 .0 ≤ length (c .before .before .before .before .before .before .before .before .before .before .before .before .before .before .before .before .before .before .before .before .before .before .before .args .s .now) + 1
 bytes c =
     let a = c .before .before .before .before .before .before .before .before .before .before .before .before .before .before .before .before .before .before .before .before .before .before .before .args in
     let g = lines c in
