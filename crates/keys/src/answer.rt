@@ -37,15 +37,15 @@ pub enum Outcome {
 
 // Lists that an outcome doesn't speak of are empty.
 pub struct Adjusted {
-    pub outcome: Outcome,
-    pub cleared: bool,
-    pub first: Handed,
-    pub others: Handed,
     pub at: NumberList,
     pub left: KeyList,
     pub right: KeyList,
     pub directions: NumberList,
     pub places: NumberList,
+    pub outcome: Outcome,
+    pub cleared: bool,
+    pub first: Handed,
+    pub others: Handed,
 }
 
 pub fn passed(outcome: Outcome, cleared: bool, first: Handed, others: Handed) -> Adjusted

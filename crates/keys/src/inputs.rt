@@ -27,10 +27,10 @@ pub enum Attempt {
 
 // Positions and keys count only where the pairs are moved.
 pub struct Current {
-    pub outcome: Attempt,
     pub at: NumberList,
     pub left: KeyList,
     pub right: KeyList,
+    pub outcome: Attempt,
 }
 
 fn hash_partitioned(input: &[u64]) -> bool

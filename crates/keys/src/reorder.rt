@@ -25,8 +25,8 @@ pub enum Placed {
 }
 
 pub struct Positions {
-    pub outcome: Placed,
     pub at: NumberList,
+    pub outcome: Placed,
 }
 
 pub fn same_keys(a: &[u64], b: &[u64]) -> bool
@@ -155,10 +155,10 @@ pub enum Reordered {
 
 // Positions and keys are empty but where the pairs are moved.
 pub struct Reorder {
-    pub outcome: Reordered,
     pub at: NumberList,
     pub left: KeyList,
     pub right: KeyList,
+    pub outcome: Reordered,
 }
 
 fn unmoved(outcome: Reordered) -> Reorder

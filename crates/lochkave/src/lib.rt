@@ -1,6 +1,7 @@
 // The entry points on byte slices, for C and Rust: a sheet's bytes and a lent output.
 // The result is a refusal's number × 2^32 + its line, or how many bytes were written at the front of the output.
 mod again;
+mod distribution;
 mod plan;
 
 ghost use mathlib.Core.Path.{_≡_};
@@ -8,11 +9,11 @@ ghost use lib.ListN.{length, getD};
 ghost use Rattle.sheet.specs.Outcomes.{answer, after};
 ghost use Rattle.lochkave.specs.Entry.{outcome, adjustOutcome, inputsOutcome, distributionOutcome, rewriteOutcome};
 use crate::again::refusal;
-use crate::plan::answer_held;
+use crate::distribution::SHORT;
+use crate::distribution::distribute_long;
+use crate::distribution::distribute_short;
 use answers::join::answer_join_sheet;
 use answers::key::answer_key_sheet;
-use plansheet::plan::Plan;
-use plansheet::plan::read_plan;
 use sheet::sheets::Sheet;
 use sheet::sheets::read_join_sheet;
 use sheet::sheets::read_key_sheet;
@@ -56,49 +57,10 @@ pub extern "C" fn lochkave_ensure_distribution(sheet: &[u8], out: &mut [u8]) -> 
     ensures result { λ r. ⌜ r ≡ answer (distributionOutcome (now (sheet .entry)) (length (now (out .entry)))) ⌝ }
     ensures bytes { λ _. ⌜ now (out .exit) ≡ after (distributionOutcome (now (sheet .entry)) (length (now (out .entry)))) (now (out .entry)) ⌝ }
 {
-    let mut fields = [[0u64; 2]; 256];
-    let mut head = [0u64; 9];
-    let mut rows = [[0u64; 11]; 256];
-    let mut node = [0u64; 4];
-    let mut facts = [[0u64; 7]; 8];
-    let mut xs = [[0u64; 13]; 128];
-    let mut masks = [0u64; 256];
-    let mut index = [0u64; 129];
-    let p = read_plan(
-        sheet,
-        &mut fields,
-        &mut head,
-        &mut rows,
-        &mut node,
-        &mut facts,
-        &mut xs,
-        &mut masks,
-        &mut index,
-    );
-    match p {
-        Plan::Refused { number, line } => return refusal(number, line),
-        Plan::Held {
-            settings,
-            lines,
-            worked: _,
-            children,
-            rows: n,
-        } => {
-            return answer_held(
-                settings,
-                lines,
-                children,
-                n,
-                &mut rows,
-                node,
-                &facts,
-                &xs,
-                &masks,
-                &index,
-                out,
-            )
-        }
+    if sheet.len() < SHORT {
+        return distribute_short(sheet, out);
     }
+    distribute_long(sheet, out)
 }
 
 // The byte that says a sheet's kind; 0 where there is none.
@@ -124,7 +86,10 @@ pub extern "C" fn lochkave_decide(sheet: &[u8], out: &mut [u8]) -> u64
     if kind == 73 {
         return lochkave_reorder_join_keys_to_inputs(sheet, out);
     }
-    lochkave_ensure_distribution(sheet, out)
+    if sheet.len() < SHORT {
+        return distribute_short(sheet, out);
+    }
+    distribute_long(sheet, out)
 }
 
 // Reads a sheet and writes it again from what was read.

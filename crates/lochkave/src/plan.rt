@@ -56,7 +56,41 @@ fn answer_plan(
     }
 }
 
-// The same of up to 32 lines, with rooms of its own.
+// The same of up to 12 lines, with rooms of its own.
+fn answer_least(
+    s: Settings,
+    b: NodeRow,
+    masks: &[u64],
+    facts: &[ChildRow],
+    index: &[u64],
+    rows: &[FactRow],
+    n: usize,
+    src: &mut [Row],
+    out: &mut [u8],
+) -> u64
+    requires { ⌜ Known (now facts) (now rows) (now index) n ⌝ }
+    requires { ⌜ (length (now facts) ≤ 8) × (length (now src) ≤ 12) ⌝ }
+    requires { ⌜ Sheet (now src) (length (now facts)) ⌝ }
+    ensures { λ r. ⌜ ((t : Plan) (rest : List (List ℕ)) → now (src .entry) ≡ flatten t ++ rest → Gives (within (length (now (out .entry))) (distributed (ensured s (factsBy b (now (facts .entry)) (take n (now (rows .entry))) (now (masks .entry))) t))) r (now (out .entry)) (now (out .exit))) ⌝ }
+{
+    let mut mid = [[0u64; 11]; 14];
+    let mut dst = [[0u64; 11]; 48];
+    answer_plan(
+        s,
+        b,
+        masks,
+        facts,
+        index,
+        rows,
+        n,
+        src,
+        &mut mid,
+        &mut dst,
+        out,
+    )
+}
+
+// The same of up to 32 lines.
 fn answer_few(
     s: Settings,
     b: NodeRow,
@@ -141,6 +175,9 @@ fn answer_tree(
     requires { ⌜ Sheet (now src) (length (now facts)) ⌝ }
     ensures { λ r. ⌜ ((t : Plan) (rest : List (List ℕ)) → now (src .entry) ≡ flatten t ++ rest → Gives (within (length (now (out .entry))) (distributed (ensured s (factsBy b (now (facts .entry)) (take n (now (rows .entry))) (now (masks .entry))) t))) r (now (out .entry)) (now (out .exit))) ⌝ }
 {
+    if src.len() <= 12 {
+        return answer_least(s, b, masks, facts, index, rows, n, src, out);
+    }
     if src.len() <= 32 {
         return answer_few(s, b, masks, facts, index, rows, n, src, out);
     }

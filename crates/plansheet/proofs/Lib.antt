@@ -7,6 +7,7 @@ pub mod Singles
 pub mod CountedRuns
 pub mod Wholes
 pub mod RunCases
+pub mod RunBytes
 pub mod OneTree
 pub mod Fitting
 pub mod FitTrees

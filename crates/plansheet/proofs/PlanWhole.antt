@@ -3,7 +3,7 @@
 use mathlib.Core.Path.{_≡_, refl, sym, ap, _∙_}
 use mathlib.Core.List.{List, [], _∷_, _++_, append-nil}
 use mathlib.Core.Bool.{Bool, true, false, cond}
-use Prim.Native.Nat.{ℕ, suc, _+_, _-_, _≤_, _<_}
+use Prim.Native.Nat.{ℕ, suc, _+_, _-_, _*_, _≤_, _<_}
 use native.Mathlib.Omega.{arith}
 use lib.Dec.{eqb}
 use lib.ListN.{length, getD, take, drop, length-map, List·getD-append}
@@ -28,7 +28,7 @@ use Rattle.plansheet.specs.PlanLines.{settingsShape, settingsLine, treeS
 use Rattle.plansheet.specs.PlanSheets.{PlanSheet, FactLines, settingsOf, operatorRows, planOf, childCount, factRows, factsOf, planSheet, judgedPlan, withFacts, withRows, readFacts, readPlan}
 use Rattle.plansheet.specs.ReadRows.{numberRows, rowsBy}
 use Rattle.plansheet.specs.ReadPlans.{thenRun, treeRun, headLine, factsBy, FactsHeld, TreeHeld, TreeLeft}
-use Rattle.plansheet.specs.PlanRooms.{PlanRooms, planBy, PlanHeld}
+use Rattle.plansheet.specs.PlanRooms.{RoomFor, PlanRooms, planBy, PlanHeld}
 use Rattle.plansheet.specs.declared.tree.Rows.the-variants as R
 use Rattle.plansheet.specs.declared.lines.Facts.the-variants as F
 use Rattle.plansheet.specs.declared.plan.Plan.the-variants as W
@@ -36,6 +36,7 @@ use Rattle.plansheet.proofs.FineLines.{operators-made, two-small}
 use Rattle.plansheet.proofs.Singles.{turned-run}
 use Rattle.plansheet.proofs.OneTree.{one-tree, few-children, few-lines}
 use Rattle.plansheet.proofs.PlanFitted.{worked-rooms, facts-by}
+use Rattle.plansheet.proofs.RunBytes.{size-parts, run-left, tree-bytes, tree-room}
 
 -- ---- the judgement
 
@@ -150,18 +151,20 @@ module _ (t : Plan) (g : FactLines) (rows rest : List (List ℕ)) (worked childr
 
 -- ---- the tree that was read
 
-record ThenRead (k : ℕ → ℕ → List (List ℕ) → Run) (rs : List (List Field)) (ls : List (List ℕ)) (l p : ℕ) : Type 0 where
+record ThenRead (r : Run) (k : ℕ → ℕ → List (List ℕ) → Run) (rs : List (List Field)) (ls : List (List ℕ)) (l p : ℕ) : Type 0 where
+  front : List (List Field)
   line : ℕ
   place : ℕ
   lines : List (List ℕ)
+  after : r ≡ read front lines line place
   is : k line place lines ≡ read rs ls l p
 
-then·at : (r : Run) (k : ℕ → ℕ → List (List ℕ) → Run) (rs : List (List Field)) (ls : List (List ℕ)) (l p : ℕ) → thenRun r k ≡ read rs ls l p → ThenRead k rs ls l p
+then·at : (r : Run) (k : ℕ → ℕ → List (List ℕ) → Run) (rs : List (List Field)) (ls : List (List ℕ)) (l p : ℕ) → thenRun r k ≡ read rs ls l p → ThenRead r k rs ls l p
 then·at (refused m j) k rs ls l p e = let z : _≡_ {A = ℕ} 0 1 = cc in absurd (omega arith)
-then·at (read ds ms j q) k rs ls l p e = record { line = j; place = q; lines = ms; is = e }
+then·at (read ds ms j q) k rs ls l p e = record { front = ds; line = j; place = q; lines = ms; after = refl; is = e }
 
 module _ (s : List ℕ) (rs : List (List Field)) (ls : List (List ℕ)) (l p : ℕ) (e : treeRun s ≡ read rs ls l p) where
-  run-of : ThenRead (rowsOf planLine 1 0) rs ls l p
+  run-of : ThenRead (rowsOf settingsLine 1 0 1 0 (parts 10 s)) (rowsOf planLine 1 0) rs ls l p
   unfolding treeRun
   run-of = then·at (rowsOf settingsLine 1 0 1 0 (parts 10 s)) (rowsOf planLine 1 0) rs ls l p e
 
@@ -173,6 +176,13 @@ module _ (s : List ℕ) (rs : List (List Field)) (ls : List (List ℕ)) (l p : �
       let h : 0 + length rs ≤ 256 = few-lines treeShape childRules mostLines 1 0 (run-of .line) (run-of .place) (run-of .lines) rs ls l p (run-of .is) (omega arith) in
       omega arith
 
+  tree-fits : (room : ℕ) → RoomFor 256 17 (length s) room → length rs ≤ room
+  tree-fits room h =
+      let q = run-of in
+      let b : 17 * length rs ≤ length s + 1 =
+      omega (arith, tree-bytes 1 0 (q .line) (q .place) (q .lines) rs ls l p (q .is), run-left settingsLine 1 0 1 0 (parts 10 s) (q .front) (q .lines) (q .line) (q .place) (q .after), size-parts 10 s) in
+      tree-room (length s) room (length rs) h tree-few b
+
   pub tree-long : length (flatten (planOf rs)) ≡ length rs
   tree-long = ap length tree-rows ∙ operators-made .long rs
 
@@ -183,10 +193,10 @@ module _ (s : List ℕ) (rs : List (List Field)) (ls : List (List ℕ)) (l p : �
       let c : childrenOf (getD (operatorRows 1 rs) (length (removed (planOf rs))) []) ≤ 8 = few-children treeShape childRules mostLines 1 0 (run-of .line) (run-of .place) (run-of .lines) rs ls l p (run-of .is) 1 (length (removed (planOf rs))) in
       omega (arith, w .children, ap (λ (ys : List (List ℕ)). childrenOf (getD ys (length (removed (planOf rs))) [])) tree-rows)
 
-  pub tree-stands : (rows rows′ : List (List ℕ)) → rows′ ≡ sets rows 0 (operatorRows 1 rs) → 256 ≤ length rows → rows′ ≡ flatten (planOf rs) ++ drop (length rs) rows
+  pub tree-stands : (rows rows′ : List (List ℕ)) → rows′ ≡ sets rows 0 (operatorRows 1 rs) → RoomFor 256 17 (length s) (length rows) → rows′ ≡ flatten (planOf rs) ++ drop (length rs) rows
   tree-stands rows rows′ o h =
       let m : length (operatorRows 1 rs) ≡ length rs = operators-made .long rs in
-      o ∙ sets-front rows (operatorRows 1 rs) (omega (arith, tree-few)) ∙ rw (m, tree-rows)
+      o ∙ sets-front rows (operatorRows 1 rs) (omega (arith, tree-fits (length rows) h)) ∙ rw (m, tree-rows)
 
 -- ---- the D line
 
@@ -256,7 +266,7 @@ pub record TreeRead (s head head′ : List ℕ) (rows rows′ : List (List ℕ))
   pub is : readPlan s ≡ withFacts (settingsOf (values (headLine s))) (planOf rs) (readFacts (childCount (planOf rs)) l p (parts 10 (drop p s)))
 
 tree-of :
-    (s head head′ : List ℕ) (rows rows′ : List (List ℕ)) (rs : List (List Field)) (ls : List (List ℕ)) (l p : ℕ) → 9 ≤ length head → 256 ≤ length rows →
+    (s head head′ : List ℕ) (rows rows′ : List (List ℕ)) (rs : List (List Field)) (ls : List (List ℕ)) (l p : ℕ) → 9 ≤ length head → RoomFor 256 17 (length s) (length rows) →
     treeRun s ≡ read rs ls l p → TreeHeld s rs ls l p head head′ rows rows′ → TreeRead s head head′ rows rows′ (length rs) p l
 tree-of s head head′ rows rows′ rs ls l p a b e h = record {
   rs = rs;
@@ -271,7 +281,7 @@ tree-of s head head′ rows rows′ rs ls l p a b e h = record {
 }
 
 tree·at :
-    (s head head′ : List ℕ) (rows rows′ : List (List ℕ)) (count p l : ℕ) (run : Run) → treeRun s ≡ run → 9 ≤ length head → 256 ≤ length rows →
+    (s head head′ : List ℕ) (rows rows′ : List (List ℕ)) (count p l : ℕ) (run : Run) → treeRun s ≡ run → 9 ≤ length head → RoomFor 256 17 (length s) (length rows) →
     R.Read count p l ≡ rowsBy run → TreeLeft s run head head′ rows rows′ → TreeRead s head head′ rows rows′ count p l
 tree·at s head head′ rows rows′ count p l (refused n m) t a b e h = let z : _≡_ {A = ℕ} 0 1 = cc in absurd (omega arith)
 tree·at s head head′ rows rows′ count p l (read rs ls m q) t a b e h =
@@ -281,7 +291,7 @@ tree·at s head head′ rows rows′ count p l (read rs ls m q) t a b e h =
     rw (e₀, e₁, e₂) at (tree-of s head head′ rows rows′ rs ls m q a b t h)
 
 pub tree-read :
-    (s head head′ : List ℕ) (rows rows′ : List (List ℕ)) (count p l : ℕ) → 9 ≤ length head → 256 ≤ length rows →
+    (s head head′ : List ℕ) (rows rows′ : List (List ℕ)) (count p l : ℕ) → 9 ≤ length head → RoomFor 256 17 (length s) (length rows) →
     R.Read count p l ≡ rowsBy (treeRun s) → TreeLeft s (treeRun s) head head′ rows rows′ → TreeRead s head head′ rows rows′ count p l
 tree-read s head head′ rows rows′ count p l a b e h = tree·at s head head′ rows rows′ count p l (treeRun s) refl a b e h
 

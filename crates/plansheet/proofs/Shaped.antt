@@ -27,7 +27,7 @@ use Rattle.sheet.specs.KeyLines.{at, values}
 use Rattle.sheet.specs.Reading.{rowValues, readBy}
 use Rattle.sheet.specs.declared.line.Read.the-variants.{Line, Refused}
 use Rattle.sheet.proofs.ReadLines.{row-values}
-use Rattle.plansheet.specs.Shapes.{Shape, overAny, fixedLine, comingLine, treeLine, exchangeLimited, ruleFits, mostChildren}
+use Rattle.plansheet.specs.Shapes.{Shape, plainShape, overAny, fixedLine, comingLine, treeLine, exchangeLimited, ruleFits, mostChildren}
 use Rattle.plansheet.specs.ReadRows.{boundOf, Bounded, shapeOf, judgedNumber, shapeNumber, masksNumber, treeNumber, valueAt, stateAt, fieldsRow}
 use Rattle.plansheet.specs.PlanLines.{twoTo, maskLine}
 use Rattle.plansheet.specs.PlanSheets.{operatorRow}
@@ -325,3 +325,63 @@ module _ (n seen next : ℕ) (x : Option (List Field)) where
 
     pub masks-read : m ≡ 0 → Line count after ≡ readBy (lineNumber (maskLine n) seen next x) next x
     masks-read h = rw (masks-is, eq-eqb m 0 h, o .is) (λ i. Line (o .counts i) (o .goes i))
+
+-- ---- plain fields with codes
+
+-- number 4 is asked last
+plain·at : (a l o : Bool) → _≡_ {A = ℕ} (cond a (cond l 3 (cond o 4 0)) 2) (cond (eqb (cond a (cond l 3 0) 2) 0) (cond o 4 0) (cond a (cond l 3 0) 2))
+plain·at true true o = refl
+plain·at true false o = refl
+plain·at false l o = refl
+
+count-of·at : (a : Bool) (n m : ℕ) → cond a n 2 ≡ 0 → a ≡ true
+count-of·at true n m e = refl
+count-of·at false n m e = absurd (omega arith)
+
+and-first : (a b : Bool) → a && b ≡ true → a ≡ true
+and-first true b e = refl
+and-first false b e = e
+
+pub masks-counted : (sets count worst largest next : ℕ) → masksNumber sets count worst largest next ≡ 0 → count ≡ sets
+masks-counted sets count worst largest next e =
+    eqb-true count sets (and-first (eqb count sets) (leb worst 0 && leb largest 65535) (count-of·at (eqb count sets && (leb worst 0 && leb largest 65535)) _ 0 e))
+
+module _ (letter width : ℕ) (codes : List ℕ) where
+  abbrev P : Kind
+  P = fixedLine (plainShape letter width codes)
+
+  plain-number :
+      (seen next : ℕ) (fs : List Field) →
+      lineNumber P seen next (some fs)
+      ≡ cond (eqb (length fs) width && (leb (greatest 0 (map stateOf fs)) 0 && leb (greatest 0 (map valueOf fs)) 65535)) (cond (ltb mostBytes next) 3 (cond (overAny codes (values fs)) 4 0)) 2
+  unfolding overAny
+  plain-number seen next fs = number-fixed P refl fs seen next ∙ rw (plain-fits width fs, all-largest plain fs, or-none (ltb mostBytes next))
+
+  -- what `line_at` answered of such a line
+  module _ (seen next : ℕ) (x : Option (List Field)) where
+    pub plain-wrong : LL.Wrong ≡ lineRead next x → Refused 1 ≡ readBy (lineNumber P seen next x) next x
+    unfolding lineNumber
+    plain-wrong e = rw (wrong-none next x e)
+
+    module _ (count worst largest after : ℕ) (o : Opened next x count worst largest after) (m : ℕ) (is : m ≡ masksNumber width count worst largest after) where
+      plain-is : lineNumber P seen next x ≡ cond (eqb m 0) (cond (overAny codes (values (o .fs))) 4 0) m
+      plain-is =
+          ap (lineNumber P seen next) (o .is) ∙ plain-number seen next (o .fs)
+          ∙ plain·at (eqb (length (o .fs)) width && (leb (greatest 0 (map stateOf (o .fs))) 0 && leb (greatest 0 (map valueOf (o .fs))) 65535)) (ltb mostBytes next) (overAny codes (values (o .fs)))
+          ∙ ap (λ (k : ℕ). cond (eqb k 0) (cond (overAny codes (values (o .fs))) 4 0) k) (sym (is ∙ (λ i. masksNumber width (o .counts i) (o .states i) (o .values i) (o .goes i))))
+
+      pub plain-turned : (m ≡ 0 → ⊥) → Refused m ≡ readBy (lineNumber P seen next x) next x
+      plain-turned h =
+          let q : lineNumber P seen next x ≡ m = plain-is ∙ rw (ne-eqb m 0 h) in
+          rw (q, ne-eqb m 0 h)
+
+      module _ (z : m ≡ 0) where
+        pub plain-coded : overAny codes (values (o .fs)) ≡ true → Refused 4 ≡ readBy (lineNumber P seen next x) next x
+        plain-coded h =
+            let q : lineNumber P seen next x ≡ 4 = plain-is ∙ rw (eq-eqb m 0 z, h) in
+            rw q
+
+        pub plain-read : overAny codes (values (o .fs)) ≡ false → Line count after ≡ readBy (lineNumber P seen next x) next x
+        plain-read h =
+            let q : lineNumber P seen next x ≡ 0 = plain-is ∙ rw (eq-eqb m 0 z, h) in
+            rw (q, o .is) (λ i. Line (o .counts i) (o .goes i))

@@ -119,7 +119,7 @@ masks-of (read ys ls l p) b fs xs g e = go (atEnd ls) e
     go true e = let z : factLinesOf b fs xs (headOf ys) ≡ g = cc in (ap (λ (h : FactLines). h .node) z, ap (λ (h : FactLines). h .children) z, ap (λ (h : FactLines). h .rows) z)
     go false e = let z : _≡_ {A = ℕ} 0 1 = cc in absurd (omega arith)
 
-masks-open : (n : ℕ) (b : List Field) (fs xs : List (List Field)) (l p : ℕ) (ls : List (List ℕ)) (g : FactLines)
+pub masks-open : (n : ℕ) (b : List Field) (fs xs : List (List Field)) (l p : ℕ) (ls : List (List ℕ)) (g : FactLines)
     → readMasks b fs xs n l p ls ≡ sheet g → (b ≡ g .node) × (fs ≡ g .children) × (xs ≡ g .rows)
 unfolding readMasks
 masks-open n b fs xs l p ls g e = masks-of (rowsOf (maskLine n) 1 0 l p ls) b fs xs g e

@@ -1,8 +1,9 @@
 -- A D sheet as it is held in the rooms lent, and what reading one answers.
 use mathlib.Core.Path.{_≡_}
-use Prim.Native.Nat.{ℕ, _≤_}
+use Prim.Native.Nat.{ℕ, _*_, _≤_, _<_}
 use mathlib.Core.List.{List, _++_, map}
 use lib.ListN.{length, take}
+use mathlib.Core.Logic.{_⊎_}
 use Rattle.exchange.specs.Trees.{Plan}
 use Rattle.exchange.specs.Rows.{flatten}
 use Rattle.exchange.specs.Worked.{removed}
@@ -19,6 +20,14 @@ use Rattle.plansheet.specs.declared.lines.Facts.{Facts}
 use Rattle.plansheet.specs.declared.lines.Facts.the-variants as F
 use Rattle.plansheet.specs.declared.plan.Plan as P
 use Rattle.plansheet.specs.declared.plan.Plan.the-variants as W
+
+-- room for the most rows that there may be, or for as many as so many bytes can be where each takes `width` of them
+abbrev pub RoomFor : ℕ → ℕ → ℕ → ℕ → Type 0
+RoomFor most width bytes room = (most ≤ room) ⊎ (bytes < width * room)
+
+-- room for n X rows, or for more than fit any sheet
+abbrev pub Suffices : ℕ → ℕ → Type 0
+Suffices n room = room < n → 128 ≤ room
 
 -- the tree t and the lines g after it; the worked node's place, how many children it has, and how many X rows there are
 pub record PlanRooms (t : Plan) (g : FactLines) (rows facts xs : List (List ℕ)) (masks : List ℕ) (worked children n : ℕ) : Type 0 where

@@ -5,10 +5,10 @@ use mathlib.Core.List.{List, [], _∷_}
 use mathlib.Core.Bool.{Bool, true, false, not, _&&_, _||_}
 use mathlib.Core.Option.{Option, none, some}
 use lib.Dec.{eqb, leb, ltb}
-use lib.ListN.{length, getD}
+use lib.ListN.{length, getD, replicate}
 use Rattle.text.specs.Text.{Field, number, stateOf}
 use Rattle.text.specs.Bounds.{Bound}
-use Rattle.sheet.specs.Lines.{Kind, counted, oneLess, never}
+use Rattle.sheet.specs.Lines.{Kind, plain, counted, oneLess, never}
 use Rattle.sheet.specs.KeyLines.{at, values}
 
 -- the letter; a bound for each field; the most of the first fields, and the last codes of the first fields
@@ -17,6 +17,10 @@ pub record Shape : Type 0 where
   pub heads : List Bound
   pub sizes : List ℕ
   pub codes : List ℕ
+
+-- so many plain fields, of which no most is asked
+abbrev pub plainShape : ℕ → ℕ → List ℕ → Shape
+plainShape letter width codes = record { letter = letter; heads = replicate width plain; sizes = []; codes = codes }
 
 -- some number is over its own largest; numbers past the last largest are not asked
 unfoldable pub overAny : List ℕ → List ℕ → Bool

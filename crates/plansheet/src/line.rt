@@ -6,8 +6,10 @@ ghost use Rattle.text.specs.Text.{line, lineFields, lineAt, after};
 ghost use Rattle.text.specs.Read.{storedIn};
 ghost use Rattle.sheet.specs.Lines.{lineNumber};
 ghost use Rattle.sheet.specs.Reading.{readBy};
+ghost use Rattle.plansheet.specs.Shapes.{fixedLine, plainShape};
 ghost use Rattle.plansheet.specs.PlanLines.{settingsLine, nodeLine, childLine, factLine, maskLine, twoTo};
 ghost use Rattle.plansheet.specs.ReadRows.{masksNumber};
+use crate::shape::over_any;
 use crate::shape::shaped_line;
 use sheet::line::Read;
 use text::line::Line;
@@ -38,7 +40,7 @@ pub fn sets_of(n: u64) -> usize
     }
 }
 
-// The number of a Y line by its count of fields, their largest state and value, and the place after it: 2, 3, or 0.
+// The number of a line of so many plain fields, as a Y line is, by its count of fields, their largest state and value, and the place after it: 2, 3, or 0.
 fn masks_number(sets: usize, count: usize, worst: u64, largest: u64, next: usize) -> u64
     ensures { λ r. ⌜ r ≡ masksNumber sets count worst largest next ⌝ }
 {
@@ -55,6 +57,38 @@ fn masks_number(sets: usize, count: usize, worst: u64, largest: u64, next: usize
         return 3;
     }
     0
+}
+
+// The line of a letter with so many plain fields, the first of which have last codes; its fields go into the rows lent.
+fn plain_line(
+    s: &[u8],
+    at: usize,
+    letter: u8,
+    width: usize,
+    codes: &[u64],
+    fields: &mut [[u64; 2]],
+) -> Read
+    requires { ⌜ width ≤ length (now fields) ⌝ }
+    ensures answer { λ r. ⌜ ((seen : ℕ) → r ≡ readBy (lineNumber (fixedLine (plainShape letter width (now (codes .entry)))) seen (after (now (s .entry)) at) (lineAt letter (now (s .entry)) at)) (after (now (s .entry)) at) (lineAt letter (now (s .entry)) at)) ⌝ }
+    ensures stored { λ _. ⌜ now (fields .exit) ≡ storedIn (now (fields .entry)) (lineFields letter (line (drop at (now (s .entry))))) ⌝ }
+{
+    let Line::Fields {
+        count,
+        worst,
+        largest,
+        next,
+    } = line_at(s, at, letter, fields)
+    else {
+        return Read::Refused(1);
+    };
+    let m = masks_number(width, count, worst, largest, next);
+    if m != 0 {
+        return Read::Refused(m);
+    }
+    if over_any(codes, &fields[0..count]) {
+        return Read::Refused(4);
+    }
+    Read::Line { count, next }
 }
 
 // The D line.
@@ -117,24 +151,8 @@ pub fn fact_line(s: &[u8], at: usize, fields: &mut [[u64; 2]]) -> Read
     ensures answer { λ r. ⌜ ((seen : ℕ) → r ≡ readBy (lineNumber factLine seen (after (now (s .entry)) at) (lineAt 88 (now (s .entry)) at)) (after (now (s .entry)) at) (lineAt 88 (now (s .entry)) at)) ⌝ }
     ensures stored { λ _. ⌜ now (fields .exit) ≡ storedIn (now (fields .entry)) (lineFields 88 (line (drop at (now (s .entry))))) ⌝ }
 {
-    let bounds: [[u64; 2]; 13] = [
-        [0, PLAIN],
-        [0, PLAIN],
-        [0, PLAIN],
-        [0, PLAIN],
-        [0, PLAIN],
-        [0, PLAIN],
-        [0, PLAIN],
-        [0, PLAIN],
-        [0, PLAIN],
-        [0, PLAIN],
-        [0, PLAIN],
-        [0, PLAIN],
-        [0, PLAIN],
-    ];
-    let sizes: [u64; 0] = [];
     let codes: [u64; 12] = [ANY, ANY, ANY, ANY, 1, 1, 1, 1, 1, ANY, 1, 1];
-    shaped_line(s, at, 88, &bounds, &sizes, &codes, fields)
+    plain_line(s, at, 88, 13, &codes, fields)
 }
 
 // The Y line of a worked node with n children.

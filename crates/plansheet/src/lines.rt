@@ -37,7 +37,7 @@ pub fn read_plan_tree(
     fields: &mut [[u64; 2]],
     rows: &mut [Row],
 ) -> Rows
-    requires { ⌜ (256 ≤ length (now fields)) × (256 ≤ length (now rows)) × (at ≤ length (now s)) × (line ≤ at + 1) ⌝ }
+    requires { ⌜ (256 ≤ length (now fields)) × (at ≤ length (now s)) × (line ≤ at + 1) ⌝ }
     ensures answer { λ r. ⌜ r ≡ rowsBy (runFrom planLine 1 (now (s .entry)) line at) ⌝ }
     ensures left { λ _. ⌜ Left (operatorRows 1) (now (s .entry)) (runFrom planLine 1 (now (s .entry)) line at) (now (rows .entry)) (now (rows .exit)) ⌝ }
 {
@@ -89,7 +89,7 @@ pub fn read_tree_lines(
     head: &mut [u64],
     rows: &mut [Row],
 ) -> Rows
-    requires { ⌜ (256 ≤ length (now fields)) × (9 ≤ length (now head)) × (256 ≤ length (now rows)) ⌝ }
+    requires { ⌜ (256 ≤ length (now fields)) × (9 ≤ length (now head)) ⌝ }
     ensures answer { λ r. ⌜ r ≡ rowsBy (treeRun (now (s .entry))) ⌝ }
     ensures left { λ _. ⌜ TreeLeft (now (s .entry)) (treeRun (now (s .entry))) (now (head .entry)) (now (head .exit)) (now (rows .entry)) (now (rows .exit)) ⌝ }
 {

@@ -13,7 +13,7 @@ ghost use Rattle.exchange.specs.Fit.{factsFit};
 ghost use Rattle.exchange.specs.Found.{indexOf};
 ghost use Rattle.sheet.specs.KeySheets.{sheet};
 ghost use Rattle.plansheet.specs.PlanSheets.{PlanSheet, FactLines, settingsOf, factsOf, planSheet, judgedPlan, withFacts, childCount, readFacts, readPlan};
-ghost use Rattle.plansheet.specs.PlanRooms.{PlanRooms, Filled, TreeStands, planBy, treeRefused, factsRefused, PlanHeld};
+ghost use Rattle.plansheet.specs.PlanRooms.{PlanRooms, Filled, TreeStands, RoomFor, Suffices, planBy, treeRefused, factsRefused, PlanHeld};
 use crate::fit::facts_fit;
 use crate::line::sets_of;
 use crate::lines::Facts;
@@ -74,7 +74,7 @@ fn plan_fits(
     masks: &[u64],
     index: &mut [u64],
 ) -> bool
-    requires { ⌜ (8 ≤ length (now facts)) × (128 ≤ length (now xs)) × (256 ≤ length (now masks)) × (length (now index) ≡ 129) ⌝ }
+    requires { ⌜ (8 ≤ length (now facts)) × Suffices n (length (now xs)) × (256 ≤ length (now masks)) × (length (now index) ≡ 129) ⌝ }
     requires { ⌜ Filled (now rows) (now facts) (now xs) (now masks) worked children n ⌝ }
     ensures answer { λ r. ⌜ ((s : Settings) (t : PlanTree) (g : FactLines) → s .target ≡ target → PlanRooms t g (now (rows .entry)) (now (facts .entry)) (now (xs .entry)) (now (masks .entry)) worked children n → r ≡ factsFit s (factsOf g) t) ⌝ }
     ensures indexed { λ r. ⌜ (r ≡ true → (n ≤ length (now (xs .entry))) × (now (index .exit) ≡ indexOf (take n (now (xs .entry))))) ⌝ }
@@ -133,7 +133,7 @@ fn judge_plan(
     masks: &[u64],
     index: &mut [u64],
 ) -> Plan
-    requires { ⌜ (9 ≤ length (now head)) × (8 ≤ length (now facts)) × (128 ≤ length (now xs)) × (256 ≤ length (now masks)) × (length (now index) ≡ 129) ⌝ }
+    requires { ⌜ (9 ≤ length (now head)) × (8 ≤ length (now facts)) × Suffices n (length (now xs)) × (256 ≤ length (now masks)) × (length (now index) ≡ 129) ⌝ }
     requires { ⌜ Filled (now rows) (now facts) (now xs) (now masks) worked children n ⌝ }
     ensures answer { λ r. ⌜ ((t : PlanTree) (g : FactLines) → lines ≡ length (flatten t) → PlanRooms t g (now (rows .entry)) (now (facts .entry)) (now (xs .entry)) (now (masks .entry)) worked children n → r ≡ planBy (judgedPlan (planSheet (settingsOf (now (head .entry))) t g))) ⌝ }
     ensures indexed { λ r. ⌜ ((x : PlanSheet) → r ≡ planBy (sheet x) → (n ≤ length (now (xs .entry))) × (now (index .exit) ≡ indexOf (take n (now (xs .entry))))) ⌝ }
@@ -179,7 +179,7 @@ fn read_after_tree(
     masks: &mut [u64],
     index: &mut [u64],
 ) -> Plan
-    requires { ⌜ (256 ≤ length (now fields)) × (9 ≤ length (now head)) × (4 ≤ length (now node)) × (8 ≤ length (now facts)) × (128 ≤ length (now xs)) × (256 ≤ length (now masks)) × (length (now index) ≡ 129) × (at ≤ length (now s)) × (line ≤ at + 1) ⌝ }
+    requires { ⌜ (256 ≤ length (now fields)) × (9 ≤ length (now head)) × (4 ≤ length (now node)) × (8 ≤ length (now facts)) × RoomFor 128 28 (length (now s)) (length (now xs)) × (256 ≤ length (now masks)) × (length (now index) ≡ 129) × (at ≤ length (now s)) × (line ≤ at + 1) ⌝ }
     requires { ⌜ TreeStands (now rows) ⌝ }
     ensures answer { λ r. ⌜ ((t : PlanTree) (rest : List (List ℕ)) → now (rows .entry) ≡ flatten t ++ rest → lines ≡ length (flatten t) → r ≡ planBy (withFacts (settingsOf (now (head .entry))) t (readFacts (childCount t) line at (parts 10 (drop at (now (s .entry))))))) ⌝ }
     ensures held { λ _. ⌜ ((t : PlanTree) (rest : List (List ℕ)) (x : PlanSheet) → now (rows .entry) ≡ flatten t ++ rest → lines ≡ length (flatten t) → withFacts (settingsOf (now (head .entry))) t (readFacts (childCount t) line at (parts 10 (drop at (now (s .entry))))) ≡ sheet x → PlanHeld x (now (rows .entry)) (now (node .exit)) (now (facts .exit)) (now (xs .exit)) (now (masks .exit)) (now (index .exit))) ⌝ }
@@ -226,7 +226,7 @@ pub fn read_plan(
     masks: &mut [u64],
     index: &mut [u64],
 ) -> Plan
-    requires { ⌜ (256 ≤ length (now fields)) × (9 ≤ length (now head)) × (256 ≤ length (now rows)) × (4 ≤ length (now node)) × (8 ≤ length (now facts)) × (128 ≤ length (now xs)) × (256 ≤ length (now masks)) × (length (now index) ≡ 129) ⌝ }
+    requires { ⌜ (256 ≤ length (now fields)) × (9 ≤ length (now head)) × RoomFor 256 17 (length (now s)) (length (now rows)) × (4 ≤ length (now node)) × (8 ≤ length (now facts)) × RoomFor 128 28 (length (now s)) (length (now xs)) × (256 ≤ length (now masks)) × (length (now index) ≡ 129) ⌝ }
     ensures answer { λ r. ⌜ r ≡ planBy (readPlan (now (s .entry))) ⌝ }
     ensures held { λ _. ⌜ ((x : PlanSheet) → readPlan (now (s .entry)) ≡ sheet x → PlanHeld x (now (rows .exit)) (now (node .exit)) (now (facts .exit)) (now (xs .exit)) (now (masks .exit)) (now (index .exit))) ⌝ }
 {

@@ -3,7 +3,7 @@ ghost use mathlib.Core.Path.{_≡_};
 ghost use mathlib.Core.Bool.{cond};
 ghost use Prim.Native.Nat.{_+_, _≤_, _<_};
 ghost use lib.Dec.{eqb};
-ghost use lib.ListN.{length, drop};
+ghost use lib.ListN.{length, drop, set};
 ghost use Rattle.text.specs.Text.{line, lineFields, lineAt, after};
 ghost use Rattle.text.specs.Read.{storedIn};
 ghost use Rattle.sheet.specs.Lines.{lineNumber};
@@ -142,6 +142,15 @@ fn operator_row(fields: &[[u64; 2]], id: u64) -> Row
     ]
 }
 
+// Stores a row where there is room.
+fn put_row(rows: &mut [Row], i: usize, x: Row)
+    ensures { λ _. ⌜ now (rows .exit) ≡ set (now (rows .entry)) i x ⌝ }
+{
+    if i < rows.len() {
+        rows[i] = x;
+    }
+}
+
 // How many rows were read, the place after them and the number of the line there; or a refusal and its line.
 pub enum Rows {
     Read {
@@ -155,7 +164,7 @@ pub enum Rows {
     },
 }
 
-// The lines of one tree from a place on, as operators' rows; what follows the tree is left alone.
+// The lines of one tree from a place on, as operators' rows, of which those are stored for which there is room; what follows the tree is left alone.
 pub fn read_tree(
     s: &[u8],
     at: usize,
@@ -170,7 +179,7 @@ pub fn read_tree(
     rows: &mut [Row],
 ) -> Rows
     requires { ⌜ (8 ≤ length (now bounds)) × (length (now bounds) ≤ length (now fields)) × Bounded (now bounds) ⌝ }
-    requires { ⌜ (most ≤ 65536) × (most ≤ length (now rows)) × (at ≤ length (now s)) × (line ≤ at + 1) ⌝ }
+    requires { ⌜ (most ≤ 65536) × (at ≤ length (now s)) × (line ≤ at + 1) ⌝ }
     ensures answer { λ r. ⌜ r ≡ rowsBy (runFrom (treeLine (shapeOf letter (now (bounds .entry)) (now (sizes .entry)) (now (codes .entry))) (now (rules .entry)) most) 1 (now (s .entry)) line at) ⌝ }
     ensures left { λ _. ⌜ Left (operatorRows 1) (now (s .entry)) (runFrom (treeLine (shapeOf letter (now (bounds .entry)) (now (sizes .entry)) (now (codes .entry))) (now (rules .entry)) most) 1 (now (s .entry)) line at) (now (rows .entry)) (now (rows .exit)) ⌝ }
 {
@@ -198,7 +207,7 @@ pub fn read_tree(
             };
         };
         let row = operator_row(&fields[0..count], n as u64 + 1);
-        rows[n] = row;
+        put_row(&mut *rows, n, row);
         owed = owed - 1 + row[10];
         p = next;
         n += 1;

@@ -1,5 +1,6 @@
 -- `rewrite_plan_sheet` meets its contract: a refusal, or the sheet that is held.
 -- Assumes nothing.
+use mathlib.Core.Logic.{inl}
 use native.Mathlib.Omega.{arith}
 use Rattle.plansheet.specs.PlanSheets.{readPlan}
 use Rattle.lochkave.specs.Entry.{planAgain}
@@ -35,7 +36,7 @@ slice-aggregate-read-plan-8 : tie.Need-slice-aggregate-read-plan-8
 slice-aggregate-read-plan-8 c = search needs
 
 read-plan-requires : tie.Need-read-plan-requires
-read-plan-requires c κs = search needs
+read-plan-requires c κs = (search needs, search needs, inl (search needs), search needs, search needs, inl (search needs), search needs, search needs)
 
 enum-known-p : tie.Need-enum-known-p
 enum-known-p c = search needs

@@ -19,7 +19,7 @@ slice-aggregate-read-tree-4 : tie.Need-slice-aggregate-read-tree-4
 slice-aggregate-read-tree-4 c = search needs
 
 read-tree-requires : tie.Need-read-tree-requires
-read-tree-requires c κs = let s = c .before .before .before .before .before .before .before in ((omega arith, omega (arith, s .pre .0), refl), (omega arith, s .pre .1, s .pre .2, s .pre .3))
+read-tree-requires c κs = let s = c .before .before .before .before .before .before .before in ((omega arith, omega (arith, s .pre .0), refl), (omega arith, s .pre .1, s .pre .2))
 
 same-length : tie.Need-same-length
 same-length c = search needs

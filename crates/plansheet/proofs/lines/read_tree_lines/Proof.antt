@@ -78,7 +78,7 @@ copy-values-requires c κs = omega (arith, part (c .before .before .before), c .
 read-plan-tree-requires : tie.Need-read-plan-tree-requires
 read-plan-tree-requires c κs =
     let s = c .before .before .before .before .before .before .before .before .before .before .before .before .before .before .before .before in
-    (omega (arith, s .pre .0, c .before .before .before .before .before .before .before .before .before .before .before .before .settings-line .kept .1 .1 .0), s .pre .2, next (c .before .before .before .before .before .before .before .before) .1, omega (arith, next (c .before .before .before .before .before .before .before .before)))
+    (omega (arith, s .pre .0, c .before .before .before .before .before .before .before .before .before .before .before .before .settings-line .kept .1 .1 .0), next (c .before .before .before .before .before .before .before .before) .1, omega (arith, next (c .before .before .before .before .before .before .before .before)))
 
 same-length-2 : tie.Need-same-length-2
 same-length-2 c = search needs

@@ -26,7 +26,7 @@ returns : tie.Need-returns
 returns c =
     let s = c .before .before .before in
     let a = s .args in (
-      (λ st t g e r. sym (rooms-crowded t g (a .rows .now) (a .facts .now) (a .xs .now) (a .masks .now) (a .worked) (a .children) (a .n) r (s .pre .0 .0) (s .pre .0 .1) (c .if1 .taken) st)),
+      (λ st t g e r. sym (rooms-crowded t g (a .rows .now) (a .facts .now) (a .xs .now) (a .masks .now) (a .worked) (a .children) (a .n) r (s .pre .0 .0) (s .pre .0 .1 (c .if1 .taken)) (c .if1 .taken) st)),
       (λ z. absurd (fits-room z)),
     )
 

@@ -2,7 +2,7 @@
 -- Assumes nothing.
 use mathlib.Core.Path.{_≡_, sym, ap, _∙_}
 use mathlib.Core.List.{List, _++_}
-use Prim.Native.Nat.{ℕ, _+_, _≤_}
+use Prim.Native.Nat.{ℕ, _+_, _*_, _≤_}
 use native.Mathlib.Omega.{arith}
 use borrow.Author.Needs.{needs}
 use lib.ListN.{length, drop}
@@ -15,6 +15,7 @@ use Rattle.sheet.specs.KeySheets.{Reading, sheet}
 use Rattle.plansheet.specs.PlanSheets.{FactLines, settingsOf, childCount, readFacts, withFacts}
 use Rattle.plansheet.specs.PlanRooms.{PlanRooms, planBy, factsRefused}
 use Rattle.plansheet.proofs.PlanFitted.{WorkedRooms, worked-rooms}
+use Rattle.plansheet.proofs.RunBytes.{facts-few, fact-room}
 use Rattle.plansheet.proofs.PlanWhole.{FactsRead, facts-read, facts-turned, rooms-filled, plan-held, judged-is, after-turned}
 use borrow.Author.Needs.{needs}
 use Rattle.plansheet.proofs.plan.read_after_tree.Statement.{statement}
@@ -62,6 +63,13 @@ facts-are :
 facts-are c t rest h =
     let a = c .before .before .before .before .before .before .before .before .before .before .before .before .before .before .before .before .before .before .before .before .before .before .before .args in
     ap (λ (k : ℕ). readFacts k (a .line) (a .at) (parts 10 (drop (a .at) (a .s .now)))) (sym (many (c .before .before .before .before .before .before .before .before .before .before .before .before .before .before .before .before) t rest h)) ∙ lines c .is
+
+-- no more X rows than the sheet's bytes can be
+bytes : (c : tie.After-known-told) → 28 * c .before .f .given .0 .0 ≤ length (c .before .before .before .before .before .before .before .before .before .before .before .before .before .before .before .before .before .before .before .before .before .before .before .args .s .now) + 1
+bytes c =
+    let a = c .before .before .before .before .before .before .before .before .before .before .before .before .before .before .before .before .before .before .before .before .before .before .before .args in
+    let g = lines c in
+    omega (arith, g .counted, facts-few _ (g .lines) (a .line) (a .at) (a .s .now) (g .is))
 
 remove-dist-changing-operators-requires : tie.Need-remove-dist-changing-operators-requires
 remove-dist-changing-operators-requires c κs = search needs
@@ -112,7 +120,7 @@ judge-plan-requires c κs =
     let d = c .before .before .before .before in
     let t = s .pre .1 in
     let k = c .before .before .before .before .before .before .before .before .before .before .before .before .before .before .read-fact-lines .kept in (
-      (s .pre .0 .1, omega (arith, s .pre .0 .3, k .1 .1 .1 .1 .1 .1 .0), omega (arith, s .pre .0 .4, k .1 .1 .1 .1 .1 .1 .1 .0), omega (arith, s .pre .0 .5, k .1 .1 .1 .1 .1 .1 .1 .1 .0), s .pre .0 .6),
+      (s .pre .0 .1, omega (arith, s .pre .0 .3, k .1 .1 .1 .1 .1 .1 .0), (λ z. let q = fact-room (length (s .args .s .now)) (length (s .args .xs .now)) _ (s .pre .0 .4) (bytes d) (omega (arith, k .1 .1 .1 .1 .1 .1 .1 .0)) in omega (arith, k .1 .1 .1 .1 .1 .1 .1 .0)), omega (arith, s .pre .0 .5, k .1 .1 .1 .1 .1 .1 .1 .1 .0), s .pre .0 .6),
       record { plan = t .tree; lines = lines d .lines; rooms = rooms d (t .tree) (t .rest) (t .stands) },
     )
 

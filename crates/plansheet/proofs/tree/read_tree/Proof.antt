@@ -88,7 +88,7 @@ row-is : (c : tie.After-operator-row Inv-loop μ-loop) → c .operator-row .resu
 row-is c = c .operator-row .ensures ∙ ap (fieldsRow (c .before .before .before .before .before .before .before .before .before .before .loop .n + 1)) (rows-are (c .before .before .before)) ∙ fields-row (c .before .before .before .before .before .before .before .before .before .before .loop .n + 1) (took (c .before .before .before) .fs)
 
 loop-holds : tie.Need-loop-holds Inv-loop μ-loop
-loop-holds c = (head-first (operatorRows 1) _ operators-made (K (c .before .before .before)) _ _ _ _ _ (c .before .before .before .pre .1 .2) (c .before .before .before .pre .1 .3), omega arith, omega arith, refl)
+loop-holds c = (head-first (operatorRows 1) _ operators-made (K (c .before .before .before)) _ _ _ _ _ (c .before .before .before .pre .1 .1) (c .before .before .before .pre .1 .2), omega arith, omega arith, refl)
 
 tree-line-requires : tie.Need-tree-line-requires Inv-loop μ-loop
 tree-line-requires c κs = let s = c .before .before .before .before .before .before in (s .pre .0 .0, omega (arith, s .pre .0 .1, c .before .before .loop .inv .3), s .pre .0 .2)
@@ -131,11 +131,8 @@ add-operator-row c = omega (arith, room (c .before .before), c .before .before .
 operator-row-requires : tie.Need-operator-row-requires Inv-loop μ-loop
 operator-row-requires c κs = rw (ap length (rows-are (c .before .before)) ∙ length-map (took (c .before .before) .fs) row) (omega (arith, room (c .before .before), took (c .before .before) .counts))
 
-mul-t26 : tie.Need-mul-t26 Inv-loop μ-loop
-mul-t26 c = search needs
-
-slice-set-from-rows : tie.Need-slice-set-from-rows Inv-loop μ-loop
-slice-set-from-rows c = omega (arith, room (c .before .before .before), c .before .before .before .before .before .before .before .before .before .before .before .before .before .before .pre .1, head-long (operatorRows 1) _ operators-made (K (c .before .before .before .before .before .before .before .before .before .before .before .before .before .before)) _ _ _ _ _ _ _ _ (c .before .before .before .before .before .before .before .before .before .before .loop .inv .0))
+put-row-requires : tie.Need-put-row-requires Inv-loop μ-loop
+put-row-requires c κs = search needs
 
 sub-owed : tie.Need-sub-owed Inv-loop μ-loop
 sub-owed c = search needs
@@ -144,25 +141,25 @@ array-read-owed : tie.Need-array-read-owed Inv-loop μ-loop
 array-read-owed c = search needs
 
 add-owed : tie.Need-add-owed Inv-loop μ-loop
-add-owed c = omega (arith, room (c .before .before .before), c .before .before .before .before .before .before .before .before .before .before .before .before .before .before .pre .1, ap (λ (x : List ℕ). getD x 10 0) (row-is c), c .before .before .before .before .before .before .before .before .before .before .loop .inv .2)
+add-owed c = omega (arith, room (c .before .before .before .before .before .before), c .before .before .before .before .before .before .before .before .before .before .before .before .before .before .before .before .before .pre .1, ap (λ (x : List ℕ). getD x 10 0) (row-is (c .before .before .before)), c .before .before .before .before .before .before .before .before .before .before .before .before .before .loop .inv .2)
 
 add-n : tie.Need-add-n Inv-loop μ-loop
-add-n c = omega (arith, room (c .before .before .before), c .before .before .before .before .before .before .before .before .before .before .before .before .before .before .pre .1)
+add-n c = omega (arith, room (c .before .before .before .before .before .before), c .before .before .before .before .before .before .before .before .before .before .before .before .before .before .before .before .before .pre .1)
 
 add-l : tie.Need-add-l Inv-loop μ-loop
-add-l c = omega (arith, room (c .before .before .before), c .before .before .before .before .before .before .before .before .before .before .loop .inv .0 .lines)
+add-l c = omega (arith, room (c .before .before .before .before .before .before), c .before .before .before .before .before .before .before .before .before .before .before .before .before .loop .inv .0 .lines)
 
 loop-less : tie.Need-loop-less Inv-loop μ-loop
-loop-less c = omega (arith, room (c .before .before .before))
+loop-less c = omega (arith, room (c .before .before .before .before .before .before))
 
 loop-again : tie.Need-loop-again Inv-loop μ-loop
 loop-again c =
-    let s = c .before .before .before .before .before .before .before .before .before .before .before .before .before .before in
-    let l = c .before .before .before .before .before .before .before .before .before .before .loop in (
-      head-more (operatorRows 1) _ operators-made (K s) _ _ _ _ _ _ _ _ (l .inv .0) _ _ (took (c .before .before .before)) (ne-eqb _ _ (c .before .before .before .before .before .before .before .before .before .loop-test .taken)) _ (ap (set (l .rows) (l .n)) (row-is c)) _ (ap (λ (x : List ℕ). l .owed - 1 + getD x 10 0) (row-is c)),
-      omega (arith, room (c .before .before .before)),
-      omega (arith, room (c .before .before .before), ap (λ (x : List ℕ). getD x 10 0) (row-is c), l .inv .2),
-      omega (arith, l .inv .3, c .before .before .before .before .before .before .before .tree-line .kept .1 .1 .1 .1 .1 .1 .1 .1 .1 .0),
+    let s = c .before .before .before .before .before .before .before .before .before .before .before .before .before .before .before .before .before in
+    let l = c .before .before .before .before .before .before .before .before .before .before .before .before .before .loop in (
+      head-more (operatorRows 1) _ operators-made (K s) _ _ _ _ _ _ _ _ (l .inv .0) _ _ (took (c .before .before .before .before .before .before)) (ne-eqb _ _ (c .before .before .before .before .before .before .before .before .before .before .before .before .loop-test .taken)) _ (c .before .put-row .ensures ∙ ap (set (l .rows) (l .n)) (row-is (c .before .before .before))) _ (ap (λ (x : List ℕ). l .owed - 1 + getD x 10 0) (row-is (c .before .before .before))),
+      omega (arith, room (c .before .before .before .before .before .before)),
+      omega (arith, room (c .before .before .before .before .before .before), ap (λ (x : List ℕ). getD x 10 0) (row-is (c .before .before .before)), l .inv .2),
+      omega (arith, l .inv .3, c .before .before .before .before .before .before .before .before .before .before .tree-line .kept .1 .1 .1 .1 .1 .1 .1 .1 .1 .0),
     )
 
 same-length-3 : tie.Need-same-length-3 Inv-loop μ-loop
@@ -193,8 +190,7 @@ read-tree-spec =
     part-operator-row-end
     add-operator-row
     operator-row-requires
-    mul-t26
-    slice-set-from-rows
+    put-row-requires
     sub-owed
     array-read-owed
     add-owed

@@ -1,5 +1,6 @@
--- `lochkave_ensure_distribution` meets its contract: a refusal, or the decision on the sheet that is held.
+-- `distribute_long` meets its contract: a refusal, or the decision on the sheet that is held.
 -- Assumes nothing.
+use mathlib.Core.Logic.{inl}
 use native.Mathlib.Omega.{arith}
 use Rattle.plansheet.specs.PlanSheets.{readPlan}
 use Rattle.plananswer.specs.PlanDecision.{planDecision}
@@ -7,8 +8,8 @@ use Rattle.lochkave.proofs.PlanBounded.{plan-turned-few}
 use Rattle.lochkave.proofs.Entries.{leaves-refused}
 use Rattle.lochkave.proofs.PlanEntries.{plan-was-turned, plan-was-held, plan-turned, plan-held, room-holds, room-held}
 use borrow.Author.Needs.{needs}
-use Rattle.lochkave.proofs.lochkave_ensure_distribution.Statement.{statement}
-use Rattle.lochkave.proofs.lochkave_ensure_distribution.Tie as tie
+use Rattle.lochkave.proofs.distribution.distribute_long.Statement.{statement}
+use Rattle.lochkave.proofs.distribution.distribute_long.Tie as tie
 
 slice-aggregate-read-plan : tie.Need-slice-aggregate-read-plan
 slice-aggregate-read-plan c = search needs
@@ -35,7 +36,7 @@ slice-aggregate-read-plan-8 : tie.Need-slice-aggregate-read-plan-8
 slice-aggregate-read-plan-8 c = search needs
 
 read-plan-requires : tie.Need-read-plan-requires
-read-plan-requires c κs = search needs
+read-plan-requires c κs = (search needs, search needs, inl (search needs), search needs, search needs, inl (search needs), search needs, search needs)
 
 enum-known-p : tie.Need-enum-known-p
 enum-known-p c = search needs
@@ -88,8 +89,8 @@ returns-2 c =
     let w = plan-was-held (readPlan (a .sheet .now)) (q .result) _ _ _ _ _ (q .ensures .0) (c .before .before .before .before .before .before .before .before .before .before .before .p2 .given .1) in
     rw (plan-held (a .sheet .now) (w .x) (w .is)) (c .before .before .before .answer-held .ensures (w .x) (room-holds (a .sheet .now) _ _ _ _ w _ _ _ _ _ _ (q .ensures .1)))
 
-pub lochkave-ensure-distribution-spec : {M : Type 1} → statement M
-lochkave-ensure-distribution-spec =
+pub distribute-long-spec : {M : Type 1} → statement M
+distribute-long-spec =
     tie.close
     (tie.spec
     slice-aggregate-read-plan
