@@ -16,8 +16,7 @@ use Rattle.exchange.specs.ReplaceRows.{exchanges}
 use Rattle.exchange.specs.Children.{anyUnspecified}
 use Rattle.exchange.specs.Update.{isUnspecified, marksBelow, marksChild}
 use Rattle.exchange.proofs.Stored.{past, first-at}
-use Rattle.exchange.proofs.TreeRows.{flatten-node, flattens-cons, row-operator, row-children, tree-in, tree-long}
-use Rattle.exchange.proofs.Replacing.{tracked-read}
+use Rattle.exchange.proofs.TreeRows.{flatten-node, flattens-cons, row-operator, row-children, tree-in, tree-long, tracked-read}
 
 -- ---- what stands, and what is read of it
 

@@ -6,7 +6,8 @@ use mathlib.Core.List.{List, [], _∷_, _++_, append-assoc, append-nil}
 use Prim.Native.Nat.{ℕ, _+_, _-_, _≤_}
 use native.Mathlib.Omega.{arith}
 use lib.ListN.{length, drop, getD, length-append}
-use Rattle.exchange.specs.Trees.{node, none, _∷ᶠ_, _++ᶠ_, trees, Operator, Plan, Plans}
+use Rattle.exchange.specs.declared.row.Node.{Node}
+use Rattle.exchange.specs.Trees.{node, none, _∷ᶠ_, _++ᶠ_, trees, root, Operator, Plan, Plans}
 use Rattle.exchange.specs.Rows.{packed, unpacked, childrenOf, childrenAt, limitMark, limitNumber, limitOf, nodeOf, operatorOf, rowOf, flatten, flattens}
 use Rattle.exchange.proofs.Stored.{past, within, first-at}
 
@@ -95,3 +96,9 @@ next src a (node o cs ∷ᶠ ts) rest more h =
       row = first-row o cs ts ∙ ap (λ (x : List ℕ). x ∷ flattens (cs ++ᶠ ts)) (sym r);
       stands = past src (rowOf o (trees cs) ∷ []) _ a e;
     }
+
+-- the mark of the tree that stands at a place
+pub tracked-read : (src : List (List ℕ)) (at : ℕ) (t : Plan) (rest : List (List ℕ)) → drop at src ≡ flatten t ++ rest → getD (getD src at []) 8 0 ≡ root t .tracked
+tracked-read src at (node o ts) rest h =
+    let r : getD src at [] ≡ rowOf o (trees ts) = first-at src _ at [] (h ∙ ap (λ (l : List (List ℕ)). l ++ rest) (flatten-node o ts)) in
+    ap (λ (x : List ℕ). getD x 8 0) r ∙ ap (λ (n : Node). n .tracked) (row-node o (trees ts))

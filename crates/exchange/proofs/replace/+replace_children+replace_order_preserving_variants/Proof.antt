@@ -1,6 +1,6 @@
 -- The proof of the cycle of calls of `replace_order_preserving_variants` (`tree`) and `replace_children` (`list`). Each one's measure is what is left of
 -- the rows, twice: the list function at a place calls the node function at the same place, so it has one more.
--- What each gives is put together by `node-wrote` and `forest-wrote`. Assumes nothing.
+-- What each gives is put together by `node-wrote` and `many-wrote`. Assumes nothing.
 use mathlib.Core.Path.{_∙_}
 use Prim.Native.Nat.{ℕ, _+_, _-_, _<_}
 use native.Mathlib.Omega.{arith}
@@ -11,7 +11,8 @@ use Rattle.exchange.specs.Replace.{replaceOrderPreservingVariants, repla
 use Rattle.exchange.specs.ReplaceRows.{heads}
 use Rattle.exchange.proofs.Headed
 use Rattle.exchange.proofs.Replaced.{rows-replace}
-use Rattle.exchange.proofs.Replacing
+use Rattle.exchange.proofs.FirstAndOthers.{first-row, first-ready, first-falls, others-ready, many-wrote}
+use Rattle.exchange.proofs.Replacing.{stays-first, replaced-first, none-wrote}
 use Rattle.exchange.proofs.replace.replace_children.Reads as list
 use Rattle.exchange.proofs.replace.replace_children.Kinds as list-kinds
 use Rattle.exchange.proofs.replace.+replace_children+replace_order_preserving_variants.Lts-replace_children as list-lts
@@ -57,20 +58,20 @@ module _ (t : ℕ) where
   -- ---- the list function
 
   list-returns : list-lts.Need-returns list-calls list-at list.Post
-  list-returns c = Replacing.none-wrote _ _ _ _ _ (c .if1 .taken)
+  list-returns c = none-wrote _ _ _ _ _ (c .if1 .taken)
 
   list-mul-if2 : list-lts.Need-mul-if2 list-calls list-at list.Post
-  list-mul-if2 c = omega (arith, Replacing.readys-row _ _ _ _ _ (c .if1 .left) (c .before .pre .1))
+  list-mul-if2 c = omega (arith, first-row replaceTracked _ _ _ _ _ (c .if1 .left) (c .before .pre .1))
 
   list-index-1-if2 : list-lts.Need-index-1-if2 list-calls list-at list.Post
-  list-index-1-if2 c = omega (arith, Replacing.readys-row _ _ _ _ _ (c .if1 .left) (c .before .pre .1))
+  list-index-1-if2 c = omega (arith, first-row replaceTracked _ _ _ _ _ (c .if1 .left) (c .before .pre .1))
 
   list-index-2-if2 : list-lts.Need-index-2-if2 list-calls list-at list.Post
   list-index-2-if2 c = omega arith
 
   list-copy-tree-requires : list-lts.Need-copy-tree-requires list-calls list-at list.Post
   list-copy-tree-requires c κs =
-      Replacing.readys-one _ _ _ _ _ (c .before .before .before .if1 .left) (c .before .before .before .before .pre .1) (λ u. u) (λ ts rest f. f .same (c .before .if2 .taken))
+      first-ready (λ u. u) replaceTracked replaceTracked _ _ _ (c .before .before .before .if1 .left) (stays-first (c .before .before .before .before .args .src .now) (c .before .before .before .before .args .at) (c .before .if2 .taken)) _ _ (c .before .before .before .before .pre .1)
 
   list-sub-replace-children : list-lts.Need-sub-replace-children list-calls list-at list.Post
   list-sub-replace-children c = omega arith
@@ -79,14 +80,14 @@ module _ (t : ℕ) where
   list-replace-children-requires c κs =
       let s = c .before .before .before .before .before .before .before in
       let m = c .before .before .copy-tree in (
-        omega (arith, s .pre .0, Replacing.readys-falls _ _ _ _ _ (c .before .before .before .before .before .before .if1 .left) (s .pre .1) (λ u. u) (λ ts rest f. f .same (c .before .before .before .before .if2 .taken)) _ _ _ (m .ensures)),
-        rw (m .kept .1 .1 .0) (Replacing.readys-others _ _ _ _ _ (c .before .before .before .before .before .before .if1 .left) (s .pre .1) (λ u. u) (λ ts rest f. f .same (c .before .before .before .before .if2 .taken)) _ _ _ (m .ensures)),
+        omega (arith, s .pre .0, first-falls (λ u. u) replaceTracked replaceTracked _ _ _ (c .before .before .before .before .before .before .if1 .left) (stays-first (s .args .src .now) (s .args .at) (c .before .before .before .before .if2 .taken)) _ _ _ _ (m .ensures) _ (s .pre .1)),
+        rw (m .kept .1 .1 .0) (others-ready (λ u. u) replaceTracked replaceTracked _ _ _ (c .before .before .before .before .before .before .if1 .left) (stays-first (s .args .src .now) (s .args .at) (c .before .before .before .before .if2 .taken)) _ _ _ _ (m .ensures) _ (s .pre .1)),
       )
 
   list-tree-requires : list-lts.Need-replace-order-preserving-variants-requires list-calls list-at list.Post
   list-tree-requires c κs =
       let s = c .before .before .before .before in
-      (omega (arith, s .pre .0), Replacing.readys-one _ _ _ _ _ (c .before .before .before .if1 .left) (s .pre .1) replaceOrderPreservingVariants (λ ts rest f. f .other (c .before .if2 .left)))
+      (omega (arith, s .pre .0), first-ready replaceOrderPreservingVariants replaceTracked replaceTracked _ _ _ (c .before .before .before .if1 .left) (replaced-first (s .args .src .now) (s .args .at) (c .before .if2 .left)) _ _ (s .pre .1))
 
   list-sub-replace-children-2 : list-lts.Need-sub-replace-children-2 list-calls list-at list.Post
   list-sub-replace-children-2 c = omega arith
@@ -95,8 +96,8 @@ module _ (t : ℕ) where
   list-replace-children-requires-2 c κs =
       let s = c .before .before .before .before .before .before .before in
       let m = c .before .before .replace-order-preserving-variants in (
-        omega (arith, s .pre .0, Replacing.readys-falls _ _ _ _ _ (c .before .before .before .before .before .before .if1 .left) (s .pre .1) replaceOrderPreservingVariants (λ ts rest f. f .other (c .before .before .before .before .if2 .left)) _ _ _ (m .ensures)),
-        rw (m .kept .1 .1 .0) (Replacing.readys-others _ _ _ _ _ (c .before .before .before .before .before .before .if1 .left) (s .pre .1) replaceOrderPreservingVariants (λ ts rest f. f .other (c .before .before .before .before .if2 .left)) _ _ _ (m .ensures)),
+        omega (arith, s .pre .0, first-falls replaceOrderPreservingVariants replaceTracked replaceTracked _ _ _ (c .before .before .before .before .before .before .if1 .left) (replaced-first (s .args .src .now) (s .args .at) (c .before .before .before .before .if2 .left)) _ _ _ _ (m .ensures) _ (s .pre .1)),
+        rw (m .kept .1 .1 .0) (others-ready replaceOrderPreservingVariants replaceTracked replaceTracked _ _ _ (c .before .before .before .before .before .before .if1 .left) (replaced-first (s .args .src .now) (s .args .at) (c .before .before .before .before .if2 .left)) _ _ _ _ (m .ensures) _ (s .pre .1)),
       )
 
   list-same-length : list-lts.Need-same-length list-calls list-at list.Post
@@ -104,14 +105,14 @@ module _ (t : ℕ) where
 
   list-returns-2 : list-lts.Need-returns-2 list-calls list-at list.Post
   list-returns-2 c =
-      Replacing.forest-wrote _ _ _ _ _ _ _ _ _ (c .before .before .before .before .before .before .before .before .if1 .left) (λ u. u) (λ ts rest f. f .same (c .before .before .before .before .before .before .if2 .taken)) (c .before .before .before .before .copy-tree .ensures) (c .before .replace-children .ensures)
+      many-wrote (λ u. u) replaceTracked replaceTracked _ _ _ (c .before .before .before .before .before .before .before .before .if1 .left) (stays-first (c .before .before .before .before .before .before .before .before .before .args .src .now) (c .before .before .before .before .before .before .before .before .before .args .at) (c .before .before .before .before .before .before .if2 .taken)) _ _ _ _ (c .before .before .before .before .copy-tree .ensures) _ _ (c .before .replace-children .ensures)
 
   list-same-length-2 : list-lts.Need-same-length-2 list-calls list-at list.Post
   list-same-length-2 c = c .before .replace-children2 .kept .1 .1 .1 .0 ∙ c .before .before .before .before .replace-order-preserving-variants .kept .1 .1 .0
 
   list-returns-3 : list-lts.Need-returns-3 list-calls list-at list.Post
   list-returns-3 c =
-      Replacing.forest-wrote _ _ _ _ _ _ _ _ _ (c .before .before .before .before .before .before .before .before .if1 .left) replaceOrderPreservingVariants (λ ts rest f. f .other (c .before .before .before .before .before .before .if2 .left)) (c .before .before .before .before .replace-order-preserving-variants .ensures) (c .before .replace-children2 .ensures)
+      many-wrote replaceOrderPreservingVariants replaceTracked replaceTracked _ _ _ (c .before .before .before .before .before .before .before .before .if1 .left) (replaced-first (c .before .before .before .before .before .before .before .before .before .args .src .now) (c .before .before .before .before .before .before .before .before .before .args .at) (c .before .before .before .before .before .before .if2 .left)) _ _ _ _ (c .before .before .before .before .replace-order-preserving-variants .ensures) _ _ (c .before .replace-children2 .ensures)
 
   -- ---- the node function
 
