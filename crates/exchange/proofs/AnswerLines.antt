@@ -8,6 +8,7 @@ use lib.Dec.{eqb, ltb}
 use lib.ListN.{length, length-append}
 use native.Mathlib.Omega.{arith}
 use borrow.Author.Tests.{not-true, eqb-false}
+use Rattle.keys.proofs.Truths.{and-first}
 use Rattle.exchange.specs.Trees.{node, none, _∷ᶠ_, root, trees, Operator, Plan, Plans}
 use Rattle.exchange.specs.declared.settings.Settings.{Settings}
 use Rattle.exchange.specs.Settings.{isSet}
@@ -28,7 +29,6 @@ use Rattle.exchange.specs.Partitioning.{workedOf}
 use Rattle.exchange.proofs.Passing.{Holds, holds-then, holds-cond, Alls, Steps, Relates}
 use Rattle.exchange.proofs.Answered.{Finished, Came, leaf, worked, came-always}
 use Rattle.exchange.proofs.OperatorsKept.{of-answer}
-use Rattle.exchange.proofs.RowsFit.{and-first}
 use Rattle.exchange.proofs.Weights.{weight, mark-one, weight-twice, weight-split, lines-handled}
 
 -- what was put on a child, at most: one operator by its step, one by a round

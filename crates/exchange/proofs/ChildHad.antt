@@ -8,6 +8,7 @@ use mathlib.Core.Option.{Option, some, none as nothing}
 use mathlib.Core.List.{List}
 use lib.Dec.{eqb, leb, ltb}
 use borrow.Author.Tests.{ltb-false, le-leb, eqb-true, not-false}
+use Rattle.keys.proofs.Truths.{true-false, and-first, and-second}
 use Rattle.exchange.specs.Trees.{node, root, Operator, Plan}
 use Rattle.exchange.specs.declared.settings.Settings.{Settings}
 use Rattle.exchange.specs.Settings.{isSet}
@@ -22,7 +23,7 @@ use Rattle.exchange.specs.Fit.{rowsFit}
 use Rattle.exchange.specs.Skeleton.{isAddedSort}
 use Rattle.exchange.specs.Partitioning.{isNewKeyed, isHad, isSplit}
 use Rattle.exchange.proofs.Passing.{Holds, holds-then, holds-cond}
-use Rattle.exchange.proofs.RowsFit.{never, and-first, and-second, merge-one}
+use Rattle.exchange.proofs.RowsFit.{merge-one}
 
 or-false : (a b : Bool) → (a || b) ≡ false → (a ≡ false) × (b ≡ false)
 or-false false b e = (refl, e)
@@ -220,10 +221,10 @@ module _ (s : Settings) (w : Operator) (b : NodeFacts) (rows : List Row) where
         unasked : (ltb 1 (countOf c) ≡ false) → aligned ≡ false
             → (root (d .plan) .count ≡ countOf c) ⊎ ((isSet (c .facts .gains) && rowsGain s (c .facts)) ≡ true) → Goal
         unasked one none (inl q) = by-count (few (root (d .plan) .count) (rw q one))
-        unasked one none (inr g) = absurd (never (sym none ∙ asks (rw (keyed, g) (or-true (ltb 1 (countOf c))))))
+        unasked one none (inr g) = absurd (true-false (asks (rw (keyed, g) (or-true (ltb 1 (countOf c))))) none)
 
         split-necessary : (isKeyed (needOf c) ≡ false) ⊎ ((ltb 1 (countOf c) || aligned) ≡ false) → Goal
-        split-necessary (inl q) = absurd (never (sym q ∙ keyed))
+        split-necessary (inl q) = absurd (true-false keyed q)
         split-necessary (inr q) = unasked (or-false (ltb 1 (countOf c)) aligned q .0) (or-false (ltb 1 (countOf c)) aligned q .1) (h .counted)
 
         why : ((isKeyed (needOf c) && (ltb 1 (countOf c) || aligned)) ≡ false) ⊎ (needsHashRepartition s w (statusOf s aligned c) d ≡ false) → Goal

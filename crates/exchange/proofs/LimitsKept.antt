@@ -6,6 +6,7 @@ use mathlib.Core.Option.{Option, some, none as nothing}
 use mathlib.Core.List.{[], _++_, append-nil}
 use lib.Dec.{eqb, leb}
 use native.Mathlib.Omega.{arith}
+use Rattle.keys.proofs.Truths.{true-false}
 use Rattle.exchange.specs.Trees.{node, none, _∷ᶠ_, root, Operator, Plan, Plans}
 use Rattle.exchange.specs.declared.settings.Settings.{Settings}
 use Rattle.exchange.specs.Facts.{NodeFacts, Row}
@@ -46,10 +47,7 @@ own-owned o ts h = go (o .limit) refl
         named = h (ap isPresent e)
 
 owns-none : (o : Operator) → o .limit ≡ nothing → OwnsLimit o
-owns-none o e h = absurd (never (sym (ap isPresent e) ∙ h))
-  where
-    never : false ≡ true → ⊥
-    never p = let z : _≡_ {A = ℕ} 0 1 = cc in omega arith
+owns-none o e h = absurd (true-false h (ap isPresent e))
 
 limits-above : (o : Operator) (t : Plan) → ownLimit o (t ∷ᶠ none) ≡ [] → limits (above o t) ≡ limits t
 unfolding limits
@@ -143,10 +141,7 @@ removed-limit o e = go (o .limit) refl
   where
     go : (l : Option ℕ) → o .limit ≡ l → o .limit ≡ nothing
     go nothing q = q
-    go (some l) q = absurd (never (sym (ap (λ x. not (isPresent x) && (leb 1 (o .kind) && leb (o .kind) 4)) q) ∙ e))
-      where
-        never : false ≡ true → ⊥
-        never p = let z : _≡_ {A = ℕ} 0 1 = cc in omega arith
+    go (some l) q = absurd (true-false e (ap (λ x. not (isPresent x) && (leb 1 (o .kind) && leb (o .kind) 4)) q))
 
 -- nothing that is taken off above the worked node has a limit
 mutual

@@ -7,6 +7,7 @@ use mathlib.Core.List.{List, [], _∷_, _++_}
 use lib.ListN.{length}
 use native.Mathlib.Omega.{arith}
 use borrow.Author.Tests.{eqb-true}
+use Rattle.keys.proofs.Truths.{true-false, and-first}
 use Rattle.exchange.specs.Trees.{node, none, _∷ᶠ_, root, Operator, Plan, Plans}
 use Rattle.exchange.specs.declared.settings.Settings.{Settings}
 use Rattle.exchange.specs.Facts.{ChildFacts, Facts}
@@ -17,7 +18,6 @@ use Rattle.exchange.specs.Ensure.{Answer, answered, becomesInterleave, i
 use Rattle.exchange.specs.Skeleton.{below}
 use Rattle.exchange.specs.Limits.{limitOf, ownLimit, limits, limitss, OwnsLimit, Owned, Owneds}
 use Rattle.exchange.proofs.Passing.{Alls}
-use Rattle.exchange.proofs.RowsFit.{and-first}
 use Rattle.exchange.proofs.Growing.{OfPlans, grown-steps, grown-relates}
 use Rattle.exchange.proofs.Answered.{Finished, Came, leaf, worked, came-always}
 use Rattle.exchange.proofs.OperatorsKept.{of-answer}
@@ -138,10 +138,7 @@ module _ (s : Settings) (f : Facts) where
       go : (b : Bool) → limits (node (track 0 w) none) ≡ limits (cond b (node w none) (node w none))
       go true = refl
       go false = refl
-  limits-came (node w (t ∷ᶠ ts)) a o (leaf e h) = absurd (never e)
-    where
-      never : false ≡ true → ⊥
-      never p = let z : _≡_ {A = ℕ} 0 1 = cc in omega arith
+  limits-came (node w (t ∷ᶠ ts)) a o (leaf e h) = absurd (true-false e refl)
 
   pub limits-kept : (t : Plan) (a : Answer) → Owned t → ensured s f t ≡ answered a → limits (a .plan) ≡ limits (removeDistChangingOperators t)
   limits-kept t a o e =

@@ -4,6 +4,7 @@ use mathlib.Core.Bool.{Bool, true, false, cond, not}
 use mathlib.Core.Option.{none as nothing}
 use mathlib.Core.List.{append-nil}
 use native.Mathlib.Omega.{arith}
+use Rattle.keys.proofs.Truths.{and-second}
 use Rattle.exchange.specs.Trees.{node, none, _∷ᶠ_, trees, Operator, Plan, Plans}
 use Rattle.exchange.specs.declared.settings.Settings.{Settings}
 use Rattle.exchange.specs.Facts.{Facts}
@@ -11,7 +12,6 @@ use Rattle.exchange.specs.Operators.{hasLimit}
 use Rattle.exchange.specs.Children.{isRemoved, removeDistChangingOperators, removeAbove}
 use Rattle.exchange.specs.Ensure.{Answer, answered, ensured}
 use Rattle.exchange.specs.Limits.{limits, Owned, isDistChanging, OneBelow, OneBelows}
-use Rattle.exchange.proofs.RowsFit.{and-second}
 use Rattle.exchange.proofs.LimitsKept.{own-none, removed-limit}
 use Rattle.exchange.proofs.LimitsOfAnswers.{limits-kept}
 

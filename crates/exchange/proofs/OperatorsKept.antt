@@ -5,6 +5,7 @@ use mathlib.Core.Bool.{Bool, true, false, cond}
 use mathlib.Core.List.{List, [], _∷_}
 use lib.ListN.{length}
 use native.Mathlib.Omega.{arith}
+use Rattle.keys.proofs.Truths.{true-false}
 use Rattle.exchange.specs.Trees.{node, none, _∷ᶠ_, _++ᶠ_, root, Operator, Plan, Plans}
 use Rattle.exchange.specs.declared.settings.Settings.{Settings}
 use Rattle.exchange.specs.Facts.{ChildFacts, Facts}
@@ -96,10 +97,7 @@ module _ (s : Settings) (f : Facts) where
       go : (b : Bool) → skeletons none ≡ skeletons (below (cond b (node o none) (node o none)))
       go true = refl
       go false = refl
-  skeletons-came (node o (t ∷ᶠ ts)) a (leaf e h) = absurd (never e)
-    where
-      never : false ≡ true → ⊥
-      never p = let z : _≡_ {A = ℕ} 0 1 = cc in omega arith
+  skeletons-came (node o (t ∷ᶠ ts)) a (leaf e h) = absurd (true-false e refl)
 
   pub operators-kept : (t : Plan) (a : Answer) → ensured s f t ≡ answered a → skeletons (below (a .plan)) ≡ skeletons (below (removeDistChangingOperators t))
   operators-kept t a e =

@@ -5,6 +5,7 @@ use mathlib.Core.Bool.{Bool, true, false, cond, not, _||_}
 use mathlib.Core.List.{List, [], _∷_}
 use lib.ListN.{length}
 use borrow.Author.Tests.{not-true}
+use Rattle.keys.proofs.Truths.{true-false, and-first, and-second, or-first, or-second}
 use Rattle.exchange.specs.Trees.{node, root, Operator, Plan}
 use Rattle.exchange.specs.declared.settings.Settings.{Settings}
 use Rattle.exchange.specs.Settings.{isSet}
@@ -23,20 +24,12 @@ use Rattle.exchange.proofs.Passing.{Alls, EachSteps}
 use Rattle.exchange.proofs.Answered.{Came, leaf, worked, came}
 use Rattle.exchange.proofs.OperatorsKept.{of-answer}
 use Rattle.exchange.proofs.Beneath.{Top, topOf, beneath-handled}
-use Rattle.exchange.proofs.RowsFit.{never, and-first, and-second}
 use Rattle.exchange.proofs.ChildHad.{Has, step-has, related-has}
-
-or-first : (a b : Bool) → a ≡ true → (a || b) ≡ true
-or-first a b e = rw e
-
-or-second : (a b : Bool) → b ≡ true → (a || b) ≡ true
-or-second true b e = refl
-or-second false b e = e
 
 -- "not p, or q" is "p gives q"
 implied : (p q : Bool) → (not p || q) ≡ true → p ≡ true → q ≡ true
 implied true q e h = e
-implied false q e h = absurd (never h)
+implied false q e h = absurd (true-false h refl)
 
 -- ---- the steps of all children
 
@@ -86,7 +79,7 @@ whole (node o ts) = refl
 module _ (s : Settings) (f : Facts) where
   had-came : (t : Plan) (a : Answer) → isLeaf (below t) ≡ false → Came s f (Has s (root (workedOf t)) (f .node) (f .rows)) t a → Partitioned s f t a
   unfolding finished
-  had-came t a n (leaf e h) = absurd (never (sym n ∙ e))
+  had-came t a n (leaf e h) = absurd (true-false e n)
   had-came t a n (worked h) = record {
     states = h .states;
     reached = ap (childStates s f) (sym (whole (workedOf t))) ∙ h .reached;

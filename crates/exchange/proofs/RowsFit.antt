@@ -7,24 +7,12 @@ use mathlib.Core.List.{List, [], _∷_}
 use lib.Dec.{eqb, leb}
 use native.Mathlib.Omega.{arith}
 use borrow.Author.Tests.{eqb-true}
+use Rattle.keys.proofs.Truths.{true-false, and-first, and-second}
 use Rattle.exchange.specs.declared.settings.Settings.{Settings}
 use Rattle.exchange.specs.Forms.{Form, formNumber}
 use Rattle.exchange.specs.Facts.{Row, rowOf}
 use Rattle.exchange.specs.States.{Child}
 use Rattle.exchange.specs.Fit.{childNumbered, countFits, rowFitsChild, rowFits, rowsFit, withinBits}
-
-pub never : false ≡ true → ⊥
-never p = let z : _≡_ {A = ℕ} 0 1 = cc in omega arith
-
-pub and-first : (a b : Bool) → (a && b) ≡ true → a ≡ true
-and-first true b e = refl
-and-first false true e = e
-and-first false false e = e
-
-pub and-second : (a b : Bool) → (a && b) ≡ true → b ≡ true
-and-second true b e = e
-and-second false true e = refl
-and-second false false e = e
 
 module _ (s : Settings) (cs : List Child) (n : ℕ) (f : Form) where
   -- the row that is found has that form, and fits
@@ -54,7 +42,7 @@ module _ (s : Settings) (cs : List Child) (n : ℕ) (f : Form) where
 module _ (s : Settings) (cs : List Child) where
   -- form 2, a merge, and form 3, a merge over a split source
   merge-count : (x : Row) (o : Option Child) → rowFitsChild s x o ≡ true → (k : ℕ) → x .form ≡ k → (eqb k 2 ≡ true → x .count ≡ 1) × (eqb k 3 ≡ true → x .count ≡ 1)
-  merge-count x nothing h k e = absurd (never h)
+  merge-count x nothing h k e = absurd (true-false h refl)
   merge-count x (some c) h k e = (two, three)
     where
       fits : countFits s c x ≡ true

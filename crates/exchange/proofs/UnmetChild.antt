@@ -5,6 +5,7 @@ use mathlib.Core.Bool.{true, false}
 use mathlib.Core.Option.{none as nothing}
 use mathlib.Core.List.{List, [], _∷_}
 use lib.ListN.{length}
+use Rattle.keys.proofs.Truths.{true-false}
 use Rattle.exchange.specs.Trees.{root, Plan}
 use Rattle.exchange.specs.declared.settings.Settings.{Settings}
 use Rattle.exchange.specs.Forms.{splitForm}
@@ -21,7 +22,6 @@ use Rattle.exchange.specs.Ensure.{Answer, answered, childStates, handled
 use Rattle.exchange.specs.Fit.{withinBits, allWithinBits, isRepeated, noneRepeated, childNumbered, rowsFit, factsFit}
 use Rattle.exchange.specs.Partitioning.{beneathSorts, splitsGain, noneAdded, workedOf, childrenOf, EachHas, Partitioned}
 use Rattle.exchange.proofs.Cases.{settings, child, row, facts, line, told, leaf}
-use Rattle.exchange.proofs.RowsFit.{never}
 
 abbrev pub s : Settings
 s = settings 4 0 1 8192 0 9 0 0 0
@@ -75,7 +75,7 @@ state = refl
 
 has-not : EachHas s f (root (workedOf t)) 1 (childrenOf f t) (split ∷ []) → ⊥
 unfolding updateEach removeDistChangingOperators childrenFrom handleOrder beneathSorts
-has-not h = never (h .0 .had)
+has-not h = true-false (h .0 .had) refl
 
 pub unmet : Partitioned s f t a → ⊥
 unmet p = go (p .states) (p .reached) (p .each)

@@ -7,6 +7,7 @@ use mathlib.Core.List.{List, [], _∷_, _++_}
 use native.Mathlib.Omega.{arith}
 use lib.Dec.{eqb, ltb}
 use borrow.Author.Tests.{not-true}
+use Rattle.keys.proofs.Truths.{and-first}
 use Rattle.exchange.specs.Trees.{node, root, Operator, Plan}
 use Rattle.exchange.specs.declared.settings.Settings.{Settings}
 use Rattle.exchange.specs.Settings.{isSet}
@@ -19,7 +20,6 @@ use Rattle.exchange.specs.Step.{splitPlan, mergeOn, keyedOn, roundrobinOn, part
 use Rattle.exchange.specs.Relationships.{isGiven, isGivable, alreadyTargetHash, addRelationshipOnTop}
 use Rattle.exchange.specs.Partitioning.{isSplit}
 use Rattle.exchange.proofs.Passing.{Holds, holds-then, holds-cond, EachSteps, Relates}
-use Rattle.exchange.proofs.RowsFit.{and-first}
 use Rattle.guarantee.specs.Partitioning.{newOnTop, newOnFirst}
 
 -- the tops of a form: its relationship exchange, and what is under that

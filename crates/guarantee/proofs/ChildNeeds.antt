@@ -7,6 +7,7 @@ use mathlib.Core.List.{List, [], _∷_, _++_}
 use native.Mathlib.Omega.{arith}
 use lib.Dec.{eqb, leb, ltb}
 use borrow.Author.Tests.{eqb-true, eqb-false}
+use Rattle.keys.proofs.Truths.{true-false}
 use Rattle.exchange.specs.Trees.{root, Operator, Plan}
 use Rattle.exchange.specs.Settings.{isSet}
 use Rattle.exchange.specs.Forms.{Form}
@@ -28,12 +29,6 @@ use Rattle.guarantee.proofs.Remarked.{SameChild}
 pick : (a k x q y z : Bool) → (q ≡ false → y ≡ z) → cond a x (cond k (x || (q || y)) true) ≡ true → cond a x (cond k (x || (q || z)) true) ≡ true
 pick a k x true y z h e = e
 pick a k x false y z h e = ap (λ (v : Bool). cond a x (cond k (x || v) true)) (sym (h refl)) ∙ e
-
-true-not : {A : Type 0} {b : Bool} → b ≡ true → b ≡ false → A
-true-not p q = let z : _≡_ {A = Bool} true false = sym p ∙ q in absurd (never z)
-  where
-    never : true ≡ false → ⊥
-    never e = let z : _≡_ {A = ℕ} 0 1 = cc in omega arith
 
 zero-bit : (n : ℕ) → n ≤ 1 → eqb n 1 ≡ false → n ≡ 0
 zero-bit n h e = let k = eqb-false n 1 e in omega (arith, k)
@@ -67,7 +62,7 @@ module _ (x : PlanSheet) (w : Operator) (m n : ℕ) (marked : w ≡ track m (roo
 
   last-form : isNewKeyed (beneathSorts tree) ≡ false → lastForm x c tree ≡ d .form
   last-form e =
-      let own = topmost-own (d .form) (formed .bit) (λ z. true-not (keyed-topmost tree (ap topmost shown ∙ z)) e) in
+      let own = topmost-own (d .form) (formed .bit) (λ z. true-false (keyed-topmost tree (ap topmost shown ∙ z)) e) in
       let a : mark (isSplit (x .settings) c) ≡ d .form .split = ap mark same-split ∙ sym (formed .split) in
       let b : topmost (newOnTop tree) ≡ d .form .top = ap topmost shown ∙ own .1 in
       let r : 0 ≡ d .form .relationship = sym (own .0) in

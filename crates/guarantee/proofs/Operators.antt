@@ -5,6 +5,7 @@ use mathlib.Core.Bool.{Bool, true, false, cond, _&&_}
 use mathlib.Core.Logic.{inl, inr}
 use native.Mathlib.Omega.{arith}
 use borrow.Author.Tests.{eqb-true}
+use Rattle.keys.proofs.Truths.{and-first}
 use Rattle.exchange.specs.Trees.{node, none, _∷ᶠ_, root, Operator, Plan}
 use Rattle.exchange.specs.Operators.{isUnion, track}
 use Rattle.exchange.specs.Children.{isLeaf, updateChildren, isRemoved, removeDistChangingOperators}
@@ -12,7 +13,6 @@ use Rattle.exchange.specs.Ensure.{Answer, answered, becomesInterleave, interlea
 use Rattle.exchange.specs.Skeleton.{below}
 use Rattle.exchange.specs.Partitioning.{workedOf}
 use Rattle.exchange.proofs.OperatorsKept.{operators-kept}
-use Rattle.exchange.proofs.RowsFit.{and-first}
 use Rattle.plansheet.specs.PlanSheets.{PlanSheet}
 use Rattle.guarantee.specs.Operators.{worked as workedNode, SameKind, OperatorsKept}
 use Rattle.guarantee.proofs.Remarked.{Remarked, remarked}

@@ -5,6 +5,7 @@ use mathlib.Core.Bool.{Bool, true, false, cond, _&&_}
 use mathlib.Core.List.{List, [], _∷_}
 use lib.ListN.{length}
 use native.Mathlib.Omega.{arith}
+use Rattle.keys.proofs.Truths.{and-both}
 use Rattle.exchange.specs.Trees.{node, none, _∷ᶠ_, root, Operator, Plan}
 use Rattle.exchange.specs.Operators.{track}
 use Rattle.exchange.specs.Children.{isLeaf, updateEach, updateChildren, isRemoved, removeDistChangingOperators}
@@ -21,9 +22,6 @@ use Rattle.guarantee.proofs.ChildNeeds.{need-had}
 use Rattle.guarantee.proofs.Remarked as marks
 use Rattle.guarantee.proofs.Remarked.{Remarked, SameChildren, remarked, same-children}
 use Rattle.guarantee.proofs.PlanAnswered.{Answered, only, over}
-
-and-both : (a b : Bool) → a ≡ true → b ≡ true → (a && b) ≡ true
-and-both a b p q = rw (p, q)
 
 module _ (x : PlanSheet) (w : Operator) (m n : ℕ) (marked : w ≡ track m (root (worked x))) where
   each-had : (cs ks : List Child) (ds : List ChildState) → SameChildren cs ks → EachHas (x .settings) (x .facts) w n ks ds

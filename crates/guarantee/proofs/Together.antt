@@ -7,6 +7,7 @@ use lib.ListN.{length}
 use lib.Dec.{eqb}
 use native.Mathlib.Omega.{arith}
 use borrow.Author.Tests.{eqb-true, eq-eqb}
+use Rattle.keys.proofs.Truths.{and-first, and-second}
 use Rattle.exchange.specs.Trees.{node, none, _∷ᶠ_, root, Operator, Plan}
 use Rattle.exchange.specs.Settings.{isSet}
 use Rattle.exchange.specs.Forms.{Form}
@@ -19,7 +20,6 @@ use Rattle.exchange.specs.Fit.{withinBits, allWithinBits, noneRepeated, rowsFit
 use Rattle.exchange.specs.Skeleton.{below}
 use Rattle.exchange.specs.Partitioning.{workedOf, childrenOf}
 use Rattle.exchange.proofs.Passing.{Alls}
-use Rattle.exchange.proofs.RowsFit.{and-first, and-second}
 use Rattle.plansheet.specs.PlanSheets.{PlanSheet}
 use Rattle.guarantee.specs.Partitioning.{newOnTop, topmost}
 use Rattle.guarantee.specs.Together.{Shows, ShowSet, Together}
