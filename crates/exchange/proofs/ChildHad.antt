@@ -1,7 +1,7 @@
 -- After its step a child has what it needs: by one partition, by a new exchange, or by its row. Hashing that is not necessary leaves one partition,
 -- since no keyed child asked for it before the split, and a split child that gains would have.
 use Prim.Native.Nat.{ℕ}
-use mathlib.Core.Path.{_≡_, refl, sym, _∙_}
+use mathlib.Core.Path.{_≡_, refl, _∙_}
 use mathlib.Core.Logic.{_⊎_, inl, inr}
 use mathlib.Core.Bool.{Bool, true, false, cond, not, _&&_, _||_}
 use mathlib.Core.Option.{Option, some, none as nothing}

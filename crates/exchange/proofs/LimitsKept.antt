@@ -5,7 +5,6 @@ use mathlib.Core.Bool.{Bool, true, false, cond, not, _&&_}
 use mathlib.Core.Option.{Option, some, none as nothing}
 use mathlib.Core.List.{[], _++_, append-nil}
 use lib.Dec.{eqb, leb}
-use native.Mathlib.Omega.{arith}
 use Rattle.keys.proofs.Truths.{true-false}
 use Rattle.exchange.specs.Trees.{node, none, _∷ᶠ_, root, Operator, Plan, Plans}
 use Rattle.exchange.specs.declared.settings.Settings.{Settings}

@@ -5,7 +5,6 @@ use mathlib.Core.Path.{_≡_, refl, sym, ap, ap₂, _∙_}
 use mathlib.Core.Bool.{Bool, true, false, cond}
 use mathlib.Core.List.{List, [], _∷_, _++_}
 use lib.ListN.{length}
-use native.Mathlib.Omega.{arith}
 use borrow.Author.Tests.{eqb-true}
 use Rattle.keys.proofs.Truths.{true-false, and-first}
 use Rattle.exchange.specs.Trees.{node, none, _∷ᶠ_, root, Operator, Plan, Plans}

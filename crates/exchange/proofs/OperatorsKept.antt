@@ -4,7 +4,6 @@ use mathlib.Core.Path.{_≡_, refl, ap, ap₂, _∙_}
 use mathlib.Core.Bool.{Bool, true, false, cond}
 use mathlib.Core.List.{List, [], _∷_}
 use lib.ListN.{length}
-use native.Mathlib.Omega.{arith}
 use Rattle.keys.proofs.Truths.{true-false}
 use Rattle.exchange.specs.Trees.{node, none, _∷ᶠ_, _++ᶠ_, root, Operator, Plan, Plans}
 use Rattle.exchange.specs.declared.settings.Settings.{Settings}

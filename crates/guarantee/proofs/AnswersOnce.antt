@@ -9,7 +9,7 @@ use Rattle.text.specs.Write.{lineText}
 use Rattle.keys.specs.Expressions.{Expression}
 use Rattle.keys.specs.Adjust.{KeyAnswer, Projected}
 use Rattle.keys.specs.Inputs.{JoinAnswer}
-use Rattle.sheet.specs.KeyAnswers.{numbersLine, exprsLine, projectedNumbers, childLines, keyAnswerText, joinAnswerText}
+use Rattle.sheet.specs.KeyAnswers.{numbersLine, projectedNumbers, childLines, keyAnswerText, joinAnswerText}
 use Rattle.guarantee.proofs.LinesOnce.{numbersLine-once, exprsLine-once}
 
 projected-once : (ps qs : List Projected) → projectedNumbers ps ≡ projectedNumbers qs → ps ≡ qs

@@ -5,7 +5,6 @@
 --     turned-differs  every sheet turned back
 use Prim.Native.Nat.{ℕ}
 use mathlib.Core.Path.{_≡_, refl, sym, ap, _∙_}
-use mathlib.Core.Bool.{true, false}
 use mathlib.Core.Option.{none as absent}
 use mathlib.Core.List.{List, [], _∷_}
 use native.Mathlib.Omega.{arith}
@@ -17,7 +16,7 @@ use Rattle.text.proofs.Examples.{bytes}
 use Rattle.keys.proofs.Truths.{true-false}
 use Rattle.sheet.specs.Lines.{lineNumber, rowsOf, chain}
 use Rattle.sheet.specs.KeySheets.{sheet}
-use Rattle.sheet.specs.KeyAnswers.{Outcome, refused, wrote}
+use Rattle.sheet.specs.KeyAnswers.{refused, wrote}
 use Rattle.exchange.specs.Rows.{rowOf as packedRow, flatten, grow}
 use Rattle.exchange.specs.Fit.{withinBits, allWithinBits, isRepeated, noneRepeated, childNumbered, rowsFit, factsFit}
 use Rattle.exchange.specs.Facts.{rowOf}
@@ -34,7 +33,7 @@ use Rattle.plananswer.specs.PlanTexts.{planLines, planAnswerText}
 use Rattle.lochkave.specs.Decision.{decision}
 use Rattle.guarantee.specs.Partitioning.{newOnTop, needsHad}
 use Rattle.guarantee.specs.Guarantee.{PlanKept, Guaranteed}
-use Rattle.guarantee.specs.BadPlanners.{copied, treesCopied, stock, turnedBack}
+use Rattle.guarantee.specs.BadPlanners.{treesCopied, stock, turnedBack}
 use Rattle.guarantee.proofs.KeyNeeded.{markedSheet, markedAnswer, marked-decided}
 use Rattle.guarantee.proofs.PlanNeeded.{unmetSheet, unmetAnswer, unmet-decided}
 use Rattle.guarantee.proofs.PlanSpeaks.{plan-says}

@@ -1,16 +1,16 @@
 -- An answer as it is read from its t lines, which have no need: with 0 for every need it has the same text, and keeps what it kept.
 use Prim.Native.Nat.{ℕ, suc, _/_}
-use mathlib.Core.Path.{_≡_, refl, sym, ap, ap₂, _∙_}
+use mathlib.Core.Path.{_≡_, refl, ap, ap₂, _∙_}
 use mathlib.Core.Bool.{Bool, true, false, cond, _&&_, _||_}
-use mathlib.Core.Logic.{_⊎_, inl, inr}
+use mathlib.Core.Logic.{inl, inr}
 use mathlib.Core.Option.{some}
 use mathlib.Core.List.{List, [], _∷_, _++_}
 use lib.Dec.{eqb, leb}
-use Rattle.exchange.specs.Trees.{Forest, node, none, _∷ᶠ_, _++ᶠ_, root, trees, Operator, Plan, Plans}
+use Rattle.exchange.specs.Trees.{node, none, _∷ᶠ_, _++ᶠ_, root, trees, Operator, Plan, Plans}
 use Rattle.exchange.specs.Facts.{rowOf}
 use Rattle.exchange.specs.Operators.{isSingle, isKeyed}
 use Rattle.exchange.specs.States.{Child, needOf}
-use Rattle.exchange.specs.Skeleton.{Core, below, isAddedSort, outline, skeleton, skeletons}
+use Rattle.exchange.specs.Skeleton.{below, isAddedSort, outline, skeleton, skeletons}
 use Rattle.exchange.specs.Partitioning.{isNewKeyed, beneathSorts, beneathFirst}
 use Rattle.exchange.specs.Ensure.{Answer}
 use Rattle.sheet.specs.KeyAnswers.{numbersLine}
@@ -18,9 +18,9 @@ use Rattle.plansheet.specs.PlanSheets.{PlanSheet}
 use Rattle.plananswer.specs.PlanTexts.{operatorLine, planLines, plansLines, planAnswerText}
 use Rattle.plananswer.specs.Sizes.{Everywhere, Everywheres}
 use Rattle.guarantee.specs.Operators.{worked, OperatorsKept}
-use Rattle.guarantee.specs.Limits.{BecameCoalesce, OnItself, OnSort, LimitIn, LimitIns, LimitsKept}
-use Rattle.guarantee.specs.Partitioning.{topCode, newOnTop, newOnFirst, topmost, lastForm, says, singleHad, keyedHad, needHad, needsHad, PartitioningHad}
-use Rattle.guarantee.specs.Together.{Shows, ShowSet, Together}
+use Rattle.guarantee.specs.Limits.{BecameCoalesce, LimitIn, LimitIns, LimitsKept}
+use Rattle.guarantee.specs.Partitioning.{topCode, newOnTop, newOnFirst, topmost, lastForm, says, needHad, needsHad}
+use Rattle.guarantee.specs.Together.{ShowSet}
 use Rattle.guarantee.specs.Guarantee.{PlanKept, NoNeeds}
 
 abbrev bare : Operator → Operator

@@ -17,10 +17,10 @@ use Rattle.exchange.specs.Operators.{isSingle, isKeyed, mark, hasOrder}
 use Rattle.exchange.specs.States.{Child, ChildState, withForm, pass, startedBy, started, andThen}
 use Rattle.exchange.specs.Status.{rowsGain, statusOf}
 use Rattle.exchange.specs.Step.{splitPlan, mergeOn, keyedOn, roundrobinOn, partitions, addMergeOnTop, addRoundrobin, splitAtSource, needsHashRepartition, satisfyDistribution, ensureChild}
-use Rattle.exchange.specs.Relationships.{isGiven, isGivable, alreadyTargetHash, addRelationshipOnTop}
+use Rattle.exchange.specs.Relationships.{isGiven, alreadyTargetHash}
 use Rattle.exchange.specs.Partitioning.{isSplit}
 use Rattle.exchange.proofs.Passing.{Holds, holds-then, holds-cond, EachSteps, Relates}
-use Rattle.guarantee.specs.Partitioning.{newOnTop, newOnFirst}
+use Rattle.guarantee.specs.Partitioning.{newOnTop}
 
 -- the tops of a form: its relationship exchange, and what is under that
 abbrev pub formTops : Form → List ℕ

@@ -1,19 +1,19 @@
 -- A child of an answer has what it needs as `guarantee` measures it: by its last form as the answer shows it, where `exchange` goes by the form that it passed.
-use Prim.Native.Nat.{ℕ, zero, suc, _≤_}
+use Prim.Native.Nat.{ℕ, _≤_}
 use mathlib.Core.Path.{_≡_, refl, sym, ap, _∙_}
-use mathlib.Core.Bool.{Bool, true, false, cond, not, _&&_, _||_}
-use mathlib.Core.Option.{Option, some}
-use mathlib.Core.List.{List, [], _∷_, _++_}
+use mathlib.Core.Bool.{Bool, true, false, cond, _&&_, _||_}
+use mathlib.Core.Option.{some}
+use mathlib.Core.List.{[], _∷_}
 use native.Mathlib.Omega.{arith}
-use lib.Dec.{eqb, leb, ltb}
+use lib.Dec.{eqb, leb}
 use borrow.Author.Tests.{eqb-true, eqb-false}
 use Rattle.keys.proofs.Truths.{true-false}
 use Rattle.exchange.specs.Trees.{root, Operator, Plan}
 use Rattle.exchange.specs.Settings.{isSet}
 use Rattle.exchange.specs.Forms.{Form}
-use Rattle.exchange.specs.Facts.{Row, rowOf}
+use Rattle.exchange.specs.Facts.{rowOf}
 use Rattle.exchange.specs.Operators.{isSingle, isKeyed, mark, track}
-use Rattle.exchange.specs.States.{Child, ChildState, needOf, countOf}
+use Rattle.exchange.specs.States.{Child, ChildState, needOf}
 use Rattle.exchange.specs.Status.{rowsGain}
 use Rattle.exchange.specs.Step.{allowSubsetSatisfyPartitioning}
 use Rattle.exchange.specs.Order.{handleOrder}

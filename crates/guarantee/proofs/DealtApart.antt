@@ -5,7 +5,6 @@ use mathlib.Core.Path.{_≡_, refl}
 use mathlib.Core.Option.{none as absent}
 use mathlib.Core.List.{List, [], _∷_}
 use native.Mathlib.Omega.{arith}
-use lib.ListN.{getD}
 use Rattle.text.specs.Text.{onto, parts, run, field, fields, lineFields}
 use Rattle.text.specs.Lines.{firstOf}
 use Rattle.text.specs.Bounds.{fits, allowsAll}

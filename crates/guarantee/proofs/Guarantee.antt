@@ -1,9 +1,7 @@
 -- DEMAND 3: whatever is decided of any sheet is guaranteed, where the sheet holds no placeholder and no child whose mark `gains` is 0 is split at its source.
 -- Each of the two conditions is needed (`KeyNeeded`, `PlanNeeded`); the third of the demand always holds (`PlanGuaranteed`, `nothing-taken`).
-use Prim.Native.Nat.{ℕ}
 use mathlib.Core.Path.{_≡_}
 use mathlib.Core.Bool.{Bool, true, false, cond}
-use mathlib.Core.List.{List}
 use lib.Dec.{eqb}
 use lib.ListN.{getD}
 use Rattle.sheet.specs.KeyAnswers.{wrote, adjustDecision, inputsDecision}

@@ -1,7 +1,7 @@
 -- The condition on placeholders is needed: of marked sheet 3, which asks for one, what `decision` writes isn't guaranteed, since its first pair comes out twice.
 use Prim.Native.Nat.{ℕ}
 use mathlib.Core.Path.{_≡_, refl}
-use mathlib.Core.Bool.{true, false}
+use mathlib.Core.Bool.{false}
 use mathlib.Core.List.{List, [], _∷_}
 use native.Mathlib.Omega.{arith}
 use Rattle.text.specs.Text.{onto, parts, run, field, fields, lineFields}

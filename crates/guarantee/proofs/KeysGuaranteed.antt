@@ -2,7 +2,7 @@
 --     keys-guaranteed      K sheets
 --     inputs-guaranteed    I sheets
 use Prim.Native.Nat.{ℕ}
-use mathlib.Core.Path.{_≡_, refl, sym, subst}
+use mathlib.Core.Path.{_≡_, refl, subst}
 use mathlib.Core.Bool.{Bool, true, false, cond}
 use mathlib.Core.Option.{Option, none, some}
 use mathlib.Core.List.{List, [], _∷_, _++_}
@@ -14,7 +14,7 @@ use Rattle.text.proofs.Exact.{both}
 use Rattle.keys.specs.Reorder.{Rule}
 use Rattle.keys.specs.Expressions.{Expression, sameExpr, placeholder}
 use Rattle.keys.specs.Arrange.{Lacks}
-use Rattle.keys.specs.Adjust.{KeySheet, KeyAnswer, Adjustment, answered, nameNotFound, adjustInputKeysOrdering}
+use Rattle.keys.specs.Adjust.{KeySheet, Adjustment, answered, nameNotFound, adjustInputKeysOrdering}
 use Rattle.keys.specs.Inputs.{JoinSheet, inputKeys, reorderJoinKeysToInputs}
 use Rattle.keys.specs.Kept.{LacksRules, KeyPairsKept, LacksPlaceholder, asked, InputsLackPlaceholder}
 use Rattle.keys.proofs.Equalities.{sameExpr-equivalence}
@@ -23,7 +23,7 @@ use Rattle.keys.proofs.KeyGuarantee.{key-pairs-kept}
 use Rattle.keys.proofs.InputGuarantee.{inputs-lack-placeholder, input-order-kept}
 use Rattle.sheet.specs.KeySheets.{Reading, sheet, turned, keyListsFit, readKeySheet, readJoinSheet}
 use Rattle.sheet.specs.KeyTexts.{ruleExprs}
-use Rattle.sheet.specs.KeyAnswers.{wrote, keyAnswerText, joinAnswerText, adjusted, keyOutcome, joinOutcome, adjustDecision, inputsDecision}
+use Rattle.sheet.specs.KeyAnswers.{wrote, adjusted, keyOutcome, joinOutcome, adjustDecision, inputsDecision}
 use Rattle.sheet.proofs.LegalSheets.{key-read-legal, join-read-legal}
 use Rattle.guarantee.specs.Conditions.{keyExpressions, joinExpressions, NoPlaceholder}
 use Rattle.guarantee.specs.Guarantee.{Guaranteed, keys, inputs}

@@ -1,7 +1,6 @@
 -- A limit on a sort that isn't directly above its coalesce is not kept: an answer to marked sheet 10 with a round robin between them isn't guaranteed.
 use Prim.Native.Nat.{ℕ}
 use mathlib.Core.Path.{_≡_, refl}
-use mathlib.Core.Bool.{true, false}
 use mathlib.Core.Logic.{inl, inr}
 use mathlib.Core.Option.{some, none as absent}
 use mathlib.Core.List.{List, [], _∷_}

@@ -6,7 +6,7 @@ use mathlib.Core.List.{List}
 use native.Mathlib.Omega.{arith}
 use Rattle.text.specs.Write.{digits, decimal, fieldText, fieldsText, lineText}
 use Rattle.text.proofs.Examples.{bytes}
-use Rattle.exchange.specs.Trees.{Forest, none, _∷ᶠ_, trees}
+use Rattle.exchange.specs.Trees.{Forest, trees}
 use Rattle.exchange.specs.Operators.{above}
 use Rattle.exchange.specs.Children.{removeDistChangingOperators}
 use Rattle.exchange.specs.Skeleton.{Core, skeleton}

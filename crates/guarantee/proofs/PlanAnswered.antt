@@ -1,5 +1,5 @@
 -- What the answer to a D sheet is made of: an only line, or the worked node over the trees of the states that the children came to, each in its last form.
-use Prim.Native.Nat.{ℕ, suc, _≤_}
+use Prim.Native.Nat.{ℕ, suc}
 use mathlib.Core.Path.{_≡_, refl, sym, ap, _∙_}
 use mathlib.Core.Bool.{Bool, true, false}
 use mathlib.Core.Option.{Option, some, none as nothing}
@@ -14,7 +14,7 @@ use Rattle.exchange.specs.States.{ChildState, childrenFrom}
 use Rattle.exchange.specs.Status.{needsAlignment, getRepartitionRequirementStatus}
 use Rattle.exchange.specs.Step.{ensureChildren}
 use Rattle.exchange.specs.Relationships.{Enforced, enforced, givenSet, enforceDistributionRelationships}
-use Rattle.exchange.specs.Ensure.{Answer, Ensured, answered, relate, childStates, handled, finished, ensured}
+use Rattle.exchange.specs.Ensure.{Answer, Ensured, answered, relate, childStates, finished, ensured}
 use Rattle.exchange.specs.Skeleton.{below}
 use Rattle.exchange.specs.Partitioning.{splitsGain, workedOf, childrenOf, EachHas}
 use Rattle.exchange.proofs.Passing.{Alls, HoldsEnforced}

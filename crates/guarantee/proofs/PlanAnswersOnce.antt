@@ -1,17 +1,15 @@
 -- A D answer's bytes are the text of one answer only: a t line is known from its bytes, and a tree from its lines and their children's counts.
-use Prim.Native.Nat.{ℕ, suc}
+use Prim.Native.Nat.{ℕ}
 use mathlib.Core.Path.{_≡_, refl, sym, ap, _∙_}
 use mathlib.Core.Option.{Option, some, none as absent}
 use mathlib.Core.List.{List, [], _∷_, _++_, append-assoc, append-nil}
 use native.Mathlib.Omega.{arith}
-use Rattle.text.specs.Text.{Field, number, empty}
-use Rattle.sheet.specs.KeyAnswers.{numbersLine}
 use Rattle.exchange.specs.Trees.{node, none, _∷ᶠ_, trees, Operator, Plan, Plans}
 use Rattle.exchange.specs.Ensure.{Answer}
 use Rattle.plananswer.specs.PlanTexts.{limitField, operatorFields, operatorLine, planLines, plansLines, planAnswerText}
 use Rattle.plananswer.specs.Sizes.{Everywhere, Everywheres}
 use Rattle.guarantee.specs.Guarantee.{NoNeeds}
-use Rattle.guarantee.proofs.LinesOnce.{PlainField, Plain, SameLine, line-once, numbersLine-once}
+use Rattle.guarantee.proofs.LinesOnce.{PlainField, Plain, line-once, numbersLine-once}
 
 -- ---- a t line
 

@@ -2,9 +2,8 @@
 -- The child comes out with four partitions and no exchange, and its row says neither `exact` nor `subset`.
 use Prim.Native.Nat.{ℕ}
 use mathlib.Core.Path.{_≡_, refl}
-use mathlib.Core.Bool.{true, false}
 use mathlib.Core.Option.{none as absent}
-use mathlib.Core.List.{List, [], _∷_}
+use mathlib.Core.List.{List}
 use Rattle.text.specs.Text.{onto, parts, run, field, fields, lineFields}
 use Rattle.text.specs.Lines.{firstOf}
 use Rattle.text.specs.Bounds.{fits, allowsAll}
@@ -14,7 +13,6 @@ use Rattle.keys.proofs.Truths.{true-false}
 use Rattle.sheet.specs.Lines.{lineNumber, rowsOf, chain}
 use Rattle.sheet.specs.KeySheets.{sheet}
 use Rattle.sheet.specs.KeyAnswers.{wrote}
-use Rattle.exchange.specs.Trees.{Plan}
 use Rattle.exchange.specs.Rows.{rowOf as packedRow, flatten, grow}
 use Rattle.exchange.specs.Fit.{withinBits, allWithinBits, isRepeated, noneRepeated, childNumbered, rowsFit, factsFit}
 use Rattle.exchange.specs.Facts.{rowOf}
@@ -28,7 +26,7 @@ use Rattle.exchange.specs.Replace.{replaceOrderPreservingVariants}
 use Rattle.exchange.specs.Order.{handleOrder}
 use Rattle.exchange.specs.Ensure.{Answer, childStates, handled, finished, ensured}
 use Rattle.exchange.specs.Partitioning.{beneathSorts}
-use Rattle.exchange.proofs.Cases.{line, leaf, told}
+use Rattle.exchange.proofs.Cases.{leaf, told}
 use Rattle.exchange.proofs.UnmetChild as unmet
 use Rattle.plansheet.specs.Shapes.{overAny}
 use Rattle.plansheet.specs.PlanLines.{twoTo}

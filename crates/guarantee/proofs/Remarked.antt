@@ -1,13 +1,13 @@
 -- The worked node with the marks that `update_children` sets, beside the worked node on the sheet: only marks differ, its own and its children's.
 use Prim.Native.Nat.{ℕ, suc}
-use mathlib.Core.Path.{_≡_, refl, ap}
+use mathlib.Core.Path.{_≡_, refl}
 use mathlib.Core.Bool.{Bool, true, false, cond}
 use mathlib.Core.Logic.{_⊎_, inl, inr}
 use mathlib.Core.List.{List, [], _∷_}
 use Rattle.exchange.specs.Trees.{node, none, _∷ᶠ_, root, Operator, Plan, Plans}
 use Rattle.exchange.specs.Facts.{ChildFacts}
 use Rattle.exchange.specs.Operators.{mark, track}
-use Rattle.exchange.specs.Children.{changesDistribution, updateEach, updateChildren, isRemoved, removeDistChangingOperators}
+use Rattle.exchange.specs.Children.{changesDistribution, updateEach, isRemoved, removeDistChangingOperators}
 use Rattle.exchange.specs.States.{Child, childrenFrom, needOf, countOf}
 use Rattle.exchange.specs.Skeleton.{below}
 use Rattle.exchange.specs.Partitioning.{workedOf}

@@ -3,7 +3,7 @@
 --     inputs-speak    of an I sheet x and the text of r: InputsKept x r
 --     plan-speaks     of a D sheet x: PlanKept x r, of an answer r whose text it is
 use Prim.Native.Nat.{ℕ}
-use mathlib.Core.Path.{_≡_, refl, sym, ap, _∙_, subst, subst₂}
+use mathlib.Core.Path.{_≡_, sym, ap, _∙_, subst, subst₂}
 use mathlib.Core.List.{List}
 use native.Mathlib.Omega.{arith}
 use lib.ListN.{getD}

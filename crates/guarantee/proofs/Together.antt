@@ -1,7 +1,7 @@
 -- Beyond demand 3: the set of the children that the rounds gave an exchange, as the answer shows it, is one for which Y is 0.
 use Prim.Native.Nat.{ℕ, _+_, _*_, _/_, _%_, _≤_}
-use mathlib.Core.Path.{_≡_, refl, sym, ap, _∙_, subst}
-use mathlib.Core.Bool.{Bool, true, false, cond, _&&_}
+use mathlib.Core.Path.{_≡_, refl}
+use mathlib.Core.Bool.{Bool, true, false, cond}
 use mathlib.Core.List.{List, [], _∷_}
 use lib.ListN.{length}
 use lib.Dec.{eqb}
@@ -9,7 +9,6 @@ use native.Mathlib.Omega.{arith}
 use borrow.Author.Tests.{eqb-true, eq-eqb}
 use Rattle.keys.proofs.Truths.{and-first, and-second}
 use Rattle.exchange.specs.Trees.{node, none, _∷ᶠ_, root, Operator, Plan}
-use Rattle.exchange.specs.Settings.{isSet}
 use Rattle.exchange.specs.Forms.{Form}
 use Rattle.exchange.specs.Facts.{unsatisfiedAt}
 use Rattle.exchange.specs.Children.{isLeaf, updateEach, updateChildren, isRemoved, removeDistChangingOperators}
@@ -21,7 +20,6 @@ use Rattle.exchange.specs.Skeleton.{below}
 use Rattle.exchange.specs.Partitioning.{workedOf, childrenOf}
 use Rattle.exchange.proofs.Passing.{Alls}
 use Rattle.plansheet.specs.PlanSheets.{PlanSheet}
-use Rattle.guarantee.specs.Partitioning.{newOnTop, topmost}
 use Rattle.guarantee.specs.Together.{Shows, ShowSet, Together}
 use Rattle.guarantee.proofs.Tops.{tops-handled}
 use Rattle.guarantee.proofs.ChildForms.{formTops, Formed}

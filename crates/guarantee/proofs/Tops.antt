@@ -1,6 +1,6 @@
 -- What is new on top of a child: the order handling leaves it, and a keyed exchange that is topmost is the operator beneath new sorts.
 use Prim.Native.Nat.{ℕ}
-use mathlib.Core.Path.{_≡_, refl, sym, ap, _∙_}
+use mathlib.Core.Path.{_≡_, refl, ap, _∙_}
 use mathlib.Core.Bool.{Bool, true, false, cond, _&&_}
 use mathlib.Core.Option.{Option}
 use mathlib.Core.List.{List, [], _∷_, _++_}
@@ -10,7 +10,7 @@ use borrow.Author.Tests.{eqb-true}
 use Rattle.exchange.specs.Trees.{node, none, _∷ᶠ_, root, Operator, Plan, Plans}
 use Rattle.exchange.specs.declared.settings.Settings.{Settings}
 use Rattle.exchange.specs.Facts.{NodeFacts}
-use Rattle.exchange.specs.Operators.{isSortPreservingMerge, isRepartition, hasLimit, isTracked, track, trackRoot, above, limitedSort, requiredSort}
+use Rattle.exchange.specs.Operators.{isSortPreservingMerge, isRepartition, hasLimit, isTracked, trackRoot, above, limitedSort, requiredSort}
 use Rattle.exchange.specs.States.{ChildState}
 use Rattle.exchange.specs.Replace.{coalesced, relaxed, replaceOperator, replaceOrderPreservingVariants, replaceTracked}
 use Rattle.exchange.specs.Order.{addSortAbove, handleOrder}

@@ -6,7 +6,7 @@ use mathlib.Core.Bool.{Bool, true, false, cond, _&&_, _||_}
 use mathlib.Core.Option.{Option, some, none as nothing}
 use mathlib.Core.List.{List, [], _∷_, _++_}
 use lib.Dec.{eqb, leb}
-use Rattle.exchange.specs.Trees.{node, none, _∷ᶠ_, root, Operator, Plan, Plans}
+use Rattle.exchange.specs.Trees.{node, none, _∷ᶠ_, root, Plan, Plans}
 use Rattle.exchange.specs.Settings.{isSet}
 use Rattle.exchange.specs.Forms.{Form}
 use Rattle.exchange.specs.Facts.{Row, rowOf}
