@@ -1,9 +1,4 @@
 // The step of one child: split at its source, then what its need asks: a merge, a keyed exchange or a round robin on top.
-use crate::partitioning::add_roundrobin;
-use crate::partitioning::needs_hash_repartition;
-use crate::status::get_repartition_requirement_status;
-use crate::status::needs_alignment;
-use crate::status::rows_gain;
 use exchange::fact::COUNT;
 use exchange::fact::Fact;
 use exchange::fact::FactRow;
@@ -22,6 +17,11 @@ use exchange::status::ChildRow;
 use exchange::status::SPLITS;
 use exchange::step::Formed;
 use exchange::step::Stepped;
+use needs::partitioning::add_roundrobin;
+use needs::partitioning::needs_hash_repartition;
+use needs::status::hash_necessary;
+use needs::status::needs_alignment;
+use needs::status::rows_gain;
 ghost use mathlib.Core.Path.{_≡_};
 ghost use mathlib.Core.Bool.{Bool, cond, _&&_};
 ghost use mathlib.Core.List.{List, map};
