@@ -19,7 +19,7 @@ use exchange::step::Formed;
 use exchange::step::Stepped;
 use needs::partitioning::add_roundrobin;
 use needs::partitioning::needs_hash_repartition;
-use needs::status::hash_necessary;
+use needs::status::get_repartition_requirement_status;
 use needs::status::needs_alignment;
 use needs::status::rows_gain;
 ghost use mathlib.Core.Path.{_≡_};
