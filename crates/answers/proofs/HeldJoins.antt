@@ -22,7 +22,7 @@ module _ (lists : List (List ℕ)) (counts : List ℕ) where
 
   module _ (k : JoinHeld lists counts) where
     pub join-there : (i : ℕ) → i < 8 → (i < length lists) × (i < length counts) × (getD counts i 0 ≤ 64)
-    join-there i e = held-there lists counts i (k .room i e) (k .lines) (omega arith)
+    join-there i e = held-there lists counts i (k .room i e) 8 (k .lines) e
 
     pub join-short : (i : ℕ) → i < 8 → length (At i) ≤ 64
     join-short i e = held-short lists counts i (k .room i e)

@@ -51,7 +51,7 @@ module _ (lists : List (List ℕ)) (counts : List ℕ) where
 
   module _ (h : KeyHeld lists counts) where
     pub key-there : (i : ℕ) → i < 9 → (i < length lists) × (i < length counts) × (getD counts i 0 ≤ 64)
-    key-there i k = held-there lists counts i (h .room i (omega arith)) (h .lines) (omega arith)
+    key-there i k = held-there lists counts i (h .room i (omega arith)) 17 (h .lines) (omega arith)
 
     pub key-short : (i : ℕ) → i < 9 → length (At i) ≤ 64
     key-short i k = held-short lists counts i (h .room i (omega arith))

@@ -7,8 +7,8 @@ use lib.ListN.{length, getD, length-take}
 use Rattle.sheet.specs.Held.{heldAt}
 
 module _ (lists : List (List ℕ)) (counts : List ℕ) (i : ℕ) (room : getD counts i 0 ≤ 64) where
-  pub held-there : (17 ≤ length lists) × (17 ≤ length counts) → i < 17 → (i < length lists) × (i < length counts) × (getD counts i 0 ≤ 64)
-  held-there lines k = (omega (arith, lines .0), omega (arith, lines .1), room)
+  pub held-there : (n : ℕ) → (n ≤ length lists) × (n ≤ length counts) → i < n → (i < length lists) × (i < length counts) × (getD counts i 0 ≤ 64)
+  held-there n lines k = (omega (arith, lines .0), omega (arith, lines .1), room)
 
   pub held-short : length (heldAt lists counts i) ≤ 64
   unfolding heldAt

@@ -55,8 +55,8 @@ pub(crate) fn rewrite_join_sheet(sheet: &[u8], out: &mut [u8]) -> u64
     ensures bytes { λ _. ⌜ now (out .exit) ≡ after (within (length (now (out .entry))) (joinAgain (readJoinSheet (now (sheet .entry))))) (now (out .entry)) ⌝ }
 {
     let mut rows = [[0u64; 2]; 192];
-    let mut lists = [[0u64; 64]; 17];
-    let mut counts = [0usize; 17];
+    let mut lists = [[0u64; 64]; 8];
+    let mut counts = [0usize; 8];
     let r = read_join_sheet(sheet, &mut rows, &mut lists, &mut counts);
     if let Sheet::Refused { number, line } = r {
         return refusal(number, line);

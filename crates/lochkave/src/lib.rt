@@ -41,8 +41,8 @@ pub extern "C" fn lochkave_reorder_join_keys_to_inputs(sheet: &[u8], out: &mut [
     ensures bytes { λ _. ⌜ now (out .exit) ≡ after (inputsOutcome (now (sheet .entry)) (length (now (out .entry)))) (now (out .entry)) ⌝ }
 {
     let mut rows = [[0u64; 2]; 192];
-    let mut lists = [[0u64; 64]; 17];
-    let mut counts = [0usize; 17];
+    let mut lists = [[0u64; 64]; 8];
+    let mut counts = [0usize; 8];
     let r = read_join_sheet(sheet, &mut rows, &mut lists, &mut counts);
     if let Sheet::Refused { number, line } = r {
         return refusal(number, line);

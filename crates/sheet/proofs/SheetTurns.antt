@@ -235,9 +235,9 @@ module _ (s : List ℕ) (k : SheetKind) (n : ℕ) where
             rw (u, m, getD-append-seam (h .rows) fs [] []) b
 
     pub head-more :
-        (count next : ℕ) (list : List ℕ) → i < n → n ≤ 17 → 17 ≤ length lists → 17 ≤ length counts → Taken s k i p count next list →
+        (count next : ℕ) (list : List ℕ) → i < n → n ≤ length lists → n ≤ length counts → Taken s k i p count next list →
         Head s k n whole (i + 1) next (l + 1) (set lists i list) (set counts i count)
-    head-more count next list e few g f t =
+    head-more count next list e g f t =
         let z : linesFrom s k i (n - i) p ≡ before (t .fs) (linesFrom s k (suc i) (n - suc i) next)
         = rw (left e) (line-read s k i p count next (n - suc i) (suc i) list t) in
         let a : i + 1 ≡ suc i = omega arith in

@@ -18,7 +18,7 @@ use Rattle.sheet.specs.KeyLines.{at, values, keyLine}
 use Rattle.sheet.specs.Reading.{codesNumber, countsNumber}
 use Rattle.sheet.specs.Held.{heldAt}
 use Rattle.sheet.specs.ListLines.{lineLetter}
-use Rattle.sheet.specs.SheetLines.{inTurn, lineKinds, lineCount, countBy, FewChildren, linesFrom, linesBy, wholeLines, endedBy, HeldLine, HeldLines, HeadKept}
+use Rattle.sheet.specs.SheetLines.{mostLists, inTurn, lineKinds, lineCount, countBy, FewChildren, linesFrom, linesBy, wholeLines, endedBy, HeldLine, HeldLines, HeadKept}
 use Rattle.sheet.specs.declared.kind.Codes.the-variants as C
 use Rattle.sheet.specs.declared.lists.SheetKind.{SheetKind}
 use Rattle.sheet.specs.declared.lists.SheetKind.the-variants.{Key, Join}
@@ -82,9 +82,13 @@ module _ (s : List ℕ) (count next : ℕ) (list : List ℕ) where
   counted Key t = ap (λ (n : ℕ). 9 + n) (seventh s count next list t)
   counted Join t = refl
 
-pub count-least : (k : SheetKind) (n : ℕ) → FewChildren k n → (1 ≤ countBy k n) × (countBy k n ≤ 17)
-count-least Key n h = (omega arith, omega arith)
-count-least Join n h = (omega arith, omega arith)
+pub count-least : (k : SheetKind) (n : ℕ) → FewChildren k n → (1 ≤ countBy k n) × (countBy k n ≤ 17) × (countBy k n ≤ mostLists k)
+count-least Key n h = (omega arith, omega arith, omega arith)
+count-least Join n h = (omega arith, omega arith, omega arith)
+
+pub lists-some : (k : SheetKind) → 8 ≤ mostLists k
+lists-some Key = omega arith
+lists-some Join = omega arith
 
 -- ---- the head is held beside the lines after it
 

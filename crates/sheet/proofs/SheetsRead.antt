@@ -225,7 +225,7 @@ module _ (s : List ℕ) (lists : List (List ℕ)) (counts : List ℕ) (next line
     join-head : length (heldAt lists counts 0) ≡ 2
     join-head = head-long Join lists counts (join-all .rows) join-rows (omega (arith, join-count)) refl ∙ join-line 0 (omega arith) .fits
 
-    pub join-stands : 17 ≤ length lists → 17 ≤ length counts → readJoinSheet s ≡ sheet (heldJoinSheet lists counts) → JoinHeld lists counts
+    pub join-stands : 8 ≤ length lists → 8 ≤ length counts → readJoinSheet s ≡ sheet (heldJoinSheet lists counts) → JoinHeld lists counts
     join-stands a b r = record {
       lines = (a, b);
       room = λ i g. join-line i g .room;

@@ -59,7 +59,7 @@ module _ (lists : List (List ℕ)) (counts : List ℕ) where
       joinSheet (getD (heldAt lists counts 0) 0 0) (getD (heldAt lists counts 0) 1 0) (heldAt lists counts 1) (heldAt lists counts 2)
       (heldAt lists counts 3) (heldAt lists counts 4) (heldAt lists counts 5) (pairRows (heldAt lists counts 6)) (pairRows (heldAt lists counts 7))
 
-  -- room for 17 lines, a whole head, and a legal sheet in it
+  -- room for all lines, a whole head, and a legal sheet in it
   pub record KeyHeld : Type 0 where
     pub lines : (17 ≤ length lists) × (17 ≤ length counts)
     pub room : (i : ℕ) → i < 9 + childCount → getD counts i 0 ≤ 64
@@ -67,7 +67,7 @@ module _ (lists : List (List ℕ)) (counts : List ℕ) where
     pub legal : LegalKeySheet heldKeySheet
 
   pub record JoinHeld : Type 0 where
-    pub lines : (17 ≤ length lists) × (17 ≤ length counts)
+    pub lines : (8 ≤ length lists) × (8 ≤ length counts)
     pub room : (i : ℕ) → i < 8 → getD counts i 0 ≤ 64
     pub head : length (heldAt lists counts 0) ≡ 2
     pub inputs : (length (heldAt lists counts 4) ≤ 33) × (length (heldAt lists counts 5) ≤ 33)

@@ -36,6 +36,11 @@ unfoldable pub lineKinds : SheetKind → ℕ → ℕ → List Kind
 lineKinds k i zero = []
 lineKinds k i (suc n) = lineKind k i ∷ lineKinds k (suc i) n
 
+-- the most lines that a sheet has
+abbrev pub mostLists : SheetKind → ℕ
+mostLists Key = 17
+mostLists Join = 8
+
 -- how many lines a sheet has, by the fields of its head
 abbrev pub lineCount : SheetKind → List Field → ℕ
 lineCount Key fs = 9 + at fs 6

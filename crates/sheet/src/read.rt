@@ -2,7 +2,7 @@
 ghost use mathlib.Core.Path.{_≡_};
 ghost use Prim.Native.Nat.{_-_, _≤_};
 ghost use lib.ListN.{length};
-ghost use Rattle.sheet.specs.SheetLines.{countBy, FewChildren, turnedNumber, linesFrom, linesBy, wholeLines, endedBy, HeldLines, Full, HeadKept};
+ghost use Rattle.sheet.specs.SheetLines.{mostLists, countBy, FewChildren, turnedNumber, linesFrom, linesBy, wholeLines, endedBy, HeldLines, Full, HeadKept};
 use crate::lists::Listed;
 use crate::lists::SheetKind;
 use crate::lists::read_list;
@@ -32,7 +32,7 @@ fn read_lists(
     lists: &mut [[u64; 64]],
     counts: &mut [usize],
 ) -> Lines
-    requires { ⌜ (192 ≤ length (now rows)) × (1 ≤ n) × (n ≤ 17) × (17 ≤ length (now lists)) × (17 ≤ length (now counts)) × Full (now lists) ⌝ }
+    requires { ⌜ (192 ≤ length (now rows)) × (1 ≤ n) × (n ≤ 17) × (n ≤ length (now lists)) × (n ≤ length (now counts)) × Full (now lists) ⌝ }
     ensures answer { λ r. ⌜ r ≡ linesBy (linesFrom (now (s .entry)) k 1 (n - 1) at) ⌝ }
     ensures held { λ _. ⌜ HeldLines (now (s .entry)) k 1 (linesFrom (now (s .entry)) k 1 (n - 1) at) (now (lists .exit)) (now (counts .exit)) ⌝ }
     ensures kept { λ _. ⌜ HeadKept (now (lists .entry)) (now (counts .entry)) (now (lists .exit)) (now (counts .exit)) ⌝ }
@@ -75,7 +75,7 @@ fn read_lines(
     lists: &mut [[u64; 64]],
     counts: &mut [usize],
 ) -> Lines
-    requires { ⌜ (192 ≤ length (now rows)) × (17 ≤ length (now lists)) × (17 ≤ length (now counts)) × Full (now lists) ⌝ }
+    requires { ⌜ (192 ≤ length (now rows)) × (mostLists k ≤ length (now lists)) × (mostLists k ≤ length (now counts)) × Full (now lists) ⌝ }
     ensures answer { λ r. ⌜ r ≡ linesBy (wholeLines k (now (s .entry))) ⌝ }
     ensures held { λ _. ⌜ HeldLines (now (s .entry)) k 0 (wholeLines k (now (s .entry))) (now (lists .exit)) (now (counts .exit)) ⌝ }
 {
@@ -99,7 +99,7 @@ pub fn read_whole(
     lists: &mut [[u64; 64]],
     counts: &mut [usize],
 ) -> Lines
-    requires { ⌜ (192 ≤ length (now rows)) × (17 ≤ length (now lists)) × (17 ≤ length (now counts)) × Full (now lists) ⌝ }
+    requires { ⌜ (192 ≤ length (now rows)) × (mostLists k ≤ length (now lists)) × (mostLists k ≤ length (now counts)) × Full (now lists) ⌝ }
     ensures answer { λ r. ⌜ r ≡ endedBy (wholeLines k (now (s .entry))) ⌝ }
     ensures held { λ _. ⌜ HeldLines (now (s .entry)) k 0 (wholeLines k (now (s .entry))) (now (lists .exit)) (now (counts .exit)) ⌝ }
 {

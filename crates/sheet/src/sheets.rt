@@ -40,7 +40,7 @@ pub fn read_join_sheet(
     lists: &mut [[u64; 64]],
     counts: &mut [usize],
 ) -> Sheet
-    requires { ⌜ (192 ≤ length (now rows)) × (17 ≤ length (now lists)) × (17 ≤ length (now counts)) × Full (now lists) ⌝ }
+    requires { ⌜ (192 ≤ length (now rows)) × (8 ≤ length (now lists)) × (8 ≤ length (now counts)) × Full (now lists) ⌝ }
     ensures { λ r. ⌜ JoinRead (now (s .entry)) r (now (lists .exit)) (now (counts .exit)) ⌝ }
 {
     let t = read_whole(s, SheetKind::Join, rows, lists, counts);

@@ -22,7 +22,7 @@ slice-aggregate-read-join-sheet-3 : tie.Need-slice-aggregate-read-join-sheet-3
 slice-aggregate-read-join-sheet-3 c = search needs
 
 read-join-sheet-requires : tie.Need-read-join-sheet-requires
-read-join-sheet-requires c κs = (omega arith, omega arith, omega arith, full-zeros 17 (replicate 64 0) refl)
+read-join-sheet-requires c κs = (omega arith, omega arith, omega arith, full-zeros 8 (replicate 64 0) refl)
 
 enum-known-r : tie.Need-enum-known-r
 enum-known-r c = search needs

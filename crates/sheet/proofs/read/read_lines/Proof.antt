@@ -9,7 +9,7 @@ use lib.Seq.{getD-set-same}
 use Rattle.sheet.specs.Lines.{Run}
 use Rattle.sheet.specs.SheetLines.{lineCount, countBy, turnedNumber, linesFrom, linesBy, HeldLines}
 use Rattle.sheet.proofs.SheetTurns.{Taken, taken, refusal, held-here, full-more}
-use Rattle.sheet.proofs.SheetWhole.{whole-turned, whole-taken, children-few, counted, count-least, head-still, held-whole, whole-before}
+use Rattle.sheet.proofs.SheetWhole.{lists-some, whole-turned, whole-taken, children-few, counted, count-least, head-still, held-whole, whole-before}
 use borrow.Author.Needs.{needs}
 use Rattle.sheet.proofs.read.read_lines.Statement.{statement}
 use Rattle.sheet.proofs.read.read_lines.Tie as tie
@@ -30,13 +30,13 @@ head c = let a = c .before .before .before .before .before .before .before .befo
 seventh : (c : tie.After-known-told) →
     let l = c .before .before .before .before .read-list .last .1 .1 .1 .1 .1 .0 in
     getD (getD (set (c .before .before .before .before .before .before .before .before .before .args .lists .now) 0 l) 0 []) 6 0 ≡ getD l 6 0
-seventh c = ap (λ (l : List ℕ). getD l 6 0) (getD-set-same (c .before .before .before .before .before .before .before .before .before .args .lists .now) 0 _ [] (omega (arith, c .before .before .before .before .before .before .before .before .before .pre .1)))
+seventh c = ap (λ (l : List ℕ). getD l 6 0) (getD-set-same (c .before .before .before .before .before .before .before .before .before .args .lists .now) 0 _ [] (omega (arith, c .before .before .before .before .before .before .before .before .before .pre .1, lists-some (c .before .before .before .before .before .before .before .before .before .args .k))))
 
 index-1-read-list : tie.Need-index-1-read-list
-index-1-read-list c = search needs
+index-1-read-list c = let s = c .before .before .before in omega (arith, s .pre .1, lists-some (s .args .k))
 
 read-list-requires : tie.Need-read-list-requires
-read-list-requires c κs = let s = c .before .before .before .before in (s .pre .0, s .pre .3 0 (omega (arith, s .pre .1)))
+read-list-requires c κs = let s = c .before .before .before .before in (s .pre .0, s .pre .3 0 (omega (arith, s .pre .1, lists-some (s .args .k))))
 
 enum-known-r : tie.Need-enum-known-r
 enum-known-r c = search needs
@@ -63,10 +63,10 @@ returns c =
     (rw n (ap linesBy (sym w)), rw w tt)
 
 slice-write-counts : tie.Need-slice-write-counts
-slice-write-counts c = search needs
+slice-write-counts c = let s = c .before .before .before .before .before .before .before .before .before in omega (arith, s .pre .2, lists-some (s .args .k))
 
 index-1-line-count : tie.Need-index-1-line-count
-index-1-line-count c = simp length-set (omega (arith, c .before .before .before .before .before .before .before .before .before .pre .1))
+index-1-line-count c = simp length-set (omega (arith, c .before .before .before .before .before .before .before .before .before .pre .1, lists-some (c .before .before .before .before .before .before .before .before .before .args .k)))
 
 index-2-line-count : tie.Need-index-2-line-count
 index-2-line-count c = search needs
@@ -85,8 +85,8 @@ read-lists-requires c κs =
       omega (arith, s .pre .0, d .before .before .before .before .read-list .kept .1 .1 .1 .1 .0),
       omega (arith, n, b .0),
       omega (arith, n, b .1),
-      simp length-set (s .pre .1),
-      simp length-set (s .pre .2),
+      simp length-set (omega (arith, n, b .2, s .pre .1)),
+      simp length-set (omega (arith, n, b .2, s .pre .2)),
       full-more (a .k) (a .lists .now) (a .counts .now) 0 _ 0 (d .before .before .before .before .read-list .ensures .full) (s .pre .3),
     )
 
@@ -112,7 +112,7 @@ returns-2 c =
     let g : HeldLines (a .s .now) (a .k) 1 rest (c .before .before .before .before .read-lists .last .1 .1 .1 .1 .1 .0) (c .before .before .before .before .read-lists .last .1 .1 .1 .1 .1 .1 .0) = rw n at (e .1 .0) in (
       rw n at (e .0) ∙ whole-before (t .fs) rest ∙ ap linesBy (sym w),
       rw w (held-whole (a .s .now) (a .k) (t .fs) rest _ _ g
-          (head-still (a .k) _ _ _ _ (t .fs) (e .1 .1) (held-here (a .k) (a .lists .now) (a .counts .now) 0 _ _ (a .s .now) 0 _ t (omega (arith, s .pre .1)) (omega (arith, s .pre .2))))),
+          (head-still (a .k) _ _ _ _ (t .fs) (e .1 .1) (held-here (a .k) (a .lists .now) (a .counts .now) 0 _ _ (a .s .now) 0 _ t (omega (arith, s .pre .1, lists-some (a .k))) (omega (arith, s .pre .2, lists-some (a .k)))))),
     )
 
 pub read-lines-spec : {M : Type 1} → statement M

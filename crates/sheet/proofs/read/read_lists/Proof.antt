@@ -106,7 +106,7 @@ loop-again c =
     let t = taken (a .s .now) (a .k) (l .loop .i) (l .loop .p) _ _ _ _ e (c .before .r .given .1) in (
       omega (arith, v .0, c .before .before .before .before .read-list .kept .1 .1 .1 .1 .0),
       omega (arith, v .1),
-      head-more (a .s .now) (a .k) (a .n) _ (l .loop .i) (l .loop .p) (l .loop .l) (l .loop .lists) (l .loop .counts) (v .2) _ _ _ g (s .pre .2) (omega (arith, s .pre .3, v .3 .lists-long)) (omega (arith, s .pre .4, v .3 .counts-long)) t,
+      head-more (a .s .now) (a .k) (a .n) _ (l .loop .i) (l .loop .p) (l .loop .l) (l .loop .lists) (l .loop .counts) (v .2) _ _ _ g (omega (arith, s .pre .3, v .3 .lists-long)) (omega (arith, s .pre .4, v .3 .counts-long)) t,
       kept-count (a .k) _ (l .loop .counts) (l .loop .i) [] _ (a .lists .now) (a .counts .now) (v .1) (kept-list (a .k) (l .loop .lists) (l .loop .counts) (l .loop .i) _ 0 (a .lists .now) (a .counts .now) (v .1) (v .3) (e .full)),
     )
 
