@@ -12,6 +12,9 @@ use plansheet::plan::read_plan;
 // A sheet of fewer bytes has at most 64 T lines and 39 X rows: a T line takes 17 bytes at least, an X row 28.
 pub(crate) const SHORT: usize = 1088;
 
+// Twice as many.
+const MIDDLE: usize = 2176;
+
 // A sheet of fewer bytes than that.
 pub(crate) fn distribute_short(sheet: &[u8], out: &mut [u8]) -> u64
     requires { ⌜ length (now sheet) < 1088 ⌝ }
@@ -63,8 +66,59 @@ pub(crate) fn distribute_short(sheet: &[u8], out: &mut [u8]) -> u64
     }
 }
 
+// A sheet of fewer bytes than twice as many.
+fn distribute_middle(sheet: &[u8], out: &mut [u8]) -> u64
+    requires { ⌜ length (now sheet) < 2176 ⌝ }
+    ensures result { λ r. ⌜ r ≡ answer (distributionOutcome (now (sheet .entry)) (length (now (out .entry)))) ⌝ }
+    ensures bytes { λ _. ⌜ now (out .exit) ≡ after (distributionOutcome (now (sheet .entry)) (length (now (out .entry)))) (now (out .entry)) ⌝ }
+{
+    let mut fields = [[0u64; 2]; 256];
+    let mut head = [0u64; 9];
+    let mut rows = [[0u64; 11]; 128];
+    let mut node = [0u64; 4];
+    let mut facts = [[0u64; 7]; 8];
+    let mut xs = [[0u64; 13]; 78];
+    let mut masks = [0u64; 256];
+    let mut index = [0u64; 129];
+    let p = read_plan(
+        sheet,
+        &mut fields,
+        &mut head,
+        &mut rows,
+        &mut node,
+        &mut facts,
+        &mut xs,
+        &mut masks,
+        &mut index,
+    );
+    match p {
+        Plan::Refused { number, line } => return refusal(number, line),
+        Plan::Held {
+            settings,
+            lines,
+            worked: _,
+            children,
+            rows: n,
+        } => {
+            return answer_held(
+                settings,
+                lines,
+                children,
+                n,
+                &mut rows,
+                node,
+                &facts,
+                &xs,
+                &masks,
+                &index,
+                out,
+            )
+        }
+    }
+}
+
 // Any sheet.
-pub(crate) fn distribute_long(sheet: &[u8], out: &mut [u8]) -> u64
+fn distribute_any(sheet: &[u8], out: &mut [u8]) -> u64
     ensures result { λ r. ⌜ r ≡ answer (distributionOutcome (now (sheet .entry)) (length (now (out .entry)))) ⌝ }
     ensures bytes { λ _. ⌜ now (out .exit) ≡ after (distributionOutcome (now (sheet .entry)) (length (now (out .entry)))) (now (out .entry)) ⌝ }
 {
@@ -111,4 +165,15 @@ pub(crate) fn distribute_long(sheet: &[u8], out: &mut [u8]) -> u64
             )
         }
     }
+}
+
+// Any sheet, as one that is not short is decided.
+pub(crate) fn distribute_long(sheet: &[u8], out: &mut [u8]) -> u64
+    ensures result { λ r. ⌜ r ≡ answer (distributionOutcome (now (sheet .entry)) (length (now (out .entry)))) ⌝ }
+    ensures bytes { λ _. ⌜ now (out .exit) ≡ after (distributionOutcome (now (sheet .entry)) (length (now (out .entry)))) (now (out .entry)) ⌝ }
+{
+    if sheet.len() < MIDDLE {
+        return distribute_middle(sheet, out);
+    }
+    distribute_any(sheet, out)
 }

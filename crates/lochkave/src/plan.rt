@@ -90,7 +90,7 @@ fn answer_least(
     )
 }
 
-// The same of up to 32 lines.
+// The same of up to 52 lines.
 fn answer_few(
     s: Settings,
     b: NodeRow,
@@ -103,12 +103,12 @@ fn answer_few(
     out: &mut [u8],
 ) -> u64
     requires { ⌜ Known (now facts) (now rows) (now index) n ⌝ }
-    requires { ⌜ (length (now facts) ≤ 8) × (length (now src) ≤ 32) ⌝ }
+    requires { ⌜ (length (now facts) ≤ 8) × (length (now src) ≤ 52) ⌝ }
     requires { ⌜ Sheet (now src) (length (now facts)) ⌝ }
     ensures { λ r. ⌜ ((t : Plan) (rest : List (List ℕ)) → now (src .entry) ≡ flatten t ++ rest → Gives (within (length (now (out .entry))) (distributed (ensured s (factsBy b (now (facts .entry)) (take n (now (rows .entry))) (now (masks .entry))) t))) r (now (out .entry)) (now (out .exit))) ⌝ }
 {
-    let mut mid = [[0u64; 11]; 34];
-    let mut dst = [[0u64; 11]; 88];
+    let mut mid = [[0u64; 11]; 54];
+    let mut dst = [[0u64; 11]; 128];
     answer_plan(
         s,
         b,
@@ -178,7 +178,7 @@ fn answer_tree(
     if src.len() <= 12 {
         return answer_least(s, b, masks, facts, index, rows, n, src, out);
     }
-    if src.len() <= 32 {
+    if src.len() <= 52 {
         return answer_few(s, b, masks, facts, index, rows, n, src, out);
     }
     answer_many(s, b, masks, facts, index, rows, n, src, out)

@@ -1,4 +1,4 @@
--- `answer_few` meets its contract: its rooms suffice for 32 lines.
+-- `answer_few` meets its contract: its rooms suffice for 52 lines.
 -- Assumes nothing.
 use native.Mathlib.Omega.{arith}
 use borrow.Author.Needs.{needs}

@@ -1,4 +1,4 @@
--- `distribute_long` meets its contract: a refusal, or the decision on the sheet that is held.
+-- `distribute_any` meets its contract: a refusal, or the decision on the sheet that is held.
 -- Assumes nothing.
 use mathlib.Core.Logic.{inl}
 use native.Mathlib.Omega.{arith}
@@ -8,8 +8,8 @@ use Rattle.lochkave.proofs.PlanBounded.{plan-turned-few}
 use Rattle.lochkave.proofs.Entries.{leaves-refused}
 use Rattle.lochkave.proofs.PlanEntries.{plan-was-turned, plan-was-held, plan-turned, plan-held, room-holds, room-held}
 use borrow.Author.Needs.{needs}
-use Rattle.lochkave.proofs.distribution.distribute_long.Statement.{statement}
-use Rattle.lochkave.proofs.distribution.distribute_long.Tie as tie
+use Rattle.lochkave.proofs.distribution.distribute_any.Statement.{statement}
+use Rattle.lochkave.proofs.distribution.distribute_any.Tie as tie
 
 slice-aggregate-read-plan : tie.Need-slice-aggregate-read-plan
 slice-aggregate-read-plan c = search needs
@@ -89,8 +89,8 @@ returns-2 c =
     let w = plan-was-held (readPlan (a .sheet .now)) (q .result) _ _ _ _ _ (q .ensures .0) (c .before .before .before .before .before .before .before .before .before .before .before .p2 .given .1) in
     rw (plan-held (a .sheet .now) (w .x) (w .is)) (c .before .before .before .answer-held .ensures (w .x) (room-holds (a .sheet .now) _ _ _ _ w _ _ _ _ _ _ (q .ensures .1)))
 
-pub distribute-long-spec : {M : Type 1} → statement M
-distribute-long-spec =
+pub distribute-any-spec : {M : Type 1} → statement M
+distribute-any-spec =
     tie.close
     (tie.spec
     slice-aggregate-read-plan
