@@ -6,7 +6,7 @@ ghost use lib.ListN.{length};
 ghost use Rattle.keys.specs.Expressions.{sameExpr, rules};
 ghost use Rattle.keys.specs.Inputs.{JoinSheet, JoinAnswer, trySide, reorderCurrentJoinKeys, reorderJoinKeysToInputs};
 ghost use Rattle.keys.specs.Kept.{hashed, orderTried};
-ghost use Rattle.keys.specs.InputValues.{inputOf, joinSheet, withPairs, sideNumber, PartOf, markLength, HandedBack, answerBy, currentOf, WholeCurrent, reportBy, sideBy, InputsOrdered};
+ghost use Rattle.keys.specs.InputValues.{inputOf, joinSheet, withPairs, sideNumber, PartOf, markLength, answerBy, currentOf, WholeCurrent, reportBy, sideBy};
 use crate::list::KeyList;
 use crate::list::NumberList;
 use crate::reorder::Reorder;
@@ -42,24 +42,14 @@ fn hash_partitioned(input: &[u64]) -> bool
     input[0] == 1
 }
 
-fn after_mark<'a>(input: &'a [u64]) -> &'a [u64]
+// A list without its mark.
+pub fn after_mark<'a>(input: &'a [u64]) -> &'a [u64]
     ensures { λ r. ⌜ PartOf (input .entry) (markLength (now (input .entry))) (length (now (input .entry))) r ⌝ }
 {
     if input.len() == 0 {
         return input;
     }
     &input[1..]
-}
-
-// The caller's own list of the side that was followed.
-pub fn followed_keys<'a>(side: Side, h: &'a [u64], n: &'a [u64]) -> &'a [u64]
-    ensures { λ r. ⌜ HandedBack (sideNumber side) (h .entry) (n .entry) r ⌝ }
-{
-    match side {
-        Side::Neither => return &h[0..0],
-        Side::Left => return after_mark(h),
-        Side::Right => return after_mark(n),
-    }
 }
 
 fn stood(outcome: Attempt) -> Current
@@ -146,7 +136,7 @@ fn order_tried(op: u64, mode: u64) -> bool
     mode == 0
 }
 
-// Every list of the answer, by value; `followed_keys` of its side hands back the keys.
+// Every list of the answer, by value.
 pub fn join_keys_to_inputs(
     op: u64,
     mode: u64,
@@ -194,32 +184,4 @@ pub fn side_number(side: Side) -> u64
         Side::Left => 1,
         Side::Right => 2,
     }
-}
-
-// The keys that were followed, and in the lent places the report, the side and the positions.
-pub fn reorder_join_keys_to_inputs<'a>(
-    op: u64,
-    mode: u64,
-    l: &[u64],
-    g: &[u64],
-    h: &'a [u64],
-    n: &'a [u64],
-    w: &[[u64; 2]],
-    v: &[[u64; 2]],
-    report: &mut u64,
-    followed: &mut u64,
-    at: &mut [u64; 32],
-) -> &'a [u64]
-    requires { ⌜ (length (now l) ≤ 32) × (length (now g) ≡ length (now l)) × (length (now h) ≤ 33) × (length (now n) ≤ 33) ⌝ }
-    ensures { λ r. ⌜ HandedBack (now (followed .exit)) (h .entry) (n .entry) r × (length (now (at .exit)) ≡ 32) × ((s : List ℕ) → let t = joinSheet op mode (now (l .entry)) (now (g .entry)) s (now (h .entry)) (now (n .entry)) (now (w .entry)) (now (v .entry)) in InputsOrdered t (reorderJoinKeysToInputs t sameExpr) (now (l .entry)) (now (report .exit)) (now (followed .exit)) (now (at .exit)) (now r)) ⌝ }
-{
-    let current = join_keys_to_inputs(op, mode, l, g, h, n, w, v);
-    let o = current.outcome;
-    let side = side_followed(o);
-    *report = report_number(o);
-    *followed = side_number(side);
-    let positions = current.at;
-    let items = positions.items;
-    *at = items;
-    followed_keys(side, h, n)
 }

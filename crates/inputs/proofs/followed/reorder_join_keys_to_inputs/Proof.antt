@@ -1,8 +1,8 @@
--- `keys::inputs::reorder_join_keys_to_inputs` meets its contract: `inputs-ordered` reads the answer off the lent places and the part handed back.
+-- `inputs::followed::reorder_join_keys_to_inputs` meets its contract: `inputs-ordered` reads the answer off the lent places and the part handed back.
 use Rattle.keys.proofs.InputTurns.{inputs-ordered}
 use borrow.Author.Needs.{needs}
-use Rattle.keys.proofs.inputs.reorder_join_keys_to_inputs.Statement.{statement}
-use Rattle.keys.proofs.inputs.reorder_join_keys_to_inputs.Tie as tie
+use Rattle.inputs.proofs.followed.reorder_join_keys_to_inputs.Statement.{statement}
+use Rattle.inputs.proofs.followed.reorder_join_keys_to_inputs.Tie as tie
 
 join-keys-to-inputs-requires : tie.Need-join-keys-to-inputs-requires
 join-keys-to-inputs-requires c κs = search needs

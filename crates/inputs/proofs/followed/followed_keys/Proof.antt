@@ -1,9 +1,9 @@
--- `keys::inputs::followed_keys` meets its contract: the side says which of `handed-nothing`, `handed-left` and `handed-right` holds of the part.
+-- `inputs::followed::followed_keys` meets its contract: the side says which of `handed-nothing`, `handed-left` and `handed-right` holds of the part.
 use mathlib.Core.Path.{refl}
 use Rattle.keys.proofs.InputTurns.{handed-nothing, handed-left, handed-right}
 use borrow.Author.Needs.{needs}
-use Rattle.keys.proofs.inputs.followed_keys.Statement.{statement}
-use Rattle.keys.proofs.inputs.followed_keys.Tie as tie
+use Rattle.inputs.proofs.followed.followed_keys.Statement.{statement}
+use Rattle.inputs.proofs.followed.followed_keys.Tie as tie
 
 enum-told : tie.Need-enum-told
 enum-told c = search needs

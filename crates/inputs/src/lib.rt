@@ -1,0 +1,2 @@
+// The keys of a join's inputs, handed back.
+pub mod followed;
