@@ -1,7 +1,7 @@
 // The order that the inputs of a join have already, with the keys that were followed handed back. Ports `reorder_join_keys_to_inputs`.
+use crate::current::after_mark;
+use crate::current::join_keys_to_inputs;
 use keys::inputs::Side;
-use keys::inputs::after_mark;
-use keys::inputs::join_keys_to_inputs;
 use keys::inputs::report_number;
 use keys::inputs::side_followed;
 use keys::inputs::side_number;

@@ -1,2 +1,3 @@
-// The keys of a join's inputs, handed back.
+// reorder_join_keys_to_inputs: the order that the inputs of a join have already.
+pub mod current;
 pub mod followed;
