@@ -58,7 +58,7 @@ pub fn adjust(lists: &[[u64; 64]], counts: &[usize], rules: &mut [[u64; 2]]) -> 
     let a = held(lists, counts, 7);
     let m = held(lists, counts, 8);
     let w = &rules[0..n];
-    keys::adjust::adjust_input_keys_ordering(k, r, l, g, s, w, o, a, m)
+    adjust::adjust::adjust_input_keys_ordering(k, r, l, g, s, w, o, a, m)
 }
 
 // Op, mode, L, G, H and N of an I sheet; W and V as rows in the rooms lent.
@@ -78,5 +78,5 @@ pub fn follow(
     let n = held(lists, counts, 5);
     let p = rule_rows(held(lists, counts, 6), w);
     let q = rule_rows(held(lists, counts, 7), v);
-    keys::inputs::join_keys_to_inputs(head[0], head[1], l, g, h, n, &w[0..p], &v[0..q])
+    inputs::current::join_keys_to_inputs(head[0], head[1], l, g, h, n, &w[0..p], &v[0..q])
 }

@@ -1,15 +1,8 @@
-// The order that the inputs of a join have already. Ports `reorder_join_keys_to_inputs` and `reorder_current_join_keys`.
+// What is answered of a join's inputs: which side was followed, and what came of it.
 ghost use mathlib.Core.Path.{_≡_};
-ghost use mathlib.Core.List.{List};
-ghost use Prim.Native.Nat.{ℕ, _≤_};
-ghost use lib.ListN.{length};
-ghost use Rattle.keys.specs.Expressions.{sameExpr, rules};
-ghost use Rattle.keys.specs.Inputs.{JoinSheet, JoinAnswer, trySide, reorderCurrentJoinKeys, reorderJoinKeysToInputs};
-ghost use Rattle.keys.specs.Kept.{hashed, orderTried};
-ghost use Rattle.keys.specs.InputValues.{inputOf, joinSheet, withPairs, sideNumber, PartOf, markLength, HandedBack, answerBy, currentOf, WholeCurrent, reportBy, sideBy, InputsOrdered};
+ghost use Rattle.keys.specs.InputValues.{sideNumber, reportBy, sideBy};
 use crate::list::KeyList;
 use crate::list::NumberList;
-use crate::reorder::Reorder;
 use crate::reorder::Reordered;
 
 pub enum Side {
@@ -31,139 +24,6 @@ pub struct Current {
     pub left: KeyList,
     pub right: KeyList,
     pub outcome: Attempt,
-}
-
-fn hash_partitioned(input: &[u64]) -> bool
-    ensures { λ r. ⌜ r ≡ hashed (inputOf (now (input .entry))) ⌝ }
-{
-    if input.len() == 0 {
-        return false;
-    }
-    input[0] == 1
-}
-
-fn after_mark<'a>(input: &'a [u64]) -> &'a [u64]
-    ensures { λ r. ⌜ PartOf (input .entry) (markLength (now (input .entry))) (length (now (input .entry))) r ⌝ }
-{
-    if input.len() == 0 {
-        return input;
-    }
-    &input[1..]
-}
-
-// The caller's own list of the side that was followed.
-pub fn followed_keys<'a>(side: Side, h: &'a [u64], n: &'a [u64]) -> &'a [u64]
-    ensures { λ r. ⌜ HandedBack (sideNumber side) (h .entry) (n .entry) r ⌝ }
-{
-    match side {
-        Side::Neither => return &h[0..0],
-        Side::Left => return after_mark(h),
-        Side::Right => return after_mark(n),
-    }
-}
-
-fn stood(outcome: Attempt) -> Current
-    ensures { λ r. ⌜ WholeCurrent r × (r .outcome ≡ outcome) ⌝ }
-{
-    let at = crate::list::no_numbers();
-    let left = crate::list::no_keys();
-    let right = crate::list::no_keys();
-    Current {
-        outcome: outcome,
-        at: at,
-        left: left,
-        right: right,
-    }
-}
-
-fn follow(side: Side, tried: Reorder) -> Current
-    ensures { λ r. ⌜ (r .outcome ≡ Attempt.Followed side (tried .outcome)) × (r .at ≡ tried .at) × (r .left ≡ tried .left) × (r .right ≡ tried .right) ⌝ }
-{
-    let o = tried.outcome;
-    let at = tried.at;
-    let left = tried.left;
-    let right = tried.right;
-    Current {
-        outcome: Attempt::Followed(side, o),
-        at: at,
-        left: left,
-        right: right,
-    }
-}
-
-// One side under its own rewriting.
-fn try_side(side: Side, l: &[u64], g: &[u64], input: &[u64], rewriting: &[[u64; 2]]) -> Current
-    requires { ⌜ (length (now l) ≤ 32) × (length (now g) ≡ length (now l)) × (length (now input) ≤ 33) ⌝ }
-    ensures { λ r. ⌜ WholeCurrent r × ((s : JoinSheet) (impossible untried : JoinAnswer) → let t = withPairs (now (l .entry)) (now (g .entry)) s in answerBy t r impossible untried (r .outcome) ≡ trySide t sameExpr (sideNumber side) (rules (now (rewriting .entry))) impossible untried (inputOf (now (input .entry)))) ⌝ }
-{
-    if !hash_partitioned(input) {
-        return stood(Attempt::Untried);
-    }
-    let expected = after_mark(input);
-    let tried = crate::reorder::try_reorder(rewriting, expected, l, g);
-    let o = tried.outcome;
-    let Reordered::Impossible = o else {
-        return follow(side, tried);
-    };
-    stood(Attempt::Failed)
-}
-
-// Left first, right if left is impossible or not hash partitioned.
-pub fn reorder_current_join_keys(
-    l: &[u64],
-    g: &[u64],
-    h: &[u64],
-    n: &[u64],
-    w: &[[u64; 2]],
-    v: &[[u64; 2]],
-) -> Current
-    requires { ⌜ (length (now l) ≤ 32) × (length (now g) ≡ length (now l)) × (length (now h) ≤ 33) × (length (now n) ≤ 33) ⌝ }
-    ensures { λ r. ⌜ WholeCurrent r × ((op mode : ℕ) (s : List ℕ) → let t = joinSheet op mode (now (l .entry)) (now (g .entry)) s (now (h .entry)) (now (n .entry)) (now (w .entry)) (now (v .entry)) in currentOf t r ≡ reorderCurrentJoinKeys t sameExpr) ⌝ }
-{
-    let left = try_side(Side::Left, l, g, h, w);
-    let o = left.outcome;
-    if let Attempt::Followed(_, _) = o {
-        return left;
-    }
-    let right = try_side(Side::Right, l, g, n, v);
-    let p = right.outcome;
-    let Attempt::Untried = p else {
-        return right;
-    };
-    left
-}
-
-// A sort-merge join, or a Partitioned hash join.
-fn order_tried(op: u64, mode: u64) -> bool
-    ensures { λ r. ⌜ r ≡ orderTried op mode ⌝ }
-{
-    if op == 2 {
-        return true;
-    }
-    if op != 0 {
-        return false;
-    }
-    mode == 0
-}
-
-// Every list of the answer, by value; `followed_keys` of its side hands back the keys.
-pub fn join_keys_to_inputs(
-    op: u64,
-    mode: u64,
-    l: &[u64],
-    g: &[u64],
-    h: &[u64],
-    n: &[u64],
-    w: &[[u64; 2]],
-    v: &[[u64; 2]],
-) -> Current
-    requires { ⌜ (length (now l) ≤ 32) × (length (now g) ≡ length (now l)) × (length (now h) ≤ 33) × (length (now n) ≤ 33) ⌝ }
-    ensures { λ r. ⌜ WholeCurrent r × ((s : List ℕ) → let t = joinSheet op mode (now (l .entry)) (now (g .entry)) s (now (h .entry)) (now (n .entry)) (now (w .entry)) (now (v .entry)) in currentOf t r ≡ reorderJoinKeysToInputs t sameExpr) ⌝ }
-{
-    if !order_tried(op, mode) {
-        return stood(Attempt::Untried);
-    }
-    reorder_current_join_keys(l, g, h, n, w, v)
 }
 
 pub fn report_number(o: Attempt) -> u64
@@ -194,32 +54,4 @@ pub fn side_number(side: Side) -> u64
         Side::Left => 1,
         Side::Right => 2,
     }
-}
-
-// The keys that were followed, and in the lent places the report, the side and the positions.
-pub fn reorder_join_keys_to_inputs<'a>(
-    op: u64,
-    mode: u64,
-    l: &[u64],
-    g: &[u64],
-    h: &'a [u64],
-    n: &'a [u64],
-    w: &[[u64; 2]],
-    v: &[[u64; 2]],
-    report: &mut u64,
-    followed: &mut u64,
-    at: &mut [u64; 32],
-) -> &'a [u64]
-    requires { ⌜ (length (now l) ≤ 32) × (length (now g) ≡ length (now l)) × (length (now h) ≤ 33) × (length (now n) ≤ 33) ⌝ }
-    ensures { λ r. ⌜ HandedBack (now (followed .exit)) (h .entry) (n .entry) r × (length (now (at .exit)) ≡ 32) × ((s : List ℕ) → let t = joinSheet op mode (now (l .entry)) (now (g .entry)) s (now (h .entry)) (now (n .entry)) (now (w .entry)) (now (v .entry)) in InputsOrdered t (reorderJoinKeysToInputs t sameExpr) (now (l .entry)) (now (report .exit)) (now (followed .exit)) (now (at .exit)) (now r)) ⌝ }
-{
-    let current = join_keys_to_inputs(op, mode, l, g, h, n, w, v);
-    let o = current.outcome;
-    let side = side_followed(o);
-    *report = report_number(o);
-    *followed = side_number(side);
-    let positions = current.at;
-    let items = positions.items;
-    *at = items;
-    followed_keys(side, h, n)
 }

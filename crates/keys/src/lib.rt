@@ -1,5 +1,4 @@
 // Join keys and what is decided about them: a port of the key side of enforce_distribution.rs.
-pub mod adjust;
 pub mod aggregate;
 pub mod answer;
 pub mod expr;
