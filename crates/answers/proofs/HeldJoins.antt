@@ -3,7 +3,6 @@
 use Prim.Native.Nat.{ℕ, _≤_, _<_}
 use mathlib.Core.Path.{_≡_, sym, _∙_, subst}
 use mathlib.Core.List.{List}
-use native.Mathlib.Omega.{arith}
 use lib.ListN.{length, getD, length-map}
 use Rattle.keys.specs.Expressions.{sameExpr, expression}
 use Rattle.keys.specs.Inputs.{reorderJoinKeysToInputs}

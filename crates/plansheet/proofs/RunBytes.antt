@@ -1,8 +1,8 @@
 -- How many bytes the lines of a run take at least: a T line 17, an X line 28. So a sheet's length says how many there can be.
 -- Assumes nothing.
-use mathlib.Core.Path.{_≡_, refl, sym, ap, _∙_}
+use mathlib.Core.Path.{_≡_, refl, sym, _∙_}
 use mathlib.Core.List.{List, [], _∷_, map}
-use mathlib.Core.Option.{Option, none, some}
+use mathlib.Core.Option.{none, some}
 use mathlib.Core.Bool.{Bool, true, false, cond, _&&_}
 use mathlib.Core.Logic.{⊎-elim}
 use Prim.Native.Nat.{ℕ, suc, _+_, _*_, _≤_, _<_}
@@ -11,10 +11,10 @@ use lib.Dec.{eqb}
 use lib.ListN.{length, drop, length-drop}
 use Rattle.text.specs.Text.{Field, parts, onto, field, most, fields, lineFields}
 use Rattle.text.specs.Bounds.{Bound, allows, fits}
-use Rattle.text.specs.Lines.{firstOf, nextOf}
+use Rattle.text.specs.Lines.{firstOf}
 use Rattle.text.proofs.Exact.{both}
 use Rattle.sheet.specs.Lines.{Kind, Run, read, refused, lineNumber, rowsOf}
-use Rattle.sheet.specs.KeySheets.{Reading, sheet, turned, headOf}
+use Rattle.sheet.specs.KeySheets.{sheet, headOf}
 use Rattle.plansheet.specs.PlanLines.{planLine, nodeLine, childLine, factLine, treeShape, factShape}
 use Rattle.plansheet.specs.PlanSheets.{FactLines, withRows, readMasks, readChildren, readFacts}
 use Rattle.plansheet.specs.PlanRooms.{RoomFor}
