@@ -15,7 +15,7 @@ use Rattle.keys.specs.declared.inputs.Attempt.{Attempt}
 use Rattle.keys.specs.declared.inputs.Attempt.the-variants.{Untried, Followed, Failed}
 use Rattle.keys.specs.declared.inputs.Current.{Current}
 use Rattle.keys.proofs.Joins.{directions-few, directions-below}
-use Rattle.keys.proofs.InputTurns.{Counted, inputs-counted}
+use Rattle.keys.proofs.InputLists.{Counted, inputs-counted}
 use Rattle.sheet.specs.Held.{heldAt, pairRows, heldJoinSheet, JoinHeld}
 use Rattle.answers.specs.Chosen.{followedOr, followedOnly}
 use Rattle.answers.specs.Moves.{FollowedWithin}

@@ -24,4 +24,6 @@ pub mod Names
 pub mod Rules
 pub mod Placement
 pub mod Joins
+pub mod InputMarks
 pub mod InputTurns
+pub mod InputLists

@@ -1,6 +1,6 @@
 -- `inputs::current::after_mark` meets its contract: the part from 1 on is all after the mark, `later-part`.
 use mathlib.Core.Path.{refl}
-use Rattle.keys.proofs.InputTurns.{whole-part, later-part}
+use Rattle.keys.proofs.InputMarks.{whole-part, later-part}
 use borrow.Author.Needs.{needs}
 use Rattle.inputs.proofs.current.after_mark.Statement.{statement}
 use Rattle.inputs.proofs.current.after_mark.Tie as tie

@@ -1,5 +1,5 @@
 -- `inputs::current::hash_partitioned` meets its contract: `mark-read` turns the test of the first entry into the specification's.
-use Rattle.keys.proofs.InputTurns.{no-mark, mark-read}
+use Rattle.keys.proofs.InputMarks.{no-mark, mark-read}
 use borrow.Author.Needs.{needs}
 use Rattle.inputs.proofs.current.hash_partitioned.Statement.{statement}
 use Rattle.inputs.proofs.current.hash_partitioned.Tie as tie

@@ -15,7 +15,8 @@ use Rattle.keys.specs.InputValues.{inputOf}
 use Rattle.keys.specs.declared.reorder.Reordered.{Reordered}
 use Rattle.keys.specs.declared.reorder.Reordered.the-variants.{Met, Moved, Impossible}
 use Rattle.keys.proofs.reorder.Reordered.{the-type}
-use Rattle.keys.proofs.InputTurns.{part-few, part-input, side-untried, side-failed, side-followed}
+use Rattle.keys.proofs.InputMarks.{part-few, part-input}
+use Rattle.keys.proofs.InputTurns.{side-untried, side-failed, side-followed}
 use borrow.Author.Needs.{needs}
 use Rattle.inputs.proofs.current.try_side.Statement.{statement}
 use Rattle.inputs.proofs.current.try_side.Tie as tie

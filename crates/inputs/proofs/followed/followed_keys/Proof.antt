@@ -1,6 +1,6 @@
 -- `inputs::followed::followed_keys` meets its contract: the side says which of `handed-nothing`, `handed-left` and `handed-right` holds of the part.
 use mathlib.Core.Path.{refl}
-use Rattle.keys.proofs.InputTurns.{handed-nothing, handed-left, handed-right}
+use Rattle.keys.proofs.InputMarks.{handed-nothing, handed-left, handed-right}
 use borrow.Author.Needs.{needs}
 use Rattle.inputs.proofs.followed.followed_keys.Statement.{statement}
 use Rattle.inputs.proofs.followed.followed_keys.Tie as tie

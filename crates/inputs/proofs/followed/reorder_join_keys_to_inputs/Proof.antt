@@ -1,5 +1,5 @@
 -- `inputs::followed::reorder_join_keys_to_inputs` meets its contract: `inputs-ordered` reads the answer off the lent places and the part handed back.
-use Rattle.keys.proofs.InputTurns.{inputs-ordered}
+use Rattle.keys.proofs.InputLists.{inputs-ordered}
 use borrow.Author.Needs.{needs}
 use Rattle.inputs.proofs.followed.reorder_join_keys_to_inputs.Statement.{statement}
 use Rattle.inputs.proofs.followed.reorder_join_keys_to_inputs.Tie as tie
