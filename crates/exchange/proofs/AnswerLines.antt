@@ -4,7 +4,7 @@ use mathlib.Core.Path.{_≡_, refl, ap, ap₂, _∙_}
 use mathlib.Core.Bool.{Bool, true, false, cond, not, _&&_}
 use mathlib.Core.Option.{Option, some, none as nothing}
 use mathlib.Core.List.{List, [], _∷_}
-use lib.Dec.{eqb, ltb}
+use lib.Dec.{eqb}
 use lib.ListN.{length, length-append}
 use native.Mathlib.Omega.{arith}
 use borrow.Author.Tests.{not-true, eqb-false}
@@ -14,11 +14,11 @@ use Rattle.exchange.specs.declared.settings.Settings.{Settings}
 use Rattle.exchange.specs.Settings.{isSet}
 use Rattle.exchange.specs.Forms.{Form, plainForm, splitForm, withTop, withRelationship}
 use Rattle.exchange.specs.Facts.{NodeFacts, ChildFacts, Facts, Row, rowOf}
-use Rattle.exchange.specs.Operators.{isSingle, isKeyed, mark, above, newMerge, newExchange}
+use Rattle.exchange.specs.Operators.{isKeyed, mark, above, newMerge, newExchange}
 use Rattle.exchange.specs.Children.{updateChild, updateEach, updateChildren, isRemoved, removeDistChangingOperators, removeAbove}
-use Rattle.exchange.specs.States.{Child, ChildState, childrenFrom, withForm, pass, startedBy, started, andThen}
+use Rattle.exchange.specs.States.{Child, ChildState, childrenFrom, pass, startedBy, started, andThen}
 use Rattle.exchange.specs.Status.{RepartitionRequirementStatus}
-use Rattle.exchange.specs.Step.{splitPlan, mergeOn, keyedOn, roundrobinOn, partitions, addMergeOnTop, addHashOnTop, addRoundrobinOnTop, addRoundrobin, splitAtSource, needsHashRepartition, satisfyDistribution, ensureChild}
+use Rattle.exchange.specs.Step.{splitPlan, mergeOn, keyedOn, roundrobinOn, splitAtSource, satisfyDistribution, ensureChild}
 use Rattle.exchange.specs.Relationships.{isGiven, alreadyTargetHash}
 use Rattle.exchange.specs.Order.{handleOrder}
 use Rattle.exchange.specs.Ensure.{Answer, answered, handled, finished, ensured}
@@ -26,7 +26,8 @@ use Rattle.exchange.specs.Skeleton.{below}
 use Rattle.exchange.specs.Rows.{flatten, flattens}
 use Rattle.exchange.specs.Sizes.{lines, liness}
 use Rattle.exchange.specs.Partitioning.{workedOf}
-use Rattle.exchange.proofs.Passing.{Holds, holds-then, holds-cond, Alls, Steps, Relates}
+use Rattle.exchange.proofs.StepWays.{holds-satisfied}
+use Rattle.exchange.proofs.Passing.{Holds, holds-then, holds-cond, holds-pass, Alls, Steps, Relates}
 use Rattle.exchange.proofs.Answered.{Finished, Came, leaf, worked, came-always}
 use Rattle.exchange.proofs.OperatorsKept.{of-answer}
 use Rattle.exchange.proofs.Weights.{weight, mark-one, weight-twice, weight-split, lines-handled}
@@ -50,15 +51,6 @@ unfolding weight
 weight-above o t e = rw e (omega arith)
 
 module _ (rows : List Row) where
-  passed : (P : ChildState → Type 0) (d : ChildState) (f : Form) (change : Row → Plan → Plan)
-      → ((x : Row) → P (record { number = d .number; facts = d .facts; need = d .need; form = f; row = x; plan = change x (d .plan) }))
-      → Holds P (pass rows f change d)
-  passed P d f change h = go (rowOf rows (d .number) f)
-    where
-      go : (o : Option Row) → Holds P (withForm d f change o)
-      go nothing = tt
-      go (some x) = h x
-
   bare-bounded : (c : Child) (d : ChildState) → Bare c d → Bounded c d
   bare-bounded c d h =
       let p : weight (d .plan) ≤ weight (c .plan) = h .weighs in
@@ -69,8 +61,8 @@ module _ (rows : List Row) where
   topped : (c : Child) (d : ChildState) (k : ℕ) (change : Row → Plan → Plan) → mark (not (eqb k 0)) ≡ 1
       → ((x : Row) → weight (change x (d .plan)) ≡ suc (weight (d .plan))) → Bare c d → Holds (Bounded c) (pass rows (withTop k (d .form)) change d)
   topped c d k change one w h =
-      passed (Bounded c) d (withTop k (d .form)) change
-      (λ x. let e : weight (change x (d .plan)) ≡ suc (weight (d .plan)) = w x in
+      holds-pass (Bounded c) rows d (withTop k (d .form)) change
+      (λ x r. let e : weight (change x (d .plan)) ≡ suc (weight (d .plan)) = w x in
       let p : weight (d .plan) ≤ weight (c .plan) = h .weighs in
       let q : d .form .relationship ≡ 0 = h .unrelated in
       record { weighs = omega arith; once = omega arith })
@@ -83,7 +75,7 @@ module _ (rows : List Row) where
     splits : (t : RepartitionRequirementStatus) (c : Child) (d : ChildState) → Bare c d → Holds (Bare c) (splitAtSource s rows t d)
     splits t c d h =
         holds-cond (Bare c) (isSet (s .split) && (t .roundrobinBeneficialStats && isSet (d .facts .splits))) (pass rows splitForm splitPlan d) (some d)
-        (λ e. passed (Bare c) d splitForm splitPlan (λ x.
+        (λ e. holds-pass (Bare c) rows d splitForm splitPlan (λ x r.
         let q : weight (splitPlan x (d .plan)) ≡ weight (d .plan) = weight-split x (d .plan) in
         let p : weight (d .plan) ≤ weight (c .plan) = h .weighs in
         record { weighs = omega arith; top = refl; unrelated = refl }))
@@ -91,19 +83,10 @@ module _ (rows : List Row) where
 
     satisfies : (t : RepartitionRequirementStatus) (c : Child) (d : ChildState) → Bare c d → Holds (Bounded c) (satisfyDistribution s w b rows t d)
     satisfies t c d h =
-        holds-cond (Bounded c) (isSingle (d .need)) (addMergeOnTop rows d) _
-        (λ e. holds-cond (Bounded c) (ltb 1 (partitions d)) (pass rows (withTop 1 (d .form)) mergeOn d) (some d)
-        (λ e. topped c d 1 mergeOn refl (λ x. weight-above (newMerge x (root (d .plan))) (d .plan) refl) h)
-        (λ e. bare-bounded c d h))
-        (λ e. holds-cond (Bounded c) (isKeyed (d .need)) _ _
-        (λ e. holds-cond (Bounded c) (t .hashNecessary && needsHashRepartition s w t d) (addHashOnTop rows d) (some d)
-        (λ e. topped c d 2 keyedOn refl (λ x. weight-above (newExchange 12 x (root (d .plan))) (d .plan) refl) h)
-        (λ e. bare-bounded c d h))
-        (λ e. holds-cond (Bounded c) (addRoundrobin s w b t) (addRoundrobinOnTop rows (s .target) d) (some d)
-        (λ e. holds-cond (Bounded c) (ltb (partitions d) (s .target)) (pass rows (withTop 3 (d .form)) roundrobinOn d) (some d)
-        (λ e. topped c d 3 roundrobinOn refl (λ x. weight-above (newExchange 13 x (root (d .plan))) (d .plan) refl) h)
-        (λ e. bare-bounded c d h))
-        (λ e. bare-bounded c d h)))
+        holds-satisfied s w b rows (Bounded c) t d (bare-bounded c d h)
+        (topped c d 1 mergeOn refl (λ x. weight-above (newMerge x (root (d .plan))) (d .plan) refl) h)
+        (topped c d 2 keyedOn refl (λ x. weight-above (newExchange 12 x (root (d .plan))) (d .plan) refl) h)
+        (topped c d 3 roundrobinOn refl (λ x. weight-above (newExchange 13 x (root (d .plan))) (d .plan) refl) h)
 
     steps : Steps s w b rows Bounded
     unfolding ensureChild
@@ -116,8 +99,8 @@ module _ (rows : List Row) where
 
     relates : Relates s w b rows Bounded
     relates c d g h =
-        passed (Bounded c) d (withRelationship (d .form)) keyedOn
-        (λ x. let e : weight (keyedOn x (d .plan)) ≡ suc (weight (d .plan)) = weight-above (newExchange 12 x (root (d .plan))) (d .plan) refl in
+        holds-pass (Bounded c) rows d (withRelationship (d .form)) keyedOn
+        (λ x r. let e : weight (keyedOn x (d .plan)) ≡ suc (weight (d .plan)) = weight-above (newExchange 12 x (root (d .plan))) (d .plan) refl in
         let p : weight (d .plan) ≤ weight (c .plan) + added (d .form) = h .weighs in
         let q : d .form .relationship ≡ 0 = unrelated in
         record { weighs = omega arith; once = omega arith })

@@ -15,14 +15,14 @@ use Rattle.exchange.specs.Settings.{isSet}
 use Rattle.exchange.specs.Forms.{Form, plainForm, splitForm, withTop, withRelationship}
 use Rattle.exchange.specs.Facts.{NodeFacts, Row, rowOf}
 use Rattle.exchange.specs.Operators.{isSingle, isKeyed, hasOrder, newMerge, newExchange}
-use Rattle.exchange.specs.States.{Child, ChildState, needOf, countOf, withForm, pass, startedBy, started, andThen}
+use Rattle.exchange.specs.States.{Child, ChildState, needOf, countOf, pass, startedBy, started, andThen}
 use Rattle.exchange.specs.Status.{rowsGain, asksAlignment, statusOf}
 use Rattle.exchange.specs.Step.{splitPlan, mergeOn, keyedOn, roundrobinOn, partitions, addMergeOnTop, addHashOnTop, addRoundrobinOnTop, addRoundrobin, allowSubsetSatisfyPartitioning, splitAtSource, needsHashRepartition, satisfyDistribution, ensureChild}
 use Rattle.exchange.specs.Relationships.{isGivable, isGiven, alreadyTargetHash, addRelationshipOnTop}
 use Rattle.exchange.specs.Fit.{rowsFit}
 use Rattle.exchange.specs.Skeleton.{isAddedSort}
 use Rattle.exchange.specs.Partitioning.{isNewKeyed, isHad, isSplit}
-use Rattle.exchange.proofs.Passing.{Holds, holds-then, holds-cond}
+use Rattle.exchange.proofs.Passing.{Holds, holds-then, holds-cond, holds-pass}
 use Rattle.exchange.proofs.RowsFit.{merge-one}
 
 or-false : (a b : Bool) → (a || b) ≡ false → (a ≡ false) × (b ≡ false)
@@ -76,17 +76,6 @@ module _ (s : Settings) (w : Operator) (b : NodeFacts) (rows : List Row) where
   had-other : (c : Child) (x : Row) (o : Operator) → isSingle (needOf c) ≡ false → isKeyed (needOf c) ≡ false → isHad s w c x o ≡ true
   had-other c x o n k = rw (n, k)
 
-  -- passing into a form, with the row's equation
-  passed : (P : ChildState → Type 0) (d : ChildState) (f : Form) (change : Row → Plan → Plan)
-      → ((x : Row) → rowOf rows (d .number) f ≡ some x
-      → P (record { number = d .number; facts = d .facts; need = d .need; form = f; row = x; plan = change x (d .plan) }))
-      → Holds P (pass rows f change d)
-  passed P d f change h = go (rowOf rows (d .number) f) refl
-    where
-      go : (o : Option Row) → rowOf rows (d .number) f ≡ o → Holds P (withForm d f change o)
-      go nothing e = tt
-      go (some x) e = h x e
-
   module _ (cs : List Child) (fit : rowsFit s cs rows ≡ true) where
     begins : (c : Child) → isAddedSort (root (c .plan)) ≡ false → Holds (Comes c) (started rows c)
     begins c e = go (rowOf rows (c .number) plainForm) refl
@@ -110,7 +99,7 @@ module _ (s : Settings) (w : Operator) (b : NodeFacts) (rows : List Row) where
         → Holds (Comes c) (splitAtSource s rows (statusOf s aligned c) d)
     splits c aligned g d h =
         holds-cond (Comes c) (isSet (s .split) && (rowsGain s (c .facts) && isSet (d .facts .splits))) (pass rows splitForm splitPlan d) (some d)
-        (λ e. passed (Comes c) d splitForm splitPlan (λ x q. record {
+        (λ e. holds-pass (Comes c) rows d splitForm splitPlan (λ x q. record {
           number = h .number;
           need = h .need;
           facts = h .facts;
@@ -131,7 +120,7 @@ module _ (s : Settings) (w : Operator) (b : NodeFacts) (rows : List Row) where
     singles : (c : Child) (d : ChildState) → isSingle (d .need) ≡ true → Comes c d → Holds (Has c) (addMergeOnTop rows d)
     singles c d n h =
         holds-cond (Has c) (ltb 1 (partitions d)) (pass rows (withTop 1 (d .form)) mergeOn d) (some d)
-        (λ e. passed (Has c) d (withTop 1 (d .form)) mergeOn (λ x q. record {
+        (λ e. holds-pass (Has c) rows d (withTop 1 (d .form)) mergeOn (λ x q. record {
           number = h .number;
           need = h .need;
           row = rw (h .number) at q;
@@ -160,7 +149,7 @@ module _ (s : Settings) (w : Operator) (b : NodeFacts) (rows : List Row) where
     exchanged : (c : Child) (d : ChildState) (f : Form) → isSingle (d .need) ≡ false → isKeyed (d .need) ≡ true
         → d .number ≡ c .number → d .need ≡ needOf c → Holds (Has c) (pass rows f keyedOn d)
     exchanged c d f n k number need =
-        passed (Has c) d f keyedOn (λ x q. record {
+        holds-pass (Has c) rows d f keyedOn (λ x q. record {
           number = number;
           need = need;
           row = rw number at q;
@@ -182,7 +171,7 @@ module _ (s : Settings) (w : Operator) (b : NodeFacts) (rows : List Row) where
         → Holds (Has c) (addRoundrobinOnTop rows (s .target) d)
     others c d n k h =
         holds-cond (Has c) (ltb (partitions d) (s .target)) (pass rows (withTop 3 (d .form)) roundrobinOn d) (some d)
-        (λ e. passed (Has c) d (withTop 3 (d .form)) roundrobinOn (λ x q. record {
+        (λ e. holds-pass (Has c) rows d (withTop 3 (d .form)) roundrobinOn (λ x q. record {
           number = h .number;
           need = h .need;
           row = rw (h .number) at q;

@@ -1,17 +1,17 @@
 -- A relation of trees that a split, a merge and the two exchanges keep holds between each child and its state.
+use Prim.Native.Nat.{ℕ}
 use mathlib.Core.Bool.{_&&_}
 use mathlib.Core.Option.{Option, some, none as nothing}
 use mathlib.Core.List.{List}
-use lib.Dec.{ltb}
 use Rattle.exchange.specs.Trees.{Operator, Plan}
 use Rattle.exchange.specs.declared.settings.Settings.{Settings}
 use Rattle.exchange.specs.Settings.{isSet}
 use Rattle.exchange.specs.Forms.{Form, plainForm, splitForm, withTop, withRelationship}
 use Rattle.exchange.specs.Facts.{NodeFacts, Row, rowOf}
-use Rattle.exchange.specs.Operators.{isSingle, isKeyed}
 use Rattle.exchange.specs.States.{Child, ChildState, withForm, pass, startedBy, started, andThen}
 use Rattle.exchange.specs.Status.{RepartitionRequirementStatus}
-use Rattle.exchange.specs.Step.{splitPlan, mergeOn, keyedOn, roundrobinOn, partitions, addMergeOnTop, addHashOnTop, addRoundrobinOnTop, addRoundrobin, splitAtSource, needsHashRepartition, satisfyDistribution, ensureChild}
+use Rattle.exchange.specs.Step.{splitPlan, mergeOn, keyedOn, roundrobinOn, splitAtSource, satisfyDistribution, ensureChild}
+use Rattle.exchange.proofs.StepWays.{holds-satisfied}
 use Rattle.exchange.proofs.Passing.{Holds, holds-then, holds-cond, Steps, Relates}
 
 -- what a relation of a tree and what it became must do
@@ -44,29 +44,17 @@ module _ (Rel : Plan → Plan → Type 0) (grows : Grows Rel) where
         (λ e. grown-form c d splitForm splitPlan (λ x. grows .split (c .plan) (d .plan) x p) (rowOf rows (d .number) splitForm))
         (λ e. p)
 
-    grown-merge : (c : Child) (d : ChildState) → OfPlans Rel c d → Holds (OfPlans Rel c) (addMergeOnTop rows d)
-    grown-merge c d p =
-        holds-cond (OfPlans Rel c) (ltb 1 (partitions d)) (pass rows (withTop 1 (d .form)) mergeOn d) (some d)
-        (λ e. grown-form c d (withTop 1 (d .form)) mergeOn (λ x. grows .merged (c .plan) (d .plan) x p) (rowOf rows (d .number) (withTop 1 (d .form))))
-        (λ e. p)
-
-    grown-hash : (c : Child) (d : ChildState) → OfPlans Rel c d → Holds (OfPlans Rel c) (addHashOnTop rows d)
-    grown-hash c d p =
-        grown-form c d (withTop 2 (d .form)) keyedOn (λ x. grows .keyed (c .plan) (d .plan) x p) (rowOf rows (d .number) (withTop 2 (d .form)))
-
-    grown-robin : (c : Child) (d : ChildState) → OfPlans Rel c d → Holds (OfPlans Rel c) (addRoundrobinOnTop rows (s .target) d)
-    grown-robin c d p =
-        holds-cond (OfPlans Rel c) (ltb (partitions d) (s .target)) (pass rows (withTop 3 (d .form)) roundrobinOn d) (some d)
-        (λ e. grown-form c d (withTop 3 (d .form)) roundrobinOn (λ x. grows .dealt (c .plan) (d .plan) x p) (rowOf rows (d .number) (withTop 3 (d .form))))
-        (λ e. p)
+    grown-top : (c : Child) (d : ChildState) (k : ℕ) (change : Row → Plan → Plan)
+        → ((x : Row) → Rel (c .plan) (change x (d .plan))) → Holds (OfPlans Rel c) (pass rows (withTop k (d .form)) change d)
+    grown-top c d k change h = grown-form c d (withTop k (d .form)) change h (rowOf rows (d .number) (withTop k (d .form)))
 
     grown-satisfy : (t : RepartitionRequirementStatus) (c : Child) (d : ChildState)
         → OfPlans Rel c d → Holds (OfPlans Rel c) (satisfyDistribution s w b rows t d)
     grown-satisfy t c d p =
-        holds-cond (OfPlans Rel c) (isSingle (d .need)) (addMergeOnTop rows d) _ (λ e. grown-merge c d p)
-        (λ e. holds-cond (OfPlans Rel c) (isKeyed (d .need)) _ _
-        (λ e. holds-cond (OfPlans Rel c) (t .hashNecessary && needsHashRepartition s w t d) (addHashOnTop rows d) (some d) (λ e. grown-hash c d p) (λ e. p))
-        (λ e. holds-cond (OfPlans Rel c) (addRoundrobin s w b t) (addRoundrobinOnTop rows (s .target) d) (some d) (λ e. grown-robin c d p) (λ e. p)))
+        holds-satisfied s w b rows (OfPlans Rel c) t d p
+        (grown-top c d 1 mergeOn (λ x. grows .merged (c .plan) (d .plan) x p))
+        (grown-top c d 2 keyedOn (λ x. grows .keyed (c .plan) (d .plan) x p))
+        (grown-top c d 3 roundrobinOn (λ x. grows .dealt (c .plan) (d .plan) x p))
 
     pub grown-steps : Steps s w b rows (OfPlans Rel)
     unfolding ensureChild

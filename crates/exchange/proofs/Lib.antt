@@ -15,9 +15,11 @@ pub mod DerivedSteps
 pub mod DerivedOrders
 pub mod Passing
 pub mod Answered
+pub mod StepWays
 pub mod Growing
 pub mod Handling
 pub mod SkeletonKept
+pub mod Remarked
 pub mod OperatorsKept
 pub mod LimitsKept
 pub mod LimitsOfAnswers

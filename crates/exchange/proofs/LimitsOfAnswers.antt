@@ -1,8 +1,9 @@
 -- Demand 3, limits: every limit of the tree under and at the worked node is in the answer, with its owner, in the same order, and no other;
 -- and nothing above the worked node had one (`taken-unlimited`).
 use Prim.Native.Nat.{ℕ, suc}
-use mathlib.Core.Path.{_≡_, refl, sym, ap, ap₂, _∙_}
+use mathlib.Core.Path.{_≡_, refl, sym, ap, ap₂, _∙_, subst}
 use mathlib.Core.Bool.{Bool, true, false, cond}
+use mathlib.Core.Logic.{_⊎_, inl, inr}
 use mathlib.Core.List.{List, [], _∷_, _++_}
 use lib.ListN.{length}
 use borrow.Author.Tests.{eqb-true}
@@ -11,11 +12,12 @@ use Rattle.exchange.specs.Trees.{node, none, _∷ᶠ_, root, Operator, P
 use Rattle.exchange.specs.declared.settings.Settings.{Settings}
 use Rattle.exchange.specs.Facts.{ChildFacts, Facts}
 use Rattle.exchange.specs.Operators.{isSortPreservingMerge, isUnion, mark, track}
-use Rattle.exchange.specs.Children.{changesDistribution, updateChild, updateEach, updateChildren, isRemoved, removeDistChangingOperators, removeAbove}
+use Rattle.exchange.specs.Children.{updateChild, updateEach, updateChildren, isRemoved, removeDistChangingOperators, removeAbove}
 use Rattle.exchange.specs.States.{ChildState, childrenFrom}
 use Rattle.exchange.specs.Ensure.{Answer, answered, becomesInterleave, interleaved, handled, finished, ensured}
 use Rattle.exchange.specs.Skeleton.{below}
 use Rattle.exchange.specs.Limits.{limitOf, ownLimit, limits, limitss, OwnsLimit, Owned, Owneds}
+use Rattle.exchange.proofs.Remarked.{Remarked, remarked}
 use Rattle.exchange.proofs.Passing.{Alls}
 use Rattle.exchange.proofs.Growing.{OfPlans, grown-steps, grown-relates}
 use Rattle.exchange.proofs.Answered.{Finished, Came, leaf, worked, came-always}
@@ -41,11 +43,6 @@ unfolding updateEach
 owneds-updated none h = tt
 owneds-updated (t ∷ᶠ ts) h = (owned-updated t (h .0), owneds-updated ts (h .1))
 
--- a tree and the same with other marks: the worked node under each has the same limits, and owns them
-pub record Alike (t u : Plan) : Type 0 where
-  pub same : limits u ≡ limits t
-  pub owned : Owned u
-
 mutual
   unfolding removeDistChangingOperators
 
@@ -60,42 +57,27 @@ mutual
   owned-above t h none k = h
   owned-above t h (u ∷ᶠ us) k = owned-removed u (k .0)
 
-alike-tracked : (m : ℕ) (t : Plan) → Owned t → Alike (removeDistChangingOperators t) (removeDistChangingOperators (node (track m (root t)) (below t)))
-unfolding removeDistChangingOperators limits
-alike-tracked m (node o none) h = go (isRemoved o)
+-- a tree and the same with other marks: the worked node under each has the same limits, and owns them
+pub record Alike (t u : Plan) : Type 0 where
+  pub same : limits u ≡ limits t
+  pub owned : Owned u
+
+alike-remarked : (u v : Plan) → Remarked u v → Owned u → Alike u v
+unfolding limits
+alike-remarked (node o ts) (node p us) h k = go (h .rooted) (h .under)
   where
-    go : (b : Bool) → Alike (cond b (node o none) (node o none)) (cond b (node (track m o) none) (node (track m o) none))
-    go true = record { same = refl; owned = h }
-    go false = record { same = refl; owned = h }
-alike-tracked m (node o (t ∷ᶠ ts)) h = go (isRemoved o)
-  where
-    go : (b : Bool) → Alike (cond b (removeDistChangingOperators t) (node o (t ∷ᶠ ts))) (cond b (removeDistChangingOperators t) (node (track m o) (t ∷ᶠ ts)))
-    go true = record { same = refl; owned = owned-removed t (h .1 .0) }
-    go false = record { same = refl; owned = h }
+    same-root : p ≡ track (h .mark) o → ownLimit p us ≡ ownLimit o ts
+    same-root e = ap (λ (q : Operator). ownLimit q us) e ∙ own-owned (track (h .mark) o) us (k .0) ∙ sym (own-owned o ts (k .0))
+
+    owns : p ≡ track (h .mark) o → OwnsLimit p
+    owns e = subst OwnsLimit (sym e) (k .0)
+
+    go : p ≡ track (h .mark) o → (us ≡ ts) ⊎ (us ≡ updateEach ts) → Alike (node o ts) (node p us)
+    go e (inl f) = record { same = ap₂ _++_ (same-root e) (ap limitss f); owned = (owns e, subst Owneds (sym f) (k .1)) }
+    go e (inr f) = record { same = ap₂ _++_ (same-root e) (ap limitss f ∙ limitss-updated ts); owned = (owns e, subst Owneds (sym f) (owneds-updated ts (k .1))) }
 
 alike-updated : (t : Plan) → Owned t → Alike (removeDistChangingOperators t) (removeDistChangingOperators (updateChildren t))
-unfolding removeDistChangingOperators updateEach limits
-alike-updated (node o none) h = go (isRemoved o)
-  where
-    go : (b : Bool) → Alike (cond b (node o none) (node o none)) (cond b (node (track 0 o) none) (node (track 0 o) none))
-    go true = record { same = refl; owned = h }
-    go false = record { same = refl; owned = h }
-alike-updated (node o (node p us ∷ᶠ ts)) h = go (isRemoved o)
-  where
-    q : Operator
-    q = track (mark (changesDistribution p us)) p
-
-    go : (b : Bool)
-        → Alike (cond b (removeDistChangingOperators (node p us)) (node o (node p us ∷ᶠ ts)))
-        (cond b (removeDistChangingOperators (node q us)) (node (track 0 o) (node q us ∷ᶠ updateEach ts)))
-    go true = alike-tracked (mark (changesDistribution p us)) (node p us) (h .1 .0)
-    go false =
-        record {
-          same =
-              ap₂ _++_ (own-owned (track 0 o) (node q us ∷ᶠ updateEach ts) (h .0) ∙ sym (own-owned o (node p us ∷ᶠ ts) (h .0)))
-              (limitss-updated (node p us ∷ᶠ ts));
-          owned = (h .0, owneds-updated (node p us ∷ᶠ ts) (h .1));
-        }
+alike-updated t h = alike-remarked (removeDistChangingOperators t) (removeDistChangingOperators (updateChildren t)) (remarked t) (owned-removed t h)
 
 -- ---- the children of an answer
 

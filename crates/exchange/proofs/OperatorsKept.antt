@@ -2,17 +2,18 @@
 use Prim.Native.Nat.{ℕ, suc}
 use mathlib.Core.Path.{_≡_, refl, ap, ap₂, _∙_}
 use mathlib.Core.Bool.{Bool, true, false, cond}
+use mathlib.Core.Logic.{_⊎_, inl, inr}
 use mathlib.Core.List.{List, [], _∷_}
 use lib.ListN.{length}
 use Rattle.keys.proofs.Truths.{true-false}
-use Rattle.exchange.specs.Trees.{node, none, _∷ᶠ_, _++ᶠ_, root, Operator, Plan, Plans}
+use Rattle.exchange.specs.Trees.{node, none, _∷ᶠ_, _++ᶠ_, Operator, Plan, Plans}
 use Rattle.exchange.specs.declared.settings.Settings.{Settings}
 use Rattle.exchange.specs.Facts.{ChildFacts, Facts}
-use Rattle.exchange.specs.Operators.{mark, track}
-use Rattle.exchange.specs.Children.{changesDistribution, updateChild, updateEach, updateChildren, isRemoved, removeDistChangingOperators}
+use Rattle.exchange.specs.Children.{updateChild, updateEach, updateChildren, isRemoved, removeDistChangingOperators}
 use Rattle.exchange.specs.States.{ChildState, childrenFrom}
 use Rattle.exchange.specs.Ensure.{Answer, Ensured, answered, handled, finished, ensured}
 use Rattle.exchange.specs.Skeleton.{below, skeleton, skeletons}
+use Rattle.exchange.proofs.Remarked.{Remarked, remarked}
 use Rattle.exchange.proofs.Passing.{HoldsEnsured, Alls}
 use Rattle.exchange.proofs.Growing.{OfPlans, grown-steps, grown-relates}
 use Rattle.exchange.proofs.Answered.{Finished, Came, leaf, worked, came-always}
@@ -33,37 +34,12 @@ unfolding skeletons updateEach
 skeletons-updated none = refl
 skeletons-updated (t ∷ᶠ ts) = ap₂ _++ᶠ_ (skeleton-updated t) (skeletons-updated ts)
 
--- the worked node under a tree is the same whatever the mark of the root
-below-tracked : (m : ℕ) (t : Plan) → below (removeDistChangingOperators (node (track m (root t)) (below t))) ≡ below (removeDistChangingOperators t)
-unfolding removeDistChangingOperators
-below-tracked m (node o none) = go (isRemoved o)
+below-remarked : (u v : Plan) → Remarked u v → skeletons (below v) ≡ skeletons (below u)
+below-remarked u v h = go (h .under)
   where
-    go : (b : Bool) → below (cond b (node (track m o) none) (node (track m o) none)) ≡ below (cond b (node o none) (node o none))
-    go true = refl
-    go false = refl
-below-tracked m (node o (t ∷ᶠ ts)) = go (isRemoved o)
-  where
-    go : (b : Bool) → below (cond b (removeDistChangingOperators t) (node (track m o) (t ∷ᶠ ts))) ≡ below (cond b (removeDistChangingOperators t) (node o (t ∷ᶠ ts)))
-    go true = refl
-    go false = refl
-
-below-updated : (t : Plan) → skeletons (below (removeDistChangingOperators (updateChildren t))) ≡ skeletons (below (removeDistChangingOperators t))
-unfolding removeDistChangingOperators updateEach
-below-updated (node o none) = go (isRemoved o)
-  where
-    go : (b : Bool) → skeletons (below (cond b (node (track 0 o) none) (node (track 0 o) none))) ≡ skeletons (below (cond b (node o none) (node o none)))
-    go true = refl
-    go false = refl
-below-updated (node o (node p us ∷ᶠ ts)) = go (isRemoved o)
-  where
-    q : Operator
-    q = track (mark (changesDistribution p us)) p
-
-    go : (b : Bool)
-        → skeletons (below (cond b (removeDistChangingOperators (node q us)) (node (track 0 o) (node q us ∷ᶠ updateEach ts))))
-        ≡ skeletons (below (cond b (removeDistChangingOperators (node p us)) (node o (node p us ∷ᶠ ts))))
-    go true = ap skeletons (below-tracked (mark (changesDistribution p us)) (node p us))
-    go false = skeletons-updated (node p us ∷ᶠ ts)
+    go : (below v ≡ below u) ⊎ (below v ≡ updateEach (below u)) → skeletons (below v) ≡ skeletons (below u)
+    go (inl e) = ap skeletons e
+    go (inr e) = ap skeletons e ∙ skeletons-updated (below u)
 
 -- ---- the children of an answer
 
@@ -90,7 +66,7 @@ module _ (s : Settings) (f : Facts) where
   skeletons-came : (t : Plan) (a : Answer)
       → Came s f (OfPlans (λ t u. skeleton u ≡ skeleton t)) t a → skeletons (below (a .plan)) ≡ skeletons (below (removeDistChangingOperators t))
   unfolding removeDistChangingOperators updateEach
-  skeletons-came t a (worked h) = skeletons-finished _ _ a h ∙ below-updated t
+  skeletons-came t a (worked h) = skeletons-finished _ _ a h ∙ below-remarked (removeDistChangingOperators t) (removeDistChangingOperators (updateChildren t)) (remarked t)
   skeletons-came (node o none) a (leaf e h) = ap (λ (x : Plan). skeletons (below x)) h ∙ go (isRemoved o)
     where
       go : (b : Bool) → skeletons none ≡ skeletons (below (cond b (node o none) (node o none)))

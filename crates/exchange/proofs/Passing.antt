@@ -5,13 +5,15 @@ use mathlib.Core.Bool.{Bool, true, false, cond, _&&_}
 use mathlib.Core.Option.{Option, some, none as nothing}
 use mathlib.Core.List.{List, [], _∷_, map}
 use lib.Dec.{eqb}
-use Rattle.exchange.specs.Trees.{Operator}
+use Rattle.exchange.specs.Trees.{Operator, Plan}
 use Rattle.exchange.specs.declared.settings.Settings.{Settings}
-use Rattle.exchange.specs.Facts.{NodeFacts, Row, unsatisfiedAt}
-use Rattle.exchange.specs.States.{Child, ChildState, andThen, eachOf}
+use Rattle.exchange.specs.Forms.{Form}
+use Rattle.exchange.specs.Facts.{NodeFacts, Row, rowOf, unsatisfiedAt}
+use Rattle.exchange.specs.States.{Child, ChildState, withForm, pass, andThen, eachOf}
 use Rattle.exchange.specs.Status.{RepartitionRequirementStatus, statusOf}
 use Rattle.exchange.specs.Step.{ensureChild}
 use Rattle.exchange.specs.Relationships.{Enforced, rowMissing, stuck, enforced, isGivable, anyGivable, givenSet, addRelationshipOnTop, round, nextRound, rounds}
+use Rattle.exchange.specs.Reached.{passedInto}
 use Rattle.exchange.specs.Ensure.{Answer, Ensured, missingRow, unenforceable, answered}
 
 -- P of what is there
@@ -37,6 +39,15 @@ holds-then P Q (some a) f h g = g a h
 pub holds-cond : {A : Type 0} (P : A → Type 0) (b : Bool) (x y : Option A) → (b ≡ true → Holds P x) → (b ≡ false → Holds P y) → Holds P (cond b x y)
 holds-cond P true x y h k = h refl
 holds-cond P false x y h k = k refl
+
+-- P of a child that passes into a form, by the row of that form
+pub holds-pass : (P : ChildState → Type 0) (rows : List Row) (d : ChildState) (f : Form) (change : Row → Plan → Plan)
+    → ((x : Row) → rowOf rows (d .number) f ≡ some x → P (passedInto d f change x)) → Holds P (pass rows f change d)
+holds-pass P rows d f change h = go (rowOf rows (d .number) f) refl
+  where
+    go : (o : Option Row) → rowOf rows (d .number) f ≡ o → Holds P (withForm d f change o)
+    go nothing e = tt
+    go (some x) e = h x e
 
 -- P of each child and its state, in order
 abbrev pub Alls : (Child → ChildState → Type 0) → List Child → List ChildState → Type 0

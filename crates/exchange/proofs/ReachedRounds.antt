@@ -7,23 +7,24 @@ use mathlib.Core.Bool.{Bool, true, false, cond, not, _&&_}
 use mathlib.Core.Option.{Option, none, some}
 use mathlib.Core.List.{List, [], _∷_}
 use native.Mathlib.Omega.{arith}
-use lib.Dec.{eqb, ltb}
+use lib.Dec.{eqb}
 use lib.ListN.{length}
 use Rattle.exchange.specs.declared.settings.Settings.{Settings}
 use Rattle.exchange.specs.Trees.{node, Operator, Plan, Plans}
 use Rattle.exchange.specs.Settings.{isSet}
-use Rattle.exchange.specs.Operators.{isSingle, isKeyed}
+use Rattle.exchange.specs.Operators.{isKeyed}
 use Rattle.exchange.specs.Forms.{Form, plainForm, splitForm, withTop, withRelationship}
 use Rattle.exchange.specs.Facts.{NodeFacts, Row, Facts, rowOf}
 use Rattle.exchange.specs.States.{Child, ChildState, startedBy, withForm, childrenFrom, andThen}
 use Rattle.exchange.specs.Status.{RepartitionRequirementStatus, needsAlignment, getRepartitionRequirementStatus}
-use Rattle.exchange.specs.Step.{splitPlan, mergeOn, keyedOn, roundrobinOn, partitions, addRoundrobin, needsHashRepartition, splitAtSource, satisfyDistribution, ensureChild, ensureChildren}
+use Rattle.exchange.specs.Step.{splitPlan, mergeOn, keyedOn, roundrobinOn, splitAtSource, satisfyDistribution, ensureChild, ensureChildren}
 use Rattle.exchange.specs.Relationships.{enforced, alreadyTargetHash, round, rounds, enforceDistributionRelationships}
 use Rattle.exchange.specs.Ensure.{relate, childStates}
 use Rattle.exchange.specs.Built.{built}
 use Rattle.exchange.specs.Finished.{From, End, Finished, over, beside}
 use Rattle.exchange.proofs.Forms.{form-apart, form-small}
-use Rattle.exchange.proofs.Passing.{Holds, HoldsEnforced, Alls, Steps, Relates, holds-then, holds-cond, each-steps, each-step, each-round, all-rounds}
+use Rattle.exchange.proofs.Passing.{Holds, HoldsEnforced, Alls, Steps, Relates, holds-then, each-steps, each-step, each-round, all-rounds, holds-pass}
+use Rattle.exchange.proofs.StepWays.{holds-satisfied}
 use Rattle.exchange.proofs.Reached.{reached-related}
 use Rattle.exchange.proofs.Ensured.{Fresh, ensured-after}
 use Rattle.exchange.proofs.BuiltReached.{reached-built}
@@ -52,13 +53,10 @@ module _ (s : Settings) (worked : Operator) (b : NodeFacts) (rows : List Row) wh
       holds-then (SameFacts k) (SameFacts k) (andThen (startedBy k (rowOf rows (k .number) plainForm)) (splitAtSource s rows t)) (satisfyDistribution s worked b rows t)
       (holds-then (SameFacts k) (SameFacts k) (startedBy k (rowOf rows (k .number) plainForm)) (splitAtSource s rows t) (facts-begun k (rowOf rows (k .number) plainForm))
       (λ c h. facts-may k c (isSet (s .split) && (t .roundrobinBeneficialStats && isSet (c .facts .splits))) splitForm splitPlan (rowOf rows (c .number) splitForm) h))
-      (λ c h.
-      let put : (x : Bool) (top : ℕ) (change : Row → Plan → Plan)
-      → Holds (SameFacts k) (cond x (withForm c (withTop top (c .form)) change (rowOf rows (c .number) (withTop top (c .form)))) (some c)) =
-      λ x top change. facts-may k c x (withTop top (c .form)) change (rowOf rows (c .number) (withTop top (c .form))) h in
-      holds-cond (SameFacts k) (isSingle (c .need)) _ _ (λ e. put (ltb 1 (partitions c)) 1 mergeOn)
-      (λ e. holds-cond (SameFacts k) (isKeyed (c .need)) _ _ (λ d. put (t .hashNecessary && needsHashRepartition s worked t c) 2 keyedOn)
-      (λ d. holds-cond (SameFacts k) (addRoundrobin s worked b t) _ (some c) (λ i. put (ltb (partitions c) (s .target)) 3 roundrobinOn) (λ i. h))))
+      (λ c h. holds-satisfied s worked b rows (SameFacts k) t c h
+      (holds-pass (SameFacts k) rows c (withTop 1 (c .form)) mergeOn (λ x e. h))
+      (holds-pass (SameFacts k) rows c (withTop 2 (c .form)) keyedOn (λ x e. h))
+      (holds-pass (SameFacts k) rows c (withTop 3 (c .form)) roundrobinOn (λ x e. h)))
 
   -- ---- a step, and a relationship exchange
 

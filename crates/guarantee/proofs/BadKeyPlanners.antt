@@ -15,7 +15,7 @@ use Rattle.text.specs.Bounds.{fits, allowsAll}
 use Rattle.text.proofs.Examples.{bytes}
 use Rattle.keys.specs.Expressions.{sameExpr, column, placeholder}
 use Rattle.keys.specs.Arrange.{Arrangement, times, Lacks, left, right, leftRewritten, rightRewritten}
-use Rattle.keys.specs.Adjust.{KeySheet}
+use Rattle.keys.specs.Adjust.{KeySheet, joinedBy}
 use Rattle.keys.specs.Kept.{sheetPairs, FitsPairs, NothingFits}
 use Rattle.keys.proofs.Truths.{true-false}
 use Rattle.keys.proofs.Marked.{sortMerge}
@@ -26,7 +26,7 @@ use Rattle.sheet.specs.KeyAnswers.{wrote, keyAnswerText}
 use Rattle.lochkave.specs.Decision.{decision}
 use Rattle.guarantee.specs.Conditions.{keyExpressions, NoPlaceholder}
 use Rattle.guarantee.specs.Guarantee.{KeysKept, Guaranteed}
-use Rattle.guarantee.specs.BadPlanners.{joinAnswer, asItStood, sheetOrderAlways, unsearched, impossibleUnsearched}
+use Rattle.guarantee.specs.BadPlanners.{asItStood, sheetOrderAlways, unsearched, impossibleUnsearched}
 use Rattle.guarantee.proofs.SheetsOnce.{not-key-and-join, same-sheet, keys-speak}
 use Rattle.guarantee.proofs.KeysGuaranteed.{keys-guaranteed}
 
@@ -96,13 +96,13 @@ module _ (report : KeySheet → ℕ) (positions : KeySheet → List ℕ) where
   sheet-order-fails a e g =
       stood-not-kept (keys-speak printedSheet a printed (asItStood report positions printed) printed-read (cc sheet-order-writes) g)
 
-pub unsearched-writes : impossibleUnsearched printedSheet ≡ wrote (keyAnswerText (joinAnswer printed (unsearched printed)))
+pub unsearched-writes : impossibleUnsearched printedSheet ≡ wrote (keyAnswerText (joinedBy printed (unsearched printed)))
 unfolding impossibleUnsearched
 unsearched-writes = rw printed-read
 
-unsearched-not-kept : KeysKept printed (joinAnswer printed (unsearched printed)) → ⊥
+unsearched-not-kept : KeysKept printed (joinedBy printed (unsearched printed)) → ⊥
 unsearched-not-kept k = something-fits (k .exact .impossible refl .0 refl)
 
 pub unsearched-fails : (a : List ℕ) → impossibleUnsearched printedSheet ≡ wrote a → Guaranteed printedSheet a → ⊥
 unsearched-fails a e g =
-    unsearched-not-kept (keys-speak printedSheet a printed (joinAnswer printed (unsearched printed)) printed-read (cc unsearched-writes) g)
+    unsearched-not-kept (keys-speak printedSheet a printed (joinedBy printed (unsearched printed)) printed-read (cc unsearched-writes) g)

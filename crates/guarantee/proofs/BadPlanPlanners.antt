@@ -33,7 +33,7 @@ use Rattle.plananswer.specs.PlanTexts.{planLines, planAnswerText}
 use Rattle.lochkave.specs.Decision.{decision}
 use Rattle.guarantee.specs.Partitioning.{newOnTop, needsHad}
 use Rattle.guarantee.specs.Guarantee.{PlanKept, Guaranteed}
-use Rattle.guarantee.specs.BadPlanners.{treesCopied, stock, turnedBack}
+use Rattle.guarantee.specs.BadPlanners.{answerWith, treesCopied, stock, turnedBack}
 use Rattle.guarantee.proofs.KeyNeeded.{markedSheet, markedAnswer, marked-decided}
 use Rattle.guarantee.proofs.PlanNeeded.{unmetSheet, unmetAnswer, unmet-decided}
 use Rattle.guarantee.proofs.PlanSpeaks.{plan-says}
@@ -53,13 +53,7 @@ asked = record {
 
 -- the copy as it is read
 abbrev given : Answer
-given = record {
-  changed = 1;
-  window = 0;
-  interleave = 0;
-  tracked = 0;
-  plan = above (told 1 0 1 0 absent 0 0 0 0) (leaf (told 2 0 2 0 absent 0 0 0 0));
-}
+given = answerWith (above (told 1 0 1 0 absent 0 0 0 0) (leaf (told 2 0 2 0 absent 0 0 0 0)))
 
 pub merge-read : readPlan mergeSheet ≡ sheet asked
 unfolding onto parts run field fields lineFields firstOf fits allowsAll lineNumber rowsOf chain packedRow flatten grow withinBits allWithinBits isRepeated noneRepeated childNumbered rowsFit factsFit removeDistChangingOperators childrenFrom overAny twoTo operatorRows planOf childCount readMasks readChildren readFacts readPlan

@@ -5,7 +5,7 @@ use mathlib.Core.Bool.{Bool, true, false, cond, not, _&&_}
 use mathlib.Core.Option.{Option, some, none as nothing}
 use mathlib.Core.List.{List, [], _∷_, _++_}
 use native.Mathlib.Omega.{arith}
-use lib.Dec.{eqb, ltb}
+use lib.Dec.{eqb}
 use borrow.Author.Tests.{not-true}
 use Rattle.keys.proofs.Truths.{and-first}
 use Rattle.exchange.specs.Trees.{node, root, Operator, Plan}
@@ -13,13 +13,14 @@ use Rattle.exchange.specs.declared.settings.Settings.{Settings}
 use Rattle.exchange.specs.Settings.{isSet}
 use Rattle.exchange.specs.Forms.{Form, plainForm, splitForm, withTop, withRelationship}
 use Rattle.exchange.specs.Facts.{NodeFacts, Row, rowOf}
-use Rattle.exchange.specs.Operators.{isSingle, isKeyed, mark, hasOrder}
-use Rattle.exchange.specs.States.{Child, ChildState, withForm, pass, startedBy, started, andThen}
+use Rattle.exchange.specs.Operators.{isKeyed, mark, hasOrder}
+use Rattle.exchange.specs.States.{Child, ChildState, pass, startedBy, started, andThen}
 use Rattle.exchange.specs.Status.{rowsGain, statusOf}
-use Rattle.exchange.specs.Step.{splitPlan, mergeOn, keyedOn, roundrobinOn, partitions, addMergeOnTop, addRoundrobin, splitAtSource, needsHashRepartition, satisfyDistribution, ensureChild}
+use Rattle.exchange.specs.Step.{splitPlan, mergeOn, keyedOn, roundrobinOn, splitAtSource, satisfyDistribution, ensureChild}
 use Rattle.exchange.specs.Relationships.{isGiven, alreadyTargetHash}
 use Rattle.exchange.specs.Partitioning.{isSplit}
-use Rattle.exchange.proofs.Passing.{Holds, holds-then, holds-cond, EachSteps, Relates}
+use Rattle.exchange.proofs.StepWays.{holds-satisfied}
+use Rattle.exchange.proofs.Passing.{Holds, holds-then, holds-cond, holds-pass, EachSteps, Relates}
 use Rattle.guarantee.specs.Partitioning.{newOnTop}
 
 -- the tops of a form: its relationship exchange, and what is under that
@@ -67,16 +68,6 @@ module _ (s : Settings) (w : Operator) (b : NodeFacts) (rows : List Row) where
     relationship : d .form .relationship ≡ 0
     tops : newOnTop (d .plan) ≡ []
 
-  -- passing into a form
-  passes : (P : ChildState → Type 0) (d : ChildState) (f : Form) (change : Row → Plan → Plan)
-      → ((x : Row) → P (record { number = d .number; facts = d .facts; need = d .need; form = f; row = x; plan = change x (d .plan) }))
-      → Holds P (pass rows f change d)
-  passes P d f change h = go (rowOf rows (d .number) f)
-    where
-      go : (o : Option Row) → Holds P (withForm d f change o)
-      go nothing = tt
-      go (some x) = h x
-
   begins : (c : Child) → newOnTop (c .plan) ≡ [] → Holds (Begun c) (started rows c)
   begins c e = go (rowOf rows (c .number) plainForm)
     where
@@ -87,7 +78,7 @@ module _ (s : Settings) (w : Operator) (b : NodeFacts) (rows : List Row) where
   splits : (c : Child) (aligned : Bool) (d : ChildState) → Begun c d → Holds (Bare c) (splitAtSource s rows (statusOf s aligned c) d)
   splits c aligned d h =
       holds-cond (Bare c) (isSet (s .split) && (rowsGain s (c .facts) && isSet (d .facts .splits))) (pass rows splitForm splitPlan d) (some d)
-      (λ e. passes (Bare c) d splitForm splitPlan (λ x. record {
+      (λ e. holds-pass (Bare c) rows d splitForm splitPlan (λ x r. record {
         split = ap mark (sym (told e));
         top = refl;
         relationship = refl;
@@ -113,14 +104,8 @@ module _ (s : Settings) (w : Operator) (b : NodeFacts) (rows : List Row) where
   satisfies : (c : Child) (aligned : Bool) (d : ChildState) → Bare c d → Holds (Formed c) (satisfyDistribution s w b rows (statusOf s aligned c) d)
   satisfies c aligned d h =
       let put : (k : ℕ) (on : Row → Plan → Plan) → eqb k 0 ≡ false → ((x : Row) (t : Plan) → newOnTop (on x t) ≡ k ∷ newOnTop t) → Holds (Formed c) (pass rows (withTop k (d .form)) on d) =
-      λ k on z e. passes (Formed c) d (withTop k (d .form)) on (λ x. topped c d k x (on x (d .plan)) z (e x (d .plan)) h) in
-      holds-cond (Formed c) (isSingle (d .need)) (addMergeOnTop rows d) _
-      (λ e. holds-cond (Formed c) (ltb 1 (partitions d)) _ (some d) (λ e. put 1 mergeOn refl tops-merge) (λ e. stays c d h))
-      (λ e. holds-cond (Formed c) (isKeyed (d .need)) _ _
-      (λ e. holds-cond (Formed c) (statusOf s aligned c .hashNecessary && needsHashRepartition s w (statusOf s aligned c) d) _ (some d) (λ e. put 2 keyedOn refl tops-keyed) (λ e. stays c d h))
-      (λ e. holds-cond (Formed c) (addRoundrobin s w b (statusOf s aligned c)) _ (some d)
-      (λ e. holds-cond (Formed c) (ltb (partitions d) (s .target)) _ (some d) (λ e. put 3 roundrobinOn refl tops-dealt) (λ e. stays c d h))
-      (λ e. stays c d h)))
+      λ k on z e. holds-pass (Formed c) rows d (withTop k (d .form)) on (λ x r. topped c d k x (on x (d .plan)) z (e x (d .plan)) h) in
+      holds-satisfied s w b rows (Formed c) (statusOf s aligned c) d (stays c d h) (put 1 mergeOn refl tops-merge) (put 2 keyedOn refl tops-keyed) (put 3 roundrobinOn refl tops-dealt)
 
   step-formed : (c : Child) (aligned : Bool) → newOnTop (c .plan) ≡ [] → Holds (Formed c) (ensureChild s w b rows (statusOf s aligned c))
   unfolding ensureChild
@@ -142,7 +127,7 @@ module _ (s : Settings) (w : Operator) (b : NodeFacts) (rows : List Row) where
 
   pub related-formed : Relates s w b rows Formed
   related-formed c d g h =
-      passes (Formed c) d (withRelationship (d .form)) keyedOn (λ x. record {
+      holds-pass (Formed c) rows d (withRelationship (d .form)) keyedOn (λ x r. record {
         split = h .split;
         tops = tops-keyed x (d .plan) ∙ ap (λ (ks : List ℕ). 2 ∷ ks) (h .tops ∙ rw ungiven);
         bit = omega arith;

@@ -23,7 +23,7 @@ use Rattle.guarantee.specs.Operators.{worked}
 use Rattle.guarantee.specs.Partitioning.{newOnTop, topmost, lastForm, says, singleHad, keyedHad, needHad}
 use Rattle.guarantee.proofs.Tops.{tops-handled, keyed-topmost}
 use Rattle.guarantee.proofs.ChildForms.{formTops, Formed}
-use Rattle.guarantee.proofs.Remarked.{SameChild}
+use Rattle.guarantee.proofs.SameChildren.{SameChild}
 
 -- a single test, or a keyed one that asks the last of three only where the second fails
 pick : (a k x q y z : Bool) → (q ≡ false → y ≡ z) → cond a x (cond k (x || (q || y)) true) ≡ true → cond a x (cond k (x || (q || z)) true) ≡ true

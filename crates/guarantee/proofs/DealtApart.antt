@@ -25,7 +25,7 @@ use Rattle.plansheet.specs.PlanSheets.{PlanSheet, operatorRows, planOf, childCo
 use Rattle.plananswer.specs.PlanTexts.{planLines, planAnswerText}
 use Rattle.guarantee.specs.Partitioning.{newOnTop}
 use Rattle.guarantee.specs.Guarantee.{PlanKept, Guaranteed}
-use Rattle.guarantee.specs.BadPlanners.{treesCopied}
+use Rattle.guarantee.specs.BadPlanners.{answerWith, treesCopied}
 use Rattle.guarantee.proofs.PlanSpeaks.{plan-says}
 
 abbrev pub joinSheet : List ℕ
@@ -42,13 +42,7 @@ asked = record {
 }
 
 abbrev given : Answer
-given = record {
-  changed = 1;
-  window = 0;
-  interleave = 0;
-  tracked = 0;
-  plan = node (told 1 5 1 0 absent 0 0 0 0) (leaf (told 2 0 1 0 absent 0 0 0 0) ∷ᶠ leaf (told 3 0 1 0 absent 0 0 0 0) ∷ᶠ none);
-}
+given = answerWith (node (told 1 5 1 0 absent 0 0 0 0) (leaf (told 2 0 1 0 absent 0 0 0 0) ∷ᶠ leaf (told 3 0 1 0 absent 0 0 0 0) ∷ᶠ none))
 
 join-read : readPlan joinSheet ≡ sheet asked
 unfolding onto parts run field fields lineFields firstOf fits allowsAll lineNumber rowsOf chain packedRow flatten grow withinBits allWithinBits isRepeated noneRepeated childNumbered rowsFit factsFit removeDistChangingOperators childrenFrom overAny twoTo operatorRows planOf childCount readMasks readChildren readFacts readPlan

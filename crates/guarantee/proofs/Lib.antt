@@ -1,6 +1,6 @@
 pub mod Tops
 pub mod ChildForms
-pub mod Remarked
+pub mod SameChildren
 pub mod Limits
 pub mod ChildNeeds
 pub mod PlanAnswered

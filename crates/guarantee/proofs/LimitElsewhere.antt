@@ -27,6 +27,7 @@ use Rattle.plansheet.specs.PlanSheets.{PlanSheet, operatorRows, planOf, childCo
 use Rattle.plananswer.specs.PlanTexts.{planLines, planAnswerText}
 use Rattle.guarantee.specs.Limits.{LimitIn}
 use Rattle.guarantee.specs.Guarantee.{PlanKept, Guaranteed}
+use Rattle.guarantee.specs.BadPlanners.{answerWith}
 use Rattle.guarantee.proofs.PlanSpeaks.{plan-says}
 
 -- "(10) merge with limit 0: coalesce, sort above with limit 0"
@@ -52,7 +53,7 @@ tree =
     (above (told 0 11 1 0 (some 0) 1 0 0 0) (above (told 0 13 4 0 absent 0 0 1 0) (above (told 2 2 1 0 absent 0 0 1 0) (leaf (told 3 0 2 0 absent 1 0 0 0)))))
 
 abbrev given : Answer
-given = record { changed = 1; window = 0; interleave = 0; tracked = 0; plan = tree }
+given = answerWith tree
 
 limited-read : readPlan limitedSheet ≡ sheet asked
 unfolding onto parts run field fields lineFields firstOf fits allowsAll lineNumber rowsOf chain packedRow flatten grow withinBits allWithinBits isRepeated noneRepeated childNumbered rowsFit factsFit removeDistChangingOperators childrenFrom overAny twoTo operatorRows planOf childCount readMasks readChildren readFacts readPlan

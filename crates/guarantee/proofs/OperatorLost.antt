@@ -14,6 +14,7 @@ use Rattle.exchange.specs.Ensure.{Answer}
 use Rattle.exchange.proofs.Cases.{told, leaf}
 use Rattle.plananswer.specs.PlanTexts.{planLines, planAnswerText}
 use Rattle.guarantee.specs.Guarantee.{PlanKept, Guaranteed}
+use Rattle.guarantee.specs.BadPlanners.{answerWith}
 use Rattle.guarantee.proofs.PlanSpeaks.{plan-says}
 use Rattle.guarantee.proofs.BadPlanPlanners.{mergeSheet, asked, merge-read}
 
@@ -21,13 +22,7 @@ abbrev pub without : List ℕ
 without = bytes "d,1,0,0,0\nt,1,0,1,0,,0,0,0,1\nt,0,2,1,0,,0,0,1,0\n"
 
 abbrev given : Answer
-given = record {
-  changed = 1;
-  window = 0;
-  interleave = 0;
-  tracked = 0;
-  plan = above (told 1 0 1 0 absent 0 0 0 0) (leaf (told 0 2 1 0 absent 0 0 1 0));
-}
+given = answerWith (above (told 1 0 1 0 absent 0 0 0 0) (leaf (told 0 2 1 0 absent 0 0 1 0)))
 
 without-text : without ≡ planAnswerText given
 unfolding digits decimal fieldText fieldsText lineText planLines planAnswerText

@@ -15,7 +15,7 @@ use Rattle.exchange.specs.Partitioning.{workedOf}
 use Rattle.exchange.proofs.OperatorsKept.{operators-kept}
 use Rattle.plansheet.specs.PlanSheets.{PlanSheet}
 use Rattle.guarantee.specs.Operators.{worked as workedNode, SameKind, OperatorsKept}
-use Rattle.guarantee.proofs.Remarked.{Remarked, remarked}
+use Rattle.exchange.proofs.Remarked.{Remarked, remarked}
 use Rattle.guarantee.proofs.PlanAnswered.{Answered, only, over}
 
 -- an operator that is the same but for its mark, and for an interleave in the place of a union

@@ -19,8 +19,9 @@ use Rattle.guarantee.specs.Operators.{worked}
 use Rattle.guarantee.specs.Partitioning.{children, needHad, needsHad, PartitioningHad}
 use Rattle.guarantee.proofs.ChildForms.{Formed}
 use Rattle.guarantee.proofs.ChildNeeds.{need-had}
-use Rattle.guarantee.proofs.Remarked as marks
-use Rattle.guarantee.proofs.Remarked.{Remarked, SameChildren, remarked, same-children}
+use Rattle.guarantee.proofs.SameChildren as marks
+use Rattle.exchange.proofs.Remarked.{Remarked, remarked}
+use Rattle.guarantee.proofs.SameChildren.{SameChildren, same-children}
 use Rattle.guarantee.proofs.PlanAnswered.{Answered, only, over}
 
 module _ (x : PlanSheet) (w : Operator) (m n : ℕ) (marked : w ≡ track m (root (worked x))) where

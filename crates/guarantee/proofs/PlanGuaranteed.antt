@@ -24,8 +24,9 @@ use Rattle.guarantee.specs.Conditions.{SplitsGain}
 use Rattle.guarantee.specs.Operators.{worked}
 use Rattle.guarantee.specs.Partitioning.{children}
 use Rattle.guarantee.specs.Guarantee.{PlanKept, Guaranteed, plan}
-use Rattle.guarantee.proofs.Remarked as marks
-use Rattle.guarantee.proofs.Remarked.{SameChildren, remarked, same-children}
+use Rattle.guarantee.proofs.SameChildren as marks
+use Rattle.exchange.proofs.Remarked.{remarked}
+use Rattle.guarantee.proofs.SameChildren.{SameChildren, same-children}
 use Rattle.guarantee.proofs.PlanAnswered.{Answered, plan-answered}
 use Rattle.guarantee.proofs.Operators.{plan-operators-kept}
 use Rattle.guarantee.proofs.Limits.{limits-kept}

@@ -37,6 +37,7 @@ use Rattle.lochkave.specs.Decision.{decision}
 use Rattle.guarantee.specs.Conditions.{NoPlaceholder}
 use Rattle.guarantee.specs.Partitioning.{newOnTop, needsHad}
 use Rattle.guarantee.specs.Guarantee.{PlanKept, Guaranteed}
+use Rattle.guarantee.specs.BadPlanners.{answerWith}
 use Rattle.guarantee.proofs.SheetsOnce.{not-key-and-plan, not-join-and-plan}
 use Rattle.guarantee.proofs.PlanSpeaks.{plan-says}
 
@@ -57,13 +58,7 @@ abbrev asked : PlanSheet
 asked = record { settings = unmet.s; plan = unmet.t; facts = unmet.f }
 
 abbrev given : Answer
-given = record {
-  changed = 1;
-  window = 0;
-  interleave = 0;
-  tracked = 0;
-  plan = above (told 1 0 1 0 absent 0 0 0 0) (leaf (told 2 0 4 0 absent 0 0 1 0));
-}
+given = answerWith (above (told 1 0 1 0 absent 0 0 0 0) (leaf (told 2 0 4 0 absent 0 0 1 0)))
 
 unmet-read : readPlan unmetSheet ≡ sheet asked
 unfolding onto parts run field fields lineFields firstOf fits allowsAll lineNumber rowsOf chain packedRow flatten grow withinBits allWithinBits isRepeated noneRepeated childNumbered rowsFit factsFit removeDistChangingOperators childrenFrom overAny twoTo operatorRows planOf childCount readMasks readChildren readFacts readPlan

@@ -7,10 +7,11 @@ use lib.Dec.{eqb}
 use lib.ListN.{length, getD}
 use Rattle.keys.specs.Reorder.{Tried, met, rewrite, meets}
 use Rattle.keys.specs.Expressions.{Expression, sameExpr}
-use Rattle.keys.specs.Adjust.{KeySheet, KeyAnswer, Adjustment, answered, handOver, given, directionsOf, adjustInputKeysOrdering}
+use Rattle.keys.specs.Adjust.{KeySheet, KeyAnswer, Adjustment, answered, handOver, given, joinedBy, adjustInputKeysOrdering}
 use Rattle.keys.specs.Kept.{orderTried}
 use Rattle.sheet.specs.KeySheets.{Reading, sheet, turned, readKeySheet}
 use Rattle.sheet.specs.KeyAnswers.{Outcome, refused, wrote, adjusted}
+use Rattle.exchange.specs.Trees.{Plan}
 use Rattle.exchange.specs.Ensure.{Answer}
 use Rattle.plansheet.specs.PlanSheets.{PlanSheet, readPlan}
 use Rattle.plananswer.specs.PlanTexts.{planAnswerText}
@@ -24,20 +25,6 @@ keysBy f (sheet x) = adjusted (f x)
 
 abbrev pub plannerBy : (KeySheet → Adjustment) → List ℕ → Outcome
 plannerBy f s = cond (eqb (getD s 0 0) 75) (keysBy f (readKeySheet s)) (decision s)
-
--- the answer of a join whose order was tried, with t
-abbrev pub joinAnswer : KeySheet → Tried Expression → KeyAnswer
-joinAnswer x t = record {
-  changed = 1;
-  report = t .report;
-  positions = t .positions;
-  required = x .required;
-  left = t .left;
-  right = t .right;
-  directions = directionsOf (x .directions) t;
-  projection = [];
-  children = handOver (given (t .left)) (given (t .right)) (x .children);
-}
 
 -- a planner of joins by f, every other K sheet as `decision` has it
 abbrev pub joinsBy : (KeySheet → KeyAnswer) → KeySheet → Adjustment
@@ -76,13 +63,17 @@ unsearched x =
     (record { report = 3; positions = []; left = x .left; right = x .right })
 
 unfoldable pub impossibleUnsearched : List ℕ → Outcome
-impossibleUnsearched = plannerBy (joinsBy (λ x. joinAnswer x (unsearched x)))
+impossibleUnsearched = plannerBy (joinsBy (λ x. joinedBy x (unsearched x)))
 
 -- ---- "keys ordered, trees copied"
 
+-- an answer that says no more than its tree
+abbrev pub answerWith : Plan → Answer
+answerWith t = record { changed = 1; window = 0; interleave = 0; tracked = 0; plan = t }
+
 -- the tree of a D sheet as it stands, from its worked node on
 abbrev pub copied : PlanSheet → Answer
-copied x = record { changed = 1; window = 0; interleave = 0; tracked = 0; plan = worked x }
+copied x = answerWith (worked x)
 
 abbrev pub copying : Reading PlanSheet → Outcome
 copying (turned n l) = refused n l

@@ -13,7 +13,7 @@ use types.Run.{OneOf}
 use denote.Enum.Declared.{tagOf}
 use Rattle.keys.specs.Reorder.{Tried, tryReorder}
 use Rattle.keys.specs.Expressions.{Expression, sameExpr, goneNumber, expression, expressions}
-use Rattle.keys.specs.Adjust.{KeySheet, Adjustment, answered, handOver, given, movedDirections, directionsOf, reorderPartitionedJoinKeys}
+use Rattle.keys.specs.Adjust.{KeySheet, Adjustment, answered, handOver, given, movedDirections, reorderPartitionedJoinKeys, joinedBy}
 use Rattle.keys.specs.Arrange.{Below}
 use Rattle.keys.specs.Values.{packedKeys, numbers, WholeNumbers, numberRules, reportOf, triedOf}
 use Rattle.keys.specs.Answers.{keySheet, Directed, adjustedOf}
@@ -38,17 +38,7 @@ not-moved Impossible h = inr refl
 
 -- what is answered of a join by what was tried
 abbrev byTried : KeySheet → Tried Expression → Adjustment
-byTried s t = answered (record {
-  changed = 1;
-  report = t .report;
-  positions = t .positions;
-  required = s .required;
-  left = t .left;
-  right = t .right;
-  directions = directionsOf (s .directions) t;
-  projection = [];
-  children = handOver (given (t .left)) (given (t .right)) (s .children);
-})
+byTried s t = answered (joinedBy s t)
 
 module _ (r l g : List ℕ) (w : List (List ℕ)) (n : length g ≡ length l) (t : Reorder) (so : triedOf l g t ≡ tryReorder eqb goneNumber (numberRules w) r l g) where
   report-is : (o : Reordered) → t .outcome ≡ o → tryReorder eqb goneNumber (numberRules w) r l g .report ≡ reportOf o

@@ -18,26 +18,12 @@ use Rattle.keys.specs.Lists.{permute}
 use Rattle.keys.specs.Reorder.{Tried, tryReorder}
 use Rattle.keys.specs.Expressions.{Expression, placeholder}
 use Rattle.keys.specs.Arrange.{Equivalence}
-use Rattle.keys.specs.Adjust.{KeySheet, KeyAnswer, Adjustment, answered, handOver, given, movedDirections, directionsOf, namePlaces, regrouped, adjustInputKeysOrdering}
+use Rattle.keys.specs.Adjust.{KeySheet, KeyAnswer, Adjustment, answered, movedDirections, directionsOf, passedOn, joinedBy, namePlaces, regrouped, adjustInputKeysOrdering}
 use Rattle.keys.specs.Kept.{PairsKept, LacksPlaceholder, NothingFits, ComesOutFitting, orderTried, sheetPairs, answerPairs, PairsStand, KeyPairsKept, replanned, confirmed}
 use Rattle.keys.proofs.Truths.{true-false}
 use Rattle.keys.proofs.Again.{settled, again}
 use Rattle.keys.proofs.TriedPairs.{tried-kept, tried-exact, tried-fits}
-use Rattle.keys.proofs.KeyWays.{KeyWay, passedOn, passing, joining, regrouping, key-way}
-
--- the answer of a join whose order was tried, with t
-abbrev joinedBy : KeySheet → Tried Expression → KeyAnswer
-joinedBy s t = record {
-  changed = 1;
-  report = t .report;
-  positions = t .positions;
-  required = s .required;
-  left = t .left;
-  right = t .right;
-  directions = directionsOf (s .directions) t;
-  projection = [];
-  children = handOver (given (t .left)) (given (t .right)) (s .children);
-}
+use Rattle.keys.proofs.KeyWays.{KeyWay, passing, joining, regrouping, key-way}
 
 settled-directions : (d : List ℕ) (t : Tried Expression) → directionsOf d (settled t) ≡ d
 settled-directions d t = go (eqb (t .report) 3)

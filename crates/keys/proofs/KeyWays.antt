@@ -3,30 +3,16 @@ use Prim.Native.Nat.{ℕ}
 use mathlib.Core.Path.{_≡_, refl}
 use mathlib.Core.Bool.{Bool, true, false, not, _&&_}
 use mathlib.Core.Option.{Option, none, some}
-use mathlib.Core.List.{List, [], _++_}
+use mathlib.Core.List.{List, _++_}
 use native.Mathlib.Omega.{arith}
 use borrow.Author.Tests.{eqb-true, ne-eqb}
 use lib.Dec.{eqb}
 use lib.ListN.{length}
 use Rattle.keys.specs.Lists.{sameList, expectedExprPositions, permute}
 use Rattle.keys.specs.Expressions.{Expression, placeholder}
-use Rattle.keys.specs.Adjust.{KeySheet, KeyAnswer, Adjustment, answered, columnsFrom, namePlaces, reorderPartitionedJoinKeys, regrouped, regroupedBy, aggregate, hashJoin, adjustInputKeysOrdering}
+use Rattle.keys.specs.Adjust.{KeySheet, Adjustment, answered, passedOn, columnsFrom, namePlaces, reorderPartitionedJoinKeys, regrouped, regroupedBy, aggregate, hashJoin, adjustInputKeysOrdering}
 use Rattle.keys.specs.Kept.{orderTried}
 use Rattle.keys.proofs.Truths.{and-first, by-test}
-
--- an answer that passes the sheet's pairs on
-abbrev pub passedOn : KeySheet → ℕ → List Expression → List (List Expression) → KeyAnswer
-passedOn s changed required children = record {
-  changed = changed;
-  report = 0;
-  positions = [];
-  required = required;
-  left = s .left;
-  right = s .right;
-  directions = s .directions;
-  projection = [];
-  children = children;
-}
 
 module _ (same : Expression → Expression → Bool) (s : KeySheet) where
   pub data KeyWay : Adjustment → Type 0 where

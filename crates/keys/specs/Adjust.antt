@@ -60,20 +60,24 @@ kept c = c
 abbrev pub given : List Expression → List Expression → List Expression
 given xs c = xs
 
+-- an answer that passes the sheet's pairs on: no join key and no direction moves, and no order is tried
+abbrev pub passedOn : KeySheet → ℕ → List Expression → List (List Expression) → KeyAnswer
+passedOn s changed required children = record {
+  changed = changed;
+  report = 0;
+  positions = [];
+  required = required;
+  left = s .left;
+  right = s .right;
+  directions = s .directions;
+  projection = [];
+  children = children;
+}
+
 module _ (s : KeySheet) where
-  -- no join key and no direction moves, and no order is tried: the mark, R, and what the children are handed
+  -- the mark, R, and what the children are handed
   abbrev pub passed : ℕ → List Expression → (List Expression → List Expression) → (List Expression → List Expression) → Adjustment
-  passed changed required f g = answered (record {
-    changed = changed;
-    report = 0;
-    positions = [];
-    required = required;
-    left = s .left;
-    right = s .right;
-    directions = s .directions;
-    projection = [];
-    children = handOver f g (s .children);
-  })
+  passed changed required f g = answered (passedOn s changed required (handOver f g (s .children)))
 
   abbrev pub unchanged : Adjustment
   unchanged = passed 0 (s .required) kept kept
@@ -129,22 +133,24 @@ abbrev pub namesFrom : ℕ → List ℕ → List Projected
 namesFrom i [] = []
 namesFrom i (n ∷ ns) = record { name = n; place = i } ∷ namesFrom (suc i) ns
 
+-- the answer of a join whose order was tried: the children get the resulting keys in every case
+abbrev pub joinedBy : KeySheet → Tried Expression → KeyAnswer
+joinedBy s t = record {
+  changed = 1;
+  report = t .report;
+  positions = t .positions;
+  required = s .required;
+  left = t .left;
+  right = t .right;
+  directions = directionsOf (s .directions) t;
+  projection = [];
+  children = handOver (given (t .left)) (given (t .right)) (s .children);
+}
+
 module _ (same : Expression → Expression → Bool) (s : KeySheet) where
-  -- ops 0 (Partitioned) and 2: the children get the resulting keys in every case
+  -- ops 0 (Partitioned) and 2
   abbrev pub reorderPartitionedJoinKeys : Adjustment
-  reorderPartitionedJoinKeys =
-      let t = tryReorder same placeholder (s .rewriting) (s .required) (s .left) (s .right) in
-      answered (record {
-        changed = 1;
-        report = t .report;
-        positions = t .positions;
-        required = s .required;
-        left = t .left;
-        right = t .right;
-        directions = directionsOf (s .directions) t;
-        projection = [];
-        children = handOver (given (t .left)) (given (t .right)) (s .children);
-      })
+  reorderPartitionedJoinKeys = answered (joinedBy s (tryReorder same placeholder (s .rewriting) (s .required) (s .left) (s .right)))
 
   -- CollectLeft: what the second child gets, by the join's type
   abbrev pub pushedRight : List Expression

@@ -6,7 +6,7 @@ use mathlib.Core.Option.{Option, some, none as nothing}
 use mathlib.Core.List.{List, [], _∷_}
 use Prim.Native.Nat.{ℕ, suc, _≤_}
 use native.Mathlib.Omega.{arith}
-use lib.Dec.{eqb, ltb}
+use lib.Dec.{eqb}
 use lib.ListN.{length}
 use Rattle.sheet.specs.Sizes.{Each}
 use Rattle.exchange.specs.Trees.{node, none, _∷ᶠ_, root, Operator, Plan, Plans}
@@ -14,14 +14,15 @@ use Rattle.exchange.specs.declared.settings.Settings.{Settings}
 use Rattle.exchange.specs.Settings.{isSet}
 use Rattle.exchange.specs.Forms.{Form, formNumber, plainForm, splitForm, withTop, withRelationship}
 use Rattle.exchange.specs.Facts.{NodeFacts, ChildFacts, Facts, Row, rowOf}
-use Rattle.exchange.specs.Operators.{isSingle, isKeyed, isWindow}
+use Rattle.exchange.specs.Operators.{isWindow}
 use Rattle.exchange.specs.Children.{updateEach, updateChildren}
 use Rattle.exchange.specs.States.{Child, ChildState, childrenFrom, withForm, pass, startedBy, started, andThen}
 use Rattle.exchange.specs.Status.{RepartitionRequirementStatus}
-use Rattle.exchange.specs.Step.{splitPlan, mergeOn, keyedOn, roundrobinOn, partitions, addMergeOnTop, addHashOnTop, addRoundrobinOnTop, addRoundrobin, splitAtSource, needsHashRepartition, satisfyDistribution, ensureChild}
+use Rattle.exchange.specs.Step.{splitPlan, mergeOn, keyedOn, roundrobinOn, splitAtSource, satisfyDistribution, ensureChild}
 use Rattle.exchange.specs.Ensure.{Answer, Ensured, missingRow, unenforceable, answered, handled, finished, becomesInterleave, ensured}
 use Rattle.exchange.specs.Skeleton.{below}
 use Rattle.exchange.specs.Partitioning.{workedOf}
+use Rattle.exchange.proofs.StepWays.{holds-satisfied}
 use Rattle.exchange.proofs.Passing.{Holds, HoldsEnsured, holds-then, holds-cond, Alls, Steps, Relates}
 use Rattle.exchange.proofs.Answered.{Finished, Came, leaf, worked, came-always}
 use Rattle.exchange.proofs.OperatorsKept.{of-answer}
@@ -67,19 +68,10 @@ module _ (m l : ℕ) (kinds : 255 ≤ m) where
 
       satisfies : (t : RepartitionRequirementStatus) (c : Child) (d : ChildState) → Kept c d → Holds (Kept c) (satisfyDistribution s w b rows t d)
       satisfies t c d k =
-          holds-cond (Kept c) (isSingle (d .need)) (addMergeOnTop rows d) _
-          (λ e. holds-cond (Kept c) (ltb 1 (partitions d)) (pass rows (withTop 1 (d .form)) mergeOn d) (some d)
-          (λ e. passed c d (withTop 1 (d .form)) mergeOn (λ x r. fine-merge m l kinds x r) k)
-          (λ e. k))
-          (λ e. holds-cond (Kept c) (isKeyed (d .need)) _ _
-          (λ e. holds-cond (Kept c) (t .hashNecessary && needsHashRepartition s w t d) (addHashOnTop rows d) (some d)
-          (λ e. passed c d (withTop 2 (d .form)) keyedOn keyed k)
-          (λ e. k))
-          (λ e. holds-cond (Kept c) (addRoundrobin s w b t) (addRoundrobinOnTop rows (s .target) d) (some d)
-          (λ e. holds-cond (Kept c) (ltb (partitions d) (s .target)) (pass rows (withTop 3 (d .form)) roundrobinOn d) (some d)
-          (λ e. passed c d (withTop 3 (d .form)) roundrobinOn (λ x r t h. fine-exchange m l kinds x r 13 t (omega arith) h) k)
-          (λ e. k))
-          (λ e. k)))
+          holds-satisfied s w b rows (Kept c) t d k
+          (passed c d (withTop 1 (d .form)) mergeOn (λ x r. fine-merge m l kinds x r) k)
+          (passed c d (withTop 2 (d .form)) keyedOn keyed k)
+          (passed c d (withTop 3 (d .form)) roundrobinOn (λ x r t h. fine-exchange m l kinds x r 13 t (omega arith) h) k)
 
       steps : Steps s w b rows Kept
       unfolding ensureChild

@@ -17,6 +17,7 @@ use Rattle.text.proofs.Limits.{fits-length}
 use Rattle.sheet.specs.Lines.{Kind, mostBytes, fieldsFit, tooManyEntries, lineNumber}
 use Rattle.sheet.specs.KeyLines.{at, values}
 use Rattle.sheet.proofs.KeyRows.{either-false}
+use Rattle.sheet.proofs.RowsAgain.{number·at}
 use Rattle.plansheet.specs.Shapes.{Shape, overAny, isNone, treeLine, childrenAt, mostChildren}
 use Rattle.plansheet.specs.PlanLines.{twoTo}
 use Rattle.plansheet.specs.PlanSheets.{operatorRow, operatorRows}
@@ -32,18 +33,6 @@ pub record FineAt (k : Kind) (seen next : ℕ) (fs : List Field) : Type 0 where
   pub small : k .large seen fs ≡ false
   pub defined : k .undefined fs ≡ false
   pub suited : k .unfit fs ≡ false
-
-number·at :
-    (a b o f l d u : Bool) → _≡_ {A = ℕ} (cond a (cond b 2 (cond (o || (f || l)) 3 (cond d 4 (cond u 6 0)))) 2) 0 →
-    (a ≡ true) × (b ≡ false) × (o ≡ false) × (f ≡ false) × (l ≡ false) × (d ≡ false) × (u ≡ false)
-number·at false b o f l d u e = absurd (omega arith)
-number·at true true o f l d u e = absurd (omega arith)
-number·at true false true f l d u e = absurd (omega arith)
-number·at true false false true l d u e = absurd (omega arith)
-number·at true false false false true d u e = absurd (omega arith)
-number·at true false false false false true u e = absurd (omega arith)
-number·at true false false false false false true e = absurd (omega arith)
-number·at true false false false false false false e = (refl, refl, refl, refl, refl, refl, refl)
 
 pub fine-at : (k : Kind) (seen next : ℕ) (fs : List Field) → lineNumber k seen next (some fs) ≡ 0 → FineAt k seen next fs
 unfolding lineNumber

@@ -28,9 +28,9 @@ overAny [] ns = false
 overAny (m ∷ ms) [] = false
 overAny (m ∷ ms) (n ∷ ns) = ltb m n || overAny ms ns
 
--- a known number of lines
-abbrev pub fixedLine : Shape → Kind
-fixedLine h = record {
+-- a line of the shape, in a run that stops and owes as it is told
+abbrev pub shapedLine : Shape → (ℕ → Option (List Field) → Bool) → (ℕ → List Field → ℕ) → Kind
+shapedLine h stops owes = record {
   letter = h .letter;
   heads = h .heads;
   width = 0;
@@ -38,9 +38,13 @@ fixedLine h = record {
   large = λ seen fs. overAny (h .sizes) (values fs);
   undefined = λ fs. overAny (h .codes) (values fs);
   unfit = never;
-  stops = counted;
-  owes = oneLess;
+  stops = stops;
+  owes = owes;
 }
+
+-- a known number of lines
+abbrev pub fixedLine : Shape → Kind
+fixedLine h = shapedLine h counted oneLess
 
 abbrev pub isNone : Option (List Field) → Bool
 isNone none = true
@@ -48,17 +52,7 @@ isNone (some fs) = false
 
 -- as many lines as come: the run ends before the first that is not an ended line of the letter
 abbrev pub comingLine : Shape → Kind
-comingLine h = record {
-  letter = h .letter;
-  heads = h .heads;
-  width = 0;
-  malformed = never;
-  large = λ seen fs. overAny (h .sizes) (values fs);
-  undefined = λ fs. overAny (h .codes) (values fs);
-  unfit = never;
-  stops = λ owed x. isNone x;
-  owes = λ owed fs. owed;
-}
+comingLine h = shapedLine h (λ owed x. isNone x) (λ owed fs. owed)
 
 -- ---- tree lines
 

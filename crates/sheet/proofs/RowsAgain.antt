@@ -60,7 +60,8 @@ module _ (k : Kind) (c : Counted k) (fs : List Field) (fine : Fine k fs) where
 
 -- ---- one line
 
-number·at :
+-- what is known where no number is given
+pub number·at :
     (a b o f l d u : Bool) → _≡_ {A = ℕ} (cond a (cond b 2 (cond (o || (f || l)) 3 (cond d 4 (cond u 6 0)))) 2) 0 →
     (a ≡ true) × (b ≡ false) × (o ≡ false) × (f ≡ false) × (l ≡ false) × (d ≡ false) × (u ≡ false)
 number·at false b o f l d u e = absurd (omega arith)
