@@ -1,116 +1,31 @@
--- `distribute_any` meets its contract: a refusal, or the decision on the sheet that is held.
+-- `distribute_any` meets its contract: its rooms suffice for any sheet.
 -- Assumes nothing.
 use mathlib.Core.Logic.{inl}
-use native.Mathlib.Omega.{arith}
-use Rattle.plansheet.specs.PlanSheets.{readPlan}
-use Rattle.plananswer.specs.PlanDecision.{planDecision}
-use Rattle.lochkave.proofs.PlanBounded.{plan-turned-few}
-use Rattle.lochkave.proofs.Entries.{leaves-refused}
-use Rattle.lochkave.proofs.PlanEntries.{plan-was-turned, plan-was-held, plan-turned, plan-held, room-holds, room-held}
 use borrow.Author.Needs.{needs}
 use Rattle.lochkave.proofs.distribution.distribute_any.Statement.{statement}
 use Rattle.lochkave.proofs.distribution.distribute_any.Tie as tie
 
-slice-aggregate-read-plan : tie.Need-slice-aggregate-read-plan
-slice-aggregate-read-plan c = search needs
+slice-aggregate-distribute-in : tie.Need-slice-aggregate-distribute-in
+slice-aggregate-distribute-in c = search needs
 
-slice-aggregate-read-plan-2 : tie.Need-slice-aggregate-read-plan-2
-slice-aggregate-read-plan-2 c = search needs
+slice-aggregate-distribute-in-2 : tie.Need-slice-aggregate-distribute-in-2
+slice-aggregate-distribute-in-2 c = search needs
 
-slice-aggregate-read-plan-3 : tie.Need-slice-aggregate-read-plan-3
-slice-aggregate-read-plan-3 c = search needs
-
-slice-aggregate-read-plan-4 : tie.Need-slice-aggregate-read-plan-4
-slice-aggregate-read-plan-4 c = search needs
-
-slice-aggregate-read-plan-5 : tie.Need-slice-aggregate-read-plan-5
-slice-aggregate-read-plan-5 c = search needs
-
-slice-aggregate-read-plan-6 : tie.Need-slice-aggregate-read-plan-6
-slice-aggregate-read-plan-6 c = search needs
-
-slice-aggregate-read-plan-7 : tie.Need-slice-aggregate-read-plan-7
-slice-aggregate-read-plan-7 c = search needs
-
-slice-aggregate-read-plan-8 : tie.Need-slice-aggregate-read-plan-8
-slice-aggregate-read-plan-8 c = search needs
-
-read-plan-requires : tie.Need-read-plan-requires
-read-plan-requires c κs = (search needs, search needs, inl (search needs), search needs, search needs, inl (search needs), search needs, search needs)
-
-enum-known-p : tie.Need-enum-known-p
-enum-known-p c = search needs
-
-refusal-requires : tie.Need-refusal-requires
-refusal-requires c κs =
-    let a = c .before .before .before .before .before .before .before .before .before .before .before .before .before .before .before .before .before .before .before .before .before .before .args in
-    let q = c .before .before .before .before .before .before .before .before .before .before .before .read-plan in
-    plan-turned-few (a .sheet .now) _ _ (plan-was-turned (readPlan (a .sheet .now)) (q .result) _ _ (q .ensures .0) (c .before .p .given .1))
-
-returns : tie.Need-returns
-returns c =
-    let a = c .before .before .before .before .before .before .before .before .before .before .before .before .before .before .before .before .before .before .before .before .before .before .before .args in
-    let q = c .before .before .before .before .before .before .before .before .before .before .before .before .read-plan in
-    leaves-refused (planDecision (a .sheet .now)) (a .out .now) _ _ _
-    (plan-turned (a .sheet .now) _ _ (plan-was-turned (readPlan (a .sheet .now)) (q .result) _ _ (q .ensures .0) (c .before .before .p .given .1))) (c .refusal .ensures)
-
-enum-known-p-2 : tie.Need-enum-known-p-2
-enum-known-p-2 c = search needs
-
-slice-aggregate-answer-held : tie.Need-slice-aggregate-answer-held
-slice-aggregate-answer-held c = search needs
-
-slice-aggregate-answer-held-2 : tie.Need-slice-aggregate-answer-held-2
-slice-aggregate-answer-held-2 c = search needs
-
-slice-aggregate-answer-held-3 : tie.Need-slice-aggregate-answer-held-3
-slice-aggregate-answer-held-3 c = search needs
-
-slice-aggregate-answer-held-4 : tie.Need-slice-aggregate-answer-held-4
-slice-aggregate-answer-held-4 c = search needs
-
-slice-aggregate-answer-held-5 : tie.Need-slice-aggregate-answer-held-5
-slice-aggregate-answer-held-5 c = search needs
-
-answer-held-requires : tie.Need-answer-held-requires
-answer-held-requires c κs =
-    let a = c .before .before .before .before .before .before .before .before .before .before .before .before .before .before .before .before .before .before .before .before .before .before .before .before .before .before .before .before .args in
-    let q = c .before .before .before .before .before .before .before .before .before .before .before .before .before .before .before .before .before .read-plan in
-    let w = plan-was-held (readPlan (a .sheet .now)) (q .result) _ _ _ _ _ (q .ensures .0) (c .before .before .before .before .before .before .before .p2 .given .1) in
-    room-held (a .sheet .now) _ _ _ _ w _ _ _ _ _ _ (q .ensures .1) (omega (arith, q .kept .1 .1 .1 .1 .1 .0)) (omega (arith, q .kept .1 .1 .1 .1 .1 .1 .1 .0))
+distribute-in-requires : tie.Need-distribute-in-requires
+distribute-in-requires c κs = (inl (search needs), inl (search needs))
 
 same-length : tie.Need-same-length
 same-length c = search needs
 
-returns-2 : tie.Need-returns-2
-returns-2 c =
-    let a = c .before .before .before .before .before .before .before .before .before .before .before .before .before .before .before .before .before .before .before .before .before .before .before .before .before .before .before .before .before .before .before .before .args in
-    let q = c .before .before .before .before .before .before .before .before .before .before .before .before .before .before .before .before .before .before .before .before .before .read-plan in
-    let w = plan-was-held (readPlan (a .sheet .now)) (q .result) _ _ _ _ _ (q .ensures .0) (c .before .before .before .before .before .before .before .before .before .before .before .p2 .given .1) in
-    rw (plan-held (a .sheet .now) (w .x) (w .is)) (c .before .before .before .answer-held .ensures (w .x) (room-holds (a .sheet .now) _ _ _ _ w _ _ _ _ _ _ (q .ensures .1)))
+returns : tie.Need-returns
+returns c = search needs
 
 pub distribute-any-spec : {M : Type 1} → statement M
 distribute-any-spec =
     tie.close
     (tie.spec
-    slice-aggregate-read-plan
-    slice-aggregate-read-plan-2
-    slice-aggregate-read-plan-3
-    slice-aggregate-read-plan-4
-    slice-aggregate-read-plan-5
-    slice-aggregate-read-plan-6
-    slice-aggregate-read-plan-7
-    slice-aggregate-read-plan-8
-    read-plan-requires
-    enum-known-p
-    refusal-requires
-    returns
-    enum-known-p-2
-    slice-aggregate-answer-held
-    slice-aggregate-answer-held-2
-    slice-aggregate-answer-held-3
-    slice-aggregate-answer-held-4
-    slice-aggregate-answer-held-5
-    answer-held-requires
+    slice-aggregate-distribute-in
+    slice-aggregate-distribute-in-2
+    distribute-in-requires
     same-length
-    returns-2)
+    returns)
