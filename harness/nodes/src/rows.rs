@@ -14,6 +14,7 @@ const LIMIT: usize = 5;
 const ORDER: usize = 6;
 const MASK: usize = 7;
 const TRACKED: usize = 8;
+const NEED: usize = 9;
 
 const COALESCE: u64 = 2;
 const SORT: u64 = 11;
@@ -27,29 +28,17 @@ pub fn row_of(n: &Node) -> Row {
 }
 
 pub fn node_of(r: &Row) -> Node {
-    let [
-        id,
-        kind,
-        count,
-        keeps,
-        limited,
-        limit,
-        order,
-        mask,
-        tracked,
-        need,
-    ] = *r;
     Node {
-        id,
-        kind,
-        count,
-        keeps,
-        limited,
-        limit,
-        order,
-        mask,
-        tracked,
-        need,
+        id: r[ID],
+        kind: r[KIND],
+        count: r[COUNT],
+        keeps: r[KEEPS],
+        limited: r[LIMITED],
+        limit: r[LIMIT],
+        order: r[ORDER],
+        mask: r[MASK],
+        tracked: r[TRACKED],
+        need: r[NEED],
     }
 }
 
