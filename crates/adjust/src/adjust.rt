@@ -4,11 +4,11 @@ ghost use mathlib.Core.List.{List};
 ghost use Prim.Native.Nat.{ℕ, _≤_};
 ghost use lib.ListN.{length};
 ghost use Rattle.keys.specs.Expressions.{Expression, sameExpr, expressions};
-ghost use Rattle.keys.specs.Adjust.{KeySheet, passed, kept, given, shiftRightRequired, reorderPartitionedJoinKeys};
+ghost use Rattle.keys.specs.Adjust.{KeySheet, shiftRightRequired, reorderPartitionedJoinKeys};
 ghost use Rattle.keys.specs.Adjust.{collectLeft, hashJoin, crossJoin, projection, other, adjustInputKeysOrdering};
 ghost use Rattle.keys.specs.Arrange.{Below};
 ghost use Rattle.keys.specs.Values.{keys, Whole};
-ghost use Rattle.keys.specs.Answers.{Directed, keySheet, WholeAdjusted, adjustedOf};
+ghost use Rattle.keys.specs.Answers.{keySheet, WholeAdjusted, adjustedOf};
 use keys::answer::Adjusted;
 use keys::answer::Handed;
 use keys::answer::Operator;
@@ -41,45 +41,21 @@ pub fn shift_right_required(required: &[u64], columns: u64) -> KeyList
     out
 }
 
-// The second child's list is what was built for it.
-fn pushed_right(right: KeyList) -> Adjusted
-    requires { ⌜ Whole right ⌝ }
-    ensures { λ r. ⌜ WholeAdjusted r × ((s : KeySheet) → adjustedOf s r ≡ passed s 1 (s .required) kept (given (keys right))) ⌝ }
+// The second child's list is R shifted.
+fn cross_join() -> Adjusted
+    ensures { λ x. ⌜ WholeAdjusted x × ((s : KeySheet) → adjustedOf s x ≡ crossJoin sameExpr s) ⌝ }
 {
-    let at = keys::list::no_numbers();
-    let left = keys::list::no_keys();
-    let directions = keys::list::no_numbers();
-    let places = keys::list::no_numbers();
-    Adjusted {
-        outcome: Outcome::Passed,
-        cleared: false,
-        first: Handed::Kept,
-        others: Handed::Built,
-        at: at,
-        left: left,
-        right: right,
-        directions: directions,
-        places: places,
-    }
+    keys::answer::passed(Outcome::Passed, false, Handed::Kept, Handed::Shifted)
 }
 
-fn cross_join(k: Operator, r: &[u64]) -> Adjusted
-    requires { ⌜ length (now r) ≤ 32 ⌝ }
-    ensures { λ x. ⌜ WholeAdjusted x × ((l g s : List ℕ) (w : List (List ℕ)) (o a m : List ℕ) (cs : List (List Expression)) → let t = keySheet k (now (r .entry)) l g s w o a m cs in adjustedOf t x ≡ crossJoin sameExpr t) ⌝ }
-{
-    let right = shift_right_required(r, k.columns);
-    pushed_right(right)
-}
-
-fn collect_left(k: Operator, r: &[u64]) -> Adjusted
-    requires { ⌜ length (now r) ≤ 32 ⌝ }
-    ensures { λ x. ⌜ WholeAdjusted x × ((l g s : List ℕ) (w : List (List ℕ)) (o a m : List ℕ) (cs : List (List Expression)) → let t = keySheet k (now (r .entry)) l g s w o a m cs in adjustedOf t x ≡ collectLeft sameExpr t) ⌝ }
+fn collect_left(k: Operator) -> Adjusted
+    ensures { λ x. ⌜ WholeAdjusted x × ((r l g s : List ℕ) (w : List (List ℕ)) (o a m : List ℕ) (cs : List (List Expression)) → let t = keySheet k r l g s w o a m cs in adjustedOf t x ≡ collectLeft sameExpr t) ⌝ }
 {
     if k.join == 0 {
-        return cross_join(k, r);
+        return cross_join();
     }
     if k.join == 2 {
-        return cross_join(k, r);
+        return cross_join();
     }
     if k.join == 5 {
         return keys::answer::passed(Outcome::Passed, false, Handed::Kept, Handed::Required);
@@ -94,15 +70,9 @@ fn collect_left(k: Operator, r: &[u64]) -> Adjusted
 }
 
 // The pairs and their directions in the order that the requirement asks.
-pub fn reorder_partitioned_join_keys(
-    w: &[[u64; 2]],
-    r: &[u64],
-    l: &[u64],
-    g: &[u64],
-    s: &[u64],
-) -> Adjusted
-    requires { ⌜ (length (now r) ≤ 32) × (length (now l) ≤ 32) × (length (now g) ≡ length (now l)) × Directed (now s) (now l) ⌝ }
-    ensures { λ x. ⌜ WholeAdjusted x × ((k : Operator) (o a m : List ℕ) (cs : List (List Expression)) → let t = keySheet k (now (r .entry)) (now (l .entry)) (now (g .entry)) (now (s .entry)) (now (w .entry)) o a m cs in adjustedOf t x ≡ reorderPartitionedJoinKeys sameExpr t) ⌝ }
+pub fn reorder_partitioned_join_keys(w: &[[u64; 2]], r: &[u64], l: &[u64], g: &[u64]) -> Adjusted
+    requires { ⌜ (length (now r) ≤ 32) × (length (now l) ≤ 32) × (length (now g) ≡ length (now l)) ⌝ }
+    ensures { λ x. ⌜ WholeAdjusted x × ((k : Operator) (s o a m : List ℕ) (cs : List (List Expression)) → let t = keySheet k (now (r .entry)) (now (l .entry)) (now (g .entry)) s (now (w .entry)) o a m cs in adjustedOf t x ≡ reorderPartitionedJoinKeys sameExpr t) ⌝ }
 {
     let t = keys::reorder::try_reorder(w, r, l, g);
     let o = t.outcome;
@@ -110,34 +80,26 @@ pub fn reorder_partitioned_join_keys(
         return keys::answer::passed(Outcome::Tried(o), false, Handed::Keys, Handed::Keys);
     };
     let at = t.at;
-    let n = s.len();
-    let items = at.items;
-    let moved = keys::list::moved_numbers(s, &items[0..n]);
-    let left = t.left;
-    let right = t.right;
     let places = keys::list::no_numbers();
     Adjusted {
         outcome: Outcome::Tried(Reordered::Moved),
         cleared: false,
-        first: Handed::Built,
-        others: Handed::Built,
+        first: Handed::Keys,
+        others: Handed::Keys,
         at: at,
-        left: left,
-        right: right,
-        directions: moved,
         places: places,
     }
 }
 
-fn hash_join(k: Operator, w: &[[u64; 2]], r: &[u64], l: &[u64], g: &[u64], s: &[u64]) -> Adjusted
-    requires { ⌜ (length (now r) ≤ 32) × (length (now l) ≤ 32) × (length (now g) ≡ length (now l)) × Directed (now s) (now l) ⌝ }
-    ensures { λ x. ⌜ WholeAdjusted x × ((o a m : List ℕ) (cs : List (List Expression)) → let t = keySheet k (now (r .entry)) (now (l .entry)) (now (g .entry)) (now (s .entry)) (now (w .entry)) o a m cs in adjustedOf t x ≡ hashJoin sameExpr t) ⌝ }
+fn hash_join(k: Operator, w: &[[u64; 2]], r: &[u64], l: &[u64], g: &[u64]) -> Adjusted
+    requires { ⌜ (length (now r) ≤ 32) × (length (now l) ≤ 32) × (length (now g) ≡ length (now l)) ⌝ }
+    ensures { λ x. ⌜ WholeAdjusted x × ((s o a m : List ℕ) (cs : List (List Expression)) → let t = keySheet k (now (r .entry)) (now (l .entry)) (now (g .entry)) s (now (w .entry)) o a m cs in adjustedOf t x ≡ hashJoin sameExpr t) ⌝ }
 {
     if k.mode == 0 {
-        return reorder_partitioned_join_keys(w, r, l, g, s);
+        return reorder_partitioned_join_keys(w, r, l, g);
     }
     if k.mode == 1 {
-        return collect_left(k, r);
+        return collect_left(k);
     }
     keys::answer::passed(Outcome::Passed, true, Handed::Kept, Handed::Kept)
 }
@@ -160,29 +122,28 @@ fn other(r: &[u64]) -> Adjusted
     keys::answer::passed(Outcome::Passed, false, Handed::Required, Handed::Required)
 }
 
-// R, L, G, S, W, O, A and M of a key sheet; what becomes of each child's list is in the answer.
+// R, L, G, W, O, A and M of a key sheet; what becomes of S and of each child's list is in the answer.
 pub fn adjust_input_keys_ordering(
     k: Operator,
     r: &[u64],
     l: &[u64],
     g: &[u64],
-    s: &[u64],
     w: &[[u64; 2]],
     o: &[u64],
     a: &[u64],
     m: &[u64],
 ) -> Adjusted
-    requires { ⌜ (length (now r) ≤ 32) × (length (now l) ≤ 32) × (length (now g) ≡ length (now l)) × Directed (now s) (now l) × (length (now o) ≤ 32) × (length (now a) ≤ 32) × Below 65536 (now o) ⌝ }
-    ensures { λ x. ⌜ WholeAdjusted x × ((cs : List (List Expression)) → let t = keySheet k (now (r .entry)) (now (l .entry)) (now (g .entry)) (now (s .entry)) (now (w .entry)) (now (o .entry)) (now (a .entry)) (now (m .entry)) cs in adjustedOf t x ≡ adjustInputKeysOrdering sameExpr t) ⌝ }
+    requires { ⌜ (length (now r) ≤ 32) × (length (now l) ≤ 32) × (length (now g) ≡ length (now l)) × (length (now o) ≤ 32) × (length (now a) ≤ 32) × Below 65536 (now o) ⌝ }
+    ensures { λ x. ⌜ WholeAdjusted x × ((s : List ℕ) (cs : List (List Expression)) → let t = keySheet k (now (r .entry)) (now (l .entry)) (now (g .entry)) s (now (w .entry)) (now (o .entry)) (now (a .entry)) (now (m .entry)) cs in adjustedOf t x ≡ adjustInputKeysOrdering sameExpr t) ⌝ }
 {
     if k.op == 0 {
-        return hash_join(k, w, r, l, g, s);
+        return hash_join(k, w, r, l, g);
     }
     if k.op == 1 {
-        return cross_join(k, r);
+        return cross_join();
     }
     if k.op == 2 {
-        return reorder_partitioned_join_keys(w, r, l, g, s);
+        return reorder_partitioned_join_keys(w, r, l, g);
     }
     if k.op == 3 {
         return crate::aggregate::aggregate(k, r, o, a);

@@ -88,33 +88,26 @@ fn regrouped(at: NumberList, places: NumberList) -> Adjusted
     requires { ⌜ WholeNumbers at × WholeNumbers places ⌝ }
     ensures { λ x. ⌜ WholeAdjusted x × ((s : KeySheet) → adjustedOf s x ≡ regrouped sameExpr s (numbers at) (some (numbers places))) ⌝ }
 {
-    let left = keys::list::no_keys();
-    let right = keys::list::no_keys();
-    let directions = keys::list::no_numbers();
     Adjusted {
         outcome: Outcome::Regrouped,
         cleared: true,
         first: Handed::Cleared,
         others: Handed::Kept,
         at: at,
-        left: left,
-        right: right,
-        directions: directions,
         places: places,
     }
 }
 
 // The aggregate acts: the names of the moved groups, and where each group name is found again.
 fn regroup(o: &[u64], a: &[u64], at: NumberList) -> Adjusted
-    requires { ⌜ WholeNumbers at × (length (now o) ≤ 32) × (length (now a) ≤ 32) × Below (length (now o)) (numbers at) ⌝ }
+    requires { ⌜ WholeNumbers at × (length (now o) ≤ 32) × (length (now a) ≤ 32) ⌝ }
     ensures { λ x. ⌜ WholeAdjusted x × ((k : Operator) (r l g s : List ℕ) (w : List (List ℕ)) (m : List ℕ) (cs : List (List Expression)) → let t = keySheet k r l g s w (now (o .entry)) (now (a .entry)) m cs in adjustedOf t x ≡ regrouped sameExpr t (numbers at) (namePlaces (permute 0 (now (o .entry)) (numbers at) ++ now (a .entry)) (now (o .entry)))) ⌝ }
 {
     let n = at.count;
     let items = at.items;
-    let moved = keys::list::moved_numbers(o, &items[0..n]);
-    let count = moved.count;
-    let names = moved.items;
-    let p = name_places(&names[0..count], a, o);
+    let mut names = [0u64; 32];
+    keys::list::permute(0, o, &items[0..n], &mut names);
+    let p = name_places(&names[0..n], a, o);
     let f = p.outcome;
     let Placed::All = f else {
         return keys::answer::passed(Outcome::NameNotFound, false, Handed::Kept, Handed::Kept);

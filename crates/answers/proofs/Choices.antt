@@ -1,54 +1,59 @@
 -- The list that was chosen is the one that stands on the answer.
 -- Assumes nothing.
 use Prim.Native.Nat.{ℕ, _≤_}
-use mathlib.Core.Path.{_≡_, refl}
+use mathlib.Core.Path.{_≡_, refl, ap, sym, _∙_}
 use mathlib.Core.Bool.{Bool, true, false, cond}
 use mathlib.Core.List.{List, []}
 use Rattle.keys.specs.Expressions.{Expression, expressions}
-use Rattle.keys.specs.Adjust.{KeySheet}
+use Rattle.keys.specs.Adjust.{KeySheet, movedDirections, shiftRightRequired}
 use native.Mathlib.Omega.{arith}
-use lib.ListN.{length}
-use lib.Seq.{length-take-le}
-use Rattle.keys.specs.Values.{keys, packedKeys, numbers, Whole, WholeNumbers}
-use Rattle.keys.specs.declared.list.NumberList.{NumberList}
+use lib.ListN.{length, getD, take, length-map, length-take}
+use Rattle.keys.specs.Lists.{permute}
 use Rattle.keys.specs.declared.inputs.Attempt.{Attempt}
 use Rattle.keys.specs.declared.inputs.Attempt.the-variants.{Untried, Followed, Failed}
-use Rattle.keys.proofs.Turns.{key-length}
-use Rattle.keys.specs.Answers.{movedOr, handed}
-use Rattle.keys.specs.declared.list.KeyList.{KeyList}
+use Rattle.keys.specs.Answers.{movedOr, Unshifted, handed}
 use Rattle.keys.specs.declared.reorder.Reordered.{Reordered}
 use Rattle.keys.specs.declared.reorder.Reordered.the-variants.{Met, Moved, Impossible}
 use Rattle.keys.specs.declared.answer.Handed.{Handed}
-use Rattle.keys.specs.declared.answer.Handed.the-variants.{Kept, Cleared, Required, Keys, Built, Mapped}
+use Rattle.keys.specs.declared.answer.Handed.the-variants.{Kept, Cleared, Required, Keys, Shifted, Mapped}
 use Rattle.keys.specs.declared.answer.Outcome.{Outcome}
 use Rattle.keys.specs.declared.answer.Outcome.the-variants.{Unchanged, Passed, Tried, Regrouped, NameNotFound}
-use Rattle.answers.specs.Chosen.{triedOr, followedOr, followedOnly, keepsBy, handedList}
+use Rattle.answers.specs.Chosen.{triedOr, followedOr, keepsBy, handedList, ShiftedBy}
 
 pub tried-is : {A : Type 0} (o : Reordered) (moved stood : A) → triedOr o moved stood ≡ movedOr (Tried o) moved stood
 tried-is Met moved stood = refl
 tried-is Moved moved stood = refl
 tried-is Impossible moved stood = refl
 
+-- what a first child is handed is never R shifted
+pub unshifted : (h : Handed) (columns : ℕ) (r k : List ℕ) → Unshifted h → ShiftedBy h columns r k
+unshifted Kept columns r k u = tt
+unshifted Cleared columns r k u = tt
+unshifted Required columns r k u = tt
+unshifted Keys columns r k u = tt
+unshifted Shifted columns r k u = absurd u
+unshifted Mapped columns r k u = tt
+
 pub handed-is :
-    (s : KeySheet) (side' : List Expression) (built' : KeyList) (r side built m : List ℕ) → s .required ≡ expressions r → side' ≡ expressions side →
-    keys built' ≡ expressions built → s .mapped ≡ expressions m → (h : Handed) (c : List Expression) →
-    handed s side' built' h c ≡ cond (keepsBy h) c (expressions (handedList h r side built m))
-handed-is s side' built' r side built m p q t u Kept c = refl
-handed-is s side' built' r side built m p q t u Cleared c = refl
-handed-is s side' built' r side built m p q t u Required c = p
-handed-is s side' built' r side built m p q t u Keys c = q
-handed-is s side' built' r side built m p q t u Built c = t
-handed-is s side' built' r side built m p q t u Mapped c = u
+    (s : KeySheet) (side' : List Expression) (r side k m : List ℕ) → s .required ≡ expressions r → side' ≡ expressions side → s .mapped ≡ expressions m →
+    (h : Handed) → ShiftedBy h (s .columns) r k → (c : List Expression) → handed s side' h c ≡ cond (keepsBy h) c (expressions (handedList h r side k m))
+handed-is s side' r side k m p q u Kept t c = refl
+handed-is s side' r side k m p q u Cleared t c = refl
+handed-is s side' r side k m p q u Required t c = p
+handed-is s side' r side k m p q u Keys t c = q
+handed-is s side' r side k m p q u Shifted t c = ap (shiftRightRequired (s .columns)) p ∙ sym t
+handed-is s side' r side k m p q u Mapped t c = u
 
 -- a list that a line has room for
 abbrev pub Short : List ℕ → Type 0
 Short xs = length xs ≤ 32
 
-pub numbers-short : (p : NumberList) → WholeNumbers p → Short (numbers p)
-numbers-short p w = rw (length-take-le (p .count) (p .items) (omega (arith, w .full, w .fits))) (w .fits)
+-- what stands at positions is as short as these
+pub moved-short : (gone : ℕ) (xs ps : List ℕ) → Short ps → Short (permute gone xs ps)
+moved-short gone xs ps h = rw (length-map ps (λ p. getD xs p gone)) h
 
-pub keys-short : (k : KeyList) → Whole k → Short (packedKeys k)
-keys-short k w = rw (key-length (k .items) (k .count) (omega (arith, w .full, w .fits))) (w .fits)
+pub turned-short : (s ps : List ℕ) → Short ps → Short (movedDirections s ps)
+turned-short s ps h = moved-short 0 s (take (length s) ps) (rw (length-take (length s) ps) (omega (arith, h)))
 
 -- what holds of each list holds of the one that is chosen
 module _ (P : List ℕ → Type 0) where
@@ -65,13 +70,13 @@ module _ (P : List ℕ → Type 0) where
   moved-any Regrouped moved stood m s = s
   moved-any NameNotFound moved stood m s = s
 
-  pub handed-any : (h : Handed) (r side built m : List ℕ) → P [] → P r → P side → P built → P m → P (handedList h r side built m)
-  handed-any Kept r side built m n p q t u = n
-  handed-any Cleared r side built m n p q t u = n
-  handed-any Required r side built m n p q t u = p
-  handed-any Keys r side built m n p q t u = q
-  handed-any Built r side built m n p q t u = t
-  handed-any Mapped r side built m n p q t u = u
+  pub handed-any : (h : Handed) (r side k m : List ℕ) → P [] → P r → P side → P k → P m → P (handedList h r side k m)
+  handed-any Kept r side k m n p q t u = n
+  handed-any Cleared r side k m n p q t u = n
+  handed-any Required r side k m n p q t u = p
+  handed-any Keys r side k m n p q t u = q
+  handed-any Shifted r side k m n p q t u = t
+  handed-any Mapped r side k m n p q t u = u
 
   pub tried-any : (o : Reordered) (moved stood : List ℕ) → P moved → P stood → P (triedOr o moved stood)
   tried-any Met moved stood m s = s
@@ -82,8 +87,3 @@ module _ (P : List ℕ → Type 0) where
   followed-any Untried moved stood m s = s
   followed-any (Followed side o) moved stood m s = tried-any o moved stood m s
   followed-any Failed moved stood m s = s
-
-  pub only-any : (o : Attempt) (at : List ℕ) → P [] → P at → P (followedOnly o at)
-  only-any Untried at n h = n
-  only-any (Followed side o) at n h = h
-  only-any Failed at n h = n

@@ -1,52 +1,48 @@
 -- The lists that were chosen for an I sheet's answer are short, and their text is the answer's.
 -- Assumes nothing.
 use Prim.Native.Nat.{ℕ}
-use mathlib.Core.Path.{_≡_, sym, _∙_}
-use mathlib.Core.List.{List, []}
+use mathlib.Core.Path.{_≡_, sym, ap, _∙_}
+use mathlib.Core.List.{List}
 use native.Mathlib.Omega.{arith}
-use Rattle.keys.specs.Adjust.{movedDirections}
-use Rattle.keys.specs.Values.{packedKeys, numbers, WholeNumbers}
-use Rattle.keys.specs.InputValues.{sideNumber, currentOf, WholeCurrent, reportBy, sideBy}
-use Rattle.keys.specs.declared.list.NumberList.{NumberList}
-use Rattle.keys.specs.declared.inputs.Current.{Current}
+use Rattle.keys.specs.Expressions.{goneNumber}
+use Rattle.keys.specs.InputValues.{sideNumber, attemptOf, reportBy, sideBy}
+use Rattle.keys.specs.declared.inputs.Attempt.{Attempt}
 use Rattle.sheet.specs.KeyAnswers.{joinAnswerText}
 use Rattle.sheet.specs.Held.{heldAt, heldJoinSheet, JoinHeld}
-use Rattle.answers.specs.Chosen.{followedOr, followedOnly}
-use Rattle.answers.specs.AnswerLists.{JoinFew}
+use Rattle.answers.specs.Chosen.{followedOr}
+use Rattle.answers.specs.AnswerLists.{JoinFew, ReadyJoin}
 use Rattle.answers.specs.Texts.{joinListsText}
 use Rattle.answers.proofs.AnswerParts.{join-answer-text}
-use Rattle.answers.proofs.Choices.{Short, numbers-short, keys-short, followed-any, only-any}
+use Rattle.answers.proofs.Choices.{Short, moved-short, turned-short, followed-any}
 use Rattle.answers.proofs.HeldJoins.{join-few, join-even, join-directions}
 use Rattle.answers.proofs.JoinLists.{join-lists}
 
-module _ (lists : List (List ℕ)) (counts : List ℕ) (x : Current) where
+module _ (lists : List (List ℕ)) (counts : List ℕ) (o : Attempt) (ps left right turned : List ℕ) where
   abbrev At : ℕ → List ℕ
   At i = heldAt lists counts i
 
-  -- what was chosen, by the outcome; `turned` are the directions that moved
-  pub record JoinChosen (turned : NumberList) (report followed : ℕ) (p l g s : List ℕ) : Type 0 where
-    pub reports : report ≡ reportBy (x .outcome)
-    pub follows : followed ≡ sideNumber (sideBy (x .outcome))
-    pub positions : p ≡ followedOnly (x .outcome) (numbers (x .at))
-    pub left : l ≡ followedOr (x .outcome) (packedKeys (x .left)) (At 1)
-    pub right : g ≡ followedOr (x .outcome) (packedKeys (x .right)) (At 2)
-    pub whole : WholeNumbers turned
-    pub directions : s ≡ followedOr (x .outcome) (numbers turned) (At 3)
-    pub turns : followedOr (x .outcome) (numbers turned) (At 3) ≡ followedOr (x .outcome) (movedDirections (At 3) (numbers (x .at))) (At 3)
+  -- what was chosen, by the outcome
+  pub record JoinChosen (report followed : ℕ) (l g s : List ℕ) : Type 0 where
+    pub reports : report ≡ reportBy o
+    pub follows : followed ≡ sideNumber (sideBy o)
+    pub left-is : l ≡ followedOr o left (At 1)
+    pub right-is : g ≡ followedOr o right (At 2)
+    pub directions : s ≡ followedOr o turned (At 3)
 
-  module _ {turned : NumberList} {report followed : ℕ} {p l g s : List ℕ} (c : JoinChosen turned report followed p l g s) where
-    pub join-short-lists : WholeCurrent x → JoinHeld lists counts → JoinFew p l g s
-    join-short-lists w h =
-        let none : Short [] = omega arith in
+  module _ {report followed : ℕ} {l g s : List ℕ} (c : JoinChosen report followed l g s) (ready : ReadyJoin lists counts o ps left right turned) where
+    pub join-short-lists : JoinHeld lists counts → JoinFew ps l g s
+    join-short-lists h =
         let second : Short (At 2) = omega (arith, join-few lists counts h, join-even lists counts h) in
         record {
-          positions = rw (c .positions) (only-any Short (x .outcome) (numbers (x .at)) none (numbers-short (x .at) (w .at)));
-          left = rw (c .left) (followed-any Short (x .outcome) (packedKeys (x .left)) (At 1) (keys-short (x .left) (w .left)) (join-few lists counts h));
-          right = rw (c .right) (followed-any Short (x .outcome) (packedKeys (x .right)) (At 2) (keys-short (x .right) (w .right)) second);
-          directions = rw (c .directions) (followed-any Short (x .outcome) (numbers turned) (At 3) (numbers-short turned (c .whole)) (join-directions lists counts h));
+          positions = ready .positions;
+          left = rw (c .left-is) (followed-any Short o left (At 1) (rw (ready .left) (moved-short goneNumber (At 1) ps (ready .positions))) (join-few lists counts h));
+          right = rw (c .right-is) (followed-any Short o right (At 2) (rw (ready .right) (moved-short goneNumber (At 2) ps (ready .positions))) second);
+          directions = rw (c .directions) (followed-any Short o turned (At 3) (rw (ready .directions) (turned-short (At 3) ps (ready .positions))) (join-directions lists counts h));
         }
 
-    pub chosen-join-text : joinListsText report followed p l g s ≡ joinAnswerText (currentOf (heldJoinSheet lists counts) x)
+    pub chosen-join-text : joinListsText report followed ps l g s ≡ joinAnswerText (attemptOf (heldJoinSheet lists counts) ps o)
     chosen-join-text =
-        (λ i. joinListsText (c .reports i) (c .follows i) (c .positions i) (c .left i) (c .right i) ((c .directions ∙ c .turns) i))
-        ∙ sym (join-answer-text _ _ _ _ _ _ _ (join-lists lists counts x))
+        (λ i. joinListsText (c .reports i) (c .follows i) ps
+        ((c .left-is ∙ ap (λ (ks : List ℕ). followedOr o ks (At 1)) (ready .left)) i) ((c .right-is ∙ ap (λ (ks : List ℕ). followedOr o ks (At 2)) (ready .right)) i)
+        ((c .directions ∙ ap (λ (ds : List ℕ). followedOr o ds (At 3)) (ready .directions)) i))
+        ∙ sym (join-answer-text _ _ _ _ _ _ _ (join-lists lists counts ps o (ready .only)))

@@ -1,29 +1,29 @@
 -- The lists of a K sheet's answer, by what was decided.
 -- Assumes nothing.
 use Prim.Native.Nat.{ℕ, zero, suc, _≤_}
-use mathlib.Core.Path.{_≡_, refl, ap}
+use mathlib.Core.Path.{_≡_, refl, ap, _∙_}
 use mathlib.Core.Bool.{Bool, true, false, cond}
-use mathlib.Core.List.{List, [], _++_}
+use mathlib.Core.List.{List, []}
 use native.Mathlib.Omega.{arith}
-use lib.ListN.{length}
-use Rattle.keys.specs.Expressions.{Expression, expressions}
-use Rattle.keys.specs.Adjust.{KeySheet, Adjustment, handOver, placedNames, namesFrom}
-use Rattle.keys.specs.Values.{packedKeys, numbers}
-use Rattle.keys.specs.Answers.{changedBy, reportedBy, movedOr, projectedBy, handed, answerOf, adjustedBy, adjustedOf}
-use Rattle.keys.specs.declared.list.KeyList.{KeyList}
+use lib.ListN.{length, getD}
+use Rattle.keys.specs.Lists.{permute}
+use Rattle.keys.specs.Expressions.{Expression, placeholder, goneNumber, expressions}
+use Rattle.keys.specs.Adjust.{KeySheet, KeyAnswer, Adjustment, handOver, movedDirections}
+use Rattle.keys.specs.Answers.{changedBy, reportedBy, movedOr, Unshifted, handed, sideBy, answerBy, answerOf, adjustedBy, adjustedOf}
 use Rattle.keys.specs.declared.reorder.Reordered.the-variants.{Met, Moved, Impossible}
 use Rattle.keys.specs.declared.answer.Handed.{Handed}
 use Rattle.keys.specs.declared.answer.Outcome.{Outcome}
 use Rattle.keys.specs.declared.answer.Outcome.the-variants.{Unchanged, Passed, Tried, Regrouped, NameNotFound}
 use Rattle.keys.specs.declared.answer.Adjusted.{Adjusted}
 use Rattle.keys.proofs.Truths.{true-false}
-use Rattle.sheet.specs.KeyAnswers.{refused, wrote, projectedNumbers, keyAnswerText, adjusted}
+use Rattle.keys.proofs.Packed.{permute-expressions}
+use Rattle.sheet.specs.KeyAnswers.{refused, wrote, keyAnswerText, adjusted}
 use Rattle.sheet.specs.Held.{heldAt, exprLists, childCount, heldKeySheet, KeyHeld}
-use Rattle.answers.specs.Chosen.{keepsBy, handedList}
+use Rattle.answers.specs.Chosen.{keepsBy, handedList, ShiftedBy}
 use Rattle.answers.specs.Children.{chosen}
-use Rattle.answers.specs.AnswerLists.{refusedBy}
+use Rattle.answers.specs.AnswerLists.{refusedBy, heldProjection}
 use Rattle.answers.proofs.AnswerParts.{KeyLists}
-use Rattle.answers.proofs.Choices.{handed-is}
+use Rattle.answers.proofs.Choices.{unshifted, handed-is}
 
 moved-packed : (o : Outcome) (moved stood : List ℕ) → movedOr o (expressions moved) (expressions stood) ≡ expressions (movedOr o moved stood)
 moved-packed Unchanged moved stood = refl
@@ -51,36 +51,44 @@ module _ (lists : List (List ℕ)) (counts : List ℕ) where
   unfolding heldKeySheet
   key-children h = omega (arith, h .legal .few, exprs-long 9 (childCount lists counts))
 
-  module _ (x : Adjusted) where
+  module _ (o : Outcome) (cleared : Bool) (first others : Handed) (ps places : List ℕ) where
+    -- a side's keys as they come out
+    abbrev side : ℕ → List ℕ
+    side i = movedOr o (permute goneNumber (At i) ps) (At i)
+
+    side-packed : (i : ℕ) → movedOr o (permute placeholder (expressions (At i)) ps) (expressions (At i)) ≡ expressions (side i)
+    side-packed i = ap (λ (ks : List Expression). movedOr o ks (expressions (At i))) (permute-expressions (At i) ps) ∙ moved-packed o (permute goneNumber (At i) ps) (At i)
+
+    abbrev theAnswer : KeyAnswer
+    theAnswer = answerBy (heldKeySheet lists counts) o cleared first others ps places
+
     pub key-lists :
-        KeyLists (answerOf (heldKeySheet lists counts) x) (changedBy (x .outcome)) (reportedBy (x .outcome))
-        (numbers (x .at)) (cond (x .cleared) [] (At 1)) (movedOr (x .outcome) (packedKeys (x .left)) (At 2))
-        (movedOr (x .outcome) (packedKeys (x .right)) (At 3)) (movedOr (x .outcome) (numbers (x .directions)) (At 4))
-        (projectedNumbers (projectedBy (x .outcome) (placedNames (At 6) (numbers (x .places)) ++ namesFrom (length (At 6)) (At 7))))
+        KeyLists theAnswer (changedBy o) (reportedBy o) ps (cond cleared [] (At 1)) (side 2) (side 3)
+        (movedOr o (movedDirections (At 4) ps) (At 4)) (heldProjection lists counts o places)
     unfolding heldKeySheet
     key-lists = record {
       changed = refl;
       report = refl;
       positions = refl;
-      required = cleared-packed (x .cleared) (At 1);
-      left = moved-packed (x .outcome) (packedKeys (x .left)) (At 2);
-      right = moved-packed (x .outcome) (packedKeys (x .right)) (At 3);
+      required = cleared-packed cleared (At 1);
+      left = side-packed 2;
+      right = side-packed 3;
       directions = refl;
       projection = refl;
     }
 
-    -- what the children are handed
+    -- what the children are handed; k is R shifted, where one is handed it
     pub key-handed :
-        answerOf (heldKeySheet lists counts) x .children ≡
-        handOver (chosen (keepsBy (x .first)) (handedList (x .first) (At 1) (At 2) (packedKeys (x .left)) (At 8)))
-        (chosen (keepsBy (x .others)) (handedList (x .others) (At 1) (At 3) (packedKeys (x .right)) (At 8))) (exprLists lists counts 9 (childCount lists counts))
+        (k : List ℕ) → Unshifted first → ShiftedBy others (getD (At 0) 3 0) (At 1) k →
+        theAnswer .children ≡
+        handOver (chosen (keepsBy first) (handedList first (At 1) (side 2) k (At 8))) (chosen (keepsBy others) (handedList others (At 1) (side 3) k (At 8))) (exprLists lists counts 9 (childCount lists counts))
     unfolding heldKeySheet
-    key-handed =
+    key-handed k u t =
         let s = heldKeySheet lists counts in
-        let child : (side : List ℕ) (built : KeyList) (h : Handed) (c : List Expression) →
-        handed s (expressions side) built h c ≡ chosen (keepsBy h) (handedList h (At 1) side (packedKeys built) (At 8)) c
-        = λ side built h c. handed-is s (expressions side) built (At 1) side (packedKeys built) (At 8) refl refl refl refl h c in
-        λ j. handOver (λ c. child (At 2) (x .left) (x .first) c j) (λ c. child (At 3) (x .right) (x .others) c j) (exprLists lists counts 9 (childCount lists counts))
+        let child : (i : ℕ) (h : Handed) → ShiftedBy h (getD (At 0) 3 0) (At 1) k → (c : List Expression) →
+        handed s (sideBy s o cleared first others ps places (expressions (At i))) h c ≡ chosen (keepsBy h) (handedList h (At 1) (side i) k (At 8)) c
+        = λ i h d c. handed-is s (sideBy s o cleared first others ps places (expressions (At i))) (At 1) (side i) k (At 8) refl (side-packed i) refl h d c in
+        λ j. handOver (λ c. child 2 first (unshifted first (getD (At 0) 3 0) (At 1) k u) c j) (λ c. child 3 others t c j) (exprLists lists counts 9 (childCount lists counts))
 
 -- refusal 10, or the text
 module _ (s : KeySheet) (x : Adjusted) {d : Adjustment} (e : adjustedOf s x ≡ d) where

@@ -3,15 +3,19 @@ use Prim.Native.Nat.{ℕ, _≤_}
 use mathlib.Core.Path.{_≡_}
 use mathlib.Core.Bool.{Bool, true, false}
 use mathlib.Core.List.{List, _++_}
-use lib.ListN.{length}
-use Rattle.keys.specs.Adjust.{placedNames, namesFrom}
-use Rattle.keys.specs.Values.{packedKeys, numbers}
-use Rattle.keys.specs.Answers.{WholeAdjusted, projectedBy}
-use Rattle.keys.specs.declared.answer.Adjusted.{Adjusted}
+use lib.ListN.{length, getD}
+use Rattle.keys.specs.Lists.{permute}
+use Rattle.keys.specs.Expressions.{goneNumber}
+use Rattle.keys.specs.Adjust.{movedDirections, placedNames, namesFrom}
+use Rattle.keys.specs.Answers.{Unshifted, projectedBy}
+use Rattle.keys.specs.InputValues.{OnlyFollowed}
+use Rattle.keys.specs.declared.answer.Handed.{Handed}
+use Rattle.keys.specs.declared.inputs.Attempt.{Attempt}
 use Rattle.keys.specs.declared.answer.Outcome.{Outcome}
 use Rattle.keys.specs.declared.answer.Outcome.the-variants.{Unchanged, Passed, Tried, Regrouped, NameNotFound}
 use Rattle.sheet.specs.KeyAnswers.{projectedNumbers}
 use Rattle.sheet.specs.Held.{heldAt}
+use Rattle.answers.specs.Chosen.{ShiftedBy}
 
 -- refusal 10
 abbrev pub refusedBy : Outcome → Bool
@@ -32,17 +36,31 @@ pub record KeyFew (p r l g s j f o : List ℕ) : Type 0 where
   pub first : length f ≤ 32
   pub others : length o ≤ 32
 
--- the keys that were built, and the projection, of a sheet that is held
-pub record ReadyKey (lists : List (List ℕ)) (counts : List ℕ) (x : Adjusted) (l g j : List ℕ) : Type 0 where
-  pub whole : WholeAdjusted x
-  pub left : l ≡ packedKeys (x .left)
-  pub right : g ≡ packedKeys (x .right)
-  pub projection :
-      j ≡ projectedNumbers (projectedBy (x .outcome) (placedNames (heldAt lists counts 6) (numbers (x .places)) ++ namesFrom (length (heldAt lists counts 6)) (heldAt lists counts 7)))
-  pub few : length j ≤ 128
+-- the numbers of J, of a sheet that is held
+abbrev pub heldProjection : List (List ℕ) → List ℕ → Outcome → List ℕ → List ℕ
+heldProjection lists counts o places =
+    projectedNumbers (projectedBy o (placedNames (heldAt lists counts 6) places ++ namesFrom (length (heldAt lists counts 6)) (heldAt lists counts 7)))
+
+-- what stands at the positions ps, and R shifted, of a K sheet that is held
+pub record ReadyKey (lists : List (List ℕ)) (counts : List ℕ) (o : Outcome) (first others : Handed) (ps l g s k : List ℕ) : Type 0 where
+  pub positions : length ps ≤ 32
+  pub left : l ≡ permute goneNumber (heldAt lists counts 2) ps
+  pub right : g ≡ permute goneNumber (heldAt lists counts 3) ps
+  pub directions : s ≡ movedDirections (heldAt lists counts 4) ps
+  pub unshifted : Unshifted first
+  pub shifts : ShiftedBy others (getD (heldAt lists counts 0) 3 0) (heldAt lists counts 1) k
+  pub shifted : length k ≤ 32
 
 pub record JoinFew (p l g s : List ℕ) : Type 0 where
   pub positions : length p ≤ 32
   pub left : length l ≤ 32
   pub right : length g ≤ 32
   pub directions : length s ≤ 32
+
+-- what stands at the positions ps, of an I sheet that is held
+pub record ReadyJoin (lists : List (List ℕ)) (counts : List ℕ) (o : Attempt) (ps l g s : List ℕ) : Type 0 where
+  pub positions : length ps ≤ 32
+  pub only : OnlyFollowed o ps
+  pub left : l ≡ permute goneNumber (heldAt lists counts 1) ps
+  pub right : g ≡ permute goneNumber (heldAt lists counts 2) ps
+  pub directions : s ≡ movedDirections (heldAt lists counts 3) ps

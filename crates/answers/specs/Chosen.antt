@@ -1,11 +1,14 @@
 -- Which list goes on an answer, by what was decided.
 use Prim.Native.Nat.{ℕ}
+use mathlib.Core.Path.{_≡_}
 use mathlib.Core.Bool.{Bool, true, false}
 use mathlib.Core.List.{List, []}
+use Rattle.keys.specs.Expressions.{expressions}
+use Rattle.keys.specs.Adjust.{shiftRightRequired}
 use Rattle.keys.specs.declared.reorder.Reordered.{Reordered}
 use Rattle.keys.specs.declared.reorder.Reordered.the-variants.{Met, Moved, Impossible}
 use Rattle.keys.specs.declared.answer.Handed.{Handed}
-use Rattle.keys.specs.declared.answer.Handed.the-variants.{Kept, Cleared, Required, Keys, Built, Mapped}
+use Rattle.keys.specs.declared.answer.Handed.the-variants.{Kept, Cleared, Required, Keys, Shifted, Mapped}
 use Rattle.keys.specs.declared.inputs.Attempt.{Attempt}
 use Rattle.keys.specs.declared.inputs.Attempt.the-variants.{Untried, Followed, Failed}
 
@@ -21,26 +24,29 @@ followedOr Untried moved stood = stood
 followedOr (Followed side o) moved stood = triedOr o moved stood
 followedOr Failed moved stood = stood
 
--- the positions, where a side was followed
-abbrev pub followedOnly : Attempt → List ℕ → List ℕ
-followedOnly Untried at = []
-followedOnly (Followed side o) at = at
-followedOnly Failed at = []
-
 -- the child keeps its list
 abbrev pub keepsBy : Handed → Bool
 keepsBy Kept = true
 keepsBy Cleared = false
 keepsBy Required = false
 keepsBy Keys = false
-keepsBy Built = false
+keepsBy Shifted = false
 keepsBy Mapped = false
 
 -- the list that a child is handed, where it does not keep its own
 abbrev pub handedList : Handed → List ℕ → List ℕ → List ℕ → List ℕ → List ℕ
-handedList Kept required side built mapped = []
-handedList Cleared required side built mapped = []
-handedList Required required side built mapped = required
-handedList Keys required side built mapped = side
-handedList Built required side built mapped = built
-handedList Mapped required side built mapped = mapped
+handedList Kept required side shifted mapped = []
+handedList Cleared required side shifted mapped = []
+handedList Required required side shifted mapped = required
+handedList Keys required side shifted mapped = side
+handedList Shifted required side shifted mapped = shifted
+handedList Mapped required side shifted mapped = mapped
+
+-- where a child is handed R shifted, k is that, packed
+abbrev pub ShiftedBy : Handed → ℕ → List ℕ → List ℕ → Type 0
+ShiftedBy Kept columns r k = Unit {0}
+ShiftedBy Cleared columns r k = Unit {0}
+ShiftedBy Required columns r k = Unit {0}
+ShiftedBy Keys columns r k = Unit {0}
+ShiftedBy Shifted columns r k = expressions k ≡ shiftRightRequired columns (expressions r)
+ShiftedBy Mapped columns r k = Unit {0}

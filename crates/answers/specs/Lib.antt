@@ -2,5 +2,4 @@ pub mod Fields
 pub mod Texts
 pub mod Children
 pub mod Chosen
-pub mod Moves
 pub mod AnswerLists

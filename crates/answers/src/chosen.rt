@@ -6,7 +6,8 @@ ghost use Prim.Native.Nat.{_≤_};
 ghost use lib.ListN.{length, take};
 ghost use Rattle.keys.specs.Values.{packedKeys, Whole};
 ghost use Rattle.keys.specs.Answers.{movedOr};
-ghost use Rattle.answers.specs.Chosen.{triedOr, followedOr, followedOnly, keepsBy, handedList};
+ghost use Rattle.answers.specs.Chosen.{triedOr, followedOr, keepsBy, handedList, ShiftedBy};
+use adjust::adjust::shift_right_required;
 use keys::answer::Handed;
 use keys::answer::Outcome;
 use keys::inputs::Attempt;
@@ -46,16 +47,6 @@ pub fn followed_or<'a>(o: Attempt, moved: &'a [u64], stood: &'a [u64]) -> &'a [u
     }
 }
 
-pub fn followed_only<'a>(o: Attempt, at: &'a [u64]) -> &'a [u64]
-    ensures { λ r. ⌜ now r ≡ followedOnly o (now (at .entry)) ⌝ }
-{
-    match o {
-        Attempt::Untried => return &at[0..0],
-        Attempt::Followed(_, _) => return at,
-        Attempt::Failed => return &at[0..0],
-    }
-}
-
 pub fn cleared_or<'a>(cleared: bool, r: &'a [u64]) -> &'a [u64]
     ensures { λ x. ⌜ now x ≡ cond cleared [] (now (r .entry)) ⌝ }
 {
@@ -73,7 +64,7 @@ pub fn keeps(h: Handed) -> bool
         Handed::Cleared => false,
         Handed::Required => false,
         Handed::Keys => false,
-        Handed::Built => false,
+        Handed::Shifted => false,
         Handed::Mapped => false,
     }
 }
@@ -83,23 +74,23 @@ pub fn handed_list<'a>(
     h: Handed,
     required: &'a [u64],
     side: &'a [u64],
-    built: &'a [u64],
+    shifted: &'a [u64],
     mapped: &'a [u64],
 ) -> &'a [u64]
-    ensures { λ r. ⌜ now r ≡ handedList h (now (required .entry)) (now (side .entry)) (now (built .entry)) (now (mapped .entry)) ⌝ }
+    ensures { λ r. ⌜ now r ≡ handedList h (now (required .entry)) (now (side .entry)) (now (shifted .entry)) (now (mapped .entry)) ⌝ }
 {
     match h {
         Handed::Kept => return &required[0..0],
         Handed::Cleared => return &required[0..0],
         Handed::Required => return required,
         Handed::Keys => return side,
-        Handed::Built => return built,
+        Handed::Shifted => return shifted,
         Handed::Mapped => return mapped,
     }
 }
 
 // The keys of a list, as numbers.
-pub fn unpack_keys(k: KeyList, out: &mut [u64; 32]) -> usize
+fn unpack_keys(k: KeyList, out: &mut [u64; 32]) -> usize
     requires { ⌜ Whole k × (length (now out) ≡ 32) ⌝ }
     ensures { λ r. ⌜ (r ≡ k .count) × (r ≤ 32) × (take r (now (out .exit)) ≡ packedKeys k) × (length (now (out .exit)) ≡ 32) ⌝ }
 {
@@ -111,4 +102,22 @@ pub fn unpack_keys(k: KeyList, out: &mut [u64; 32]) -> usize
         i += 1;
     }
     i
+}
+
+// R shifted, where a child is handed it; else nothing.
+pub fn shifted_keys(h: Handed, required: &[u64], columns: u64, out: &mut [u64; 32]) -> usize
+    requires { ⌜ (length (now required) ≤ 32) × (length (now out) ≡ 32) ⌝ }
+    ensures { λ r. ⌜ (length (now (out .exit)) ≡ 32) × (r ≤ 32) × ShiftedBy h columns (now (required .entry)) (take r (now (out .exit))) ⌝ }
+{
+    match h {
+        Handed::Kept => return 0,
+        Handed::Cleared => return 0,
+        Handed::Required => return 0,
+        Handed::Keys => return 0,
+        Handed::Shifted => {
+            let k = shift_right_required(required, columns);
+            return unpack_keys(k, out);
+        }
+        Handed::Mapped => return 0,
+    }
 }

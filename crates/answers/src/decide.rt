@@ -1,6 +1,6 @@
 // The decision on a sheet that was read.
 ghost use mathlib.Core.Path.{_≡_};
-ghost use Prim.Native.Nat.{_≤_, _<_};
+ghost use Prim.Native.Nat.{_≤_};
 ghost use lib.ListN.{length, take};
 ghost use Rattle.keys.specs.Expressions.{sameExpr};
 ghost use Rattle.keys.specs.Adjust.{adjustInputKeysOrdering};
@@ -43,7 +43,7 @@ fn operator(h: &[u64]) -> Operator
     }
 }
 
-// R, L, G, S, W, O, A and M of a K sheet; W as rows in the room lent.
+// R, L, G, W, O, A and M of a K sheet; W as rows in the room lent.
 pub fn adjust(lists: &[[u64; 64]], counts: &[usize], rules: &mut [[u64; 2]]) -> Adjusted
     requires { ⌜ KeyHeld (now lists) (now counts) × (32 ≤ length (now rules)) ⌝ }
     ensures { λ x. ⌜ WholeAdjusted x × (let s = heldKeySheet (now (lists .entry)) (now (counts .entry)) in adjustedOf s x ≡ adjustInputKeysOrdering sameExpr s) ⌝ }
@@ -52,13 +52,12 @@ pub fn adjust(lists: &[[u64; 64]], counts: &[usize], rules: &mut [[u64; 2]]) -> 
     let r = held(lists, counts, 1);
     let l = held(lists, counts, 2);
     let g = held(lists, counts, 3);
-    let s = held(lists, counts, 4);
     let n = rule_rows(held(lists, counts, 5), rules);
     let o = held(lists, counts, 6);
     let a = held(lists, counts, 7);
     let m = held(lists, counts, 8);
     let w = &rules[0..n];
-    adjust::adjust::adjust_input_keys_ordering(k, r, l, g, s, w, o, a, m)
+    adjust::adjust::adjust_input_keys_ordering(k, r, l, g, w, o, a, m)
 }
 
 // Op, mode, L, G, H and N of an I sheet; W and V as rows in the rooms lent.

@@ -4,23 +4,19 @@ ghost use Prim.Native.Nat.{_≤_};
 ghost use lib.ListN.{length};
 ghost use Rattle.keys.specs.Expressions.{sameExpr};
 ghost use Rattle.keys.specs.Inputs.{reorderJoinKeysToInputs};
-ghost use Rattle.keys.specs.Values.{packedKeys};
-ghost use Rattle.keys.specs.InputValues.{WholeCurrent, currentOf};
+ghost use Rattle.keys.specs.InputValues.{attemptOf};
 ghost use Rattle.sheet.specs.KeyAnswers.{wrote, joinAnswerText};
 ghost use Rattle.sheet.specs.Outcomes.{answer, after, within};
-ghost use Rattle.sheet.specs.Held.{heldAt, heldJoinSheet, JoinHeld};
+ghost use Rattle.sheet.specs.Held.{heldJoinSheet, JoinHeld};
 ghost use Rattle.answers.specs.Texts.{joinListsText};
-ghost use Rattle.answers.specs.AnswerLists.{JoinFew};
-ghost use Rattle.answers.specs.Moves.{FollowedWithin};
-use crate::chosen::followed_only;
+ghost use Rattle.answers.specs.AnswerLists.{JoinFew, ReadyJoin};
 use crate::chosen::followed_or;
-use crate::chosen::unpack_keys;
 use crate::decide::follow;
-use crate::directions::moved_directions;
 use crate::held::held;
 use crate::join_text::join_lists_length;
 use crate::join_text::put_join_lists;
-use keys::inputs::Current;
+use crate::moved::moved_pairs;
+use keys::inputs::Attempt;
 use keys::inputs::report_number;
 use keys::inputs::side_followed;
 use keys::inputs::side_number;
@@ -44,33 +40,27 @@ fn write_join(
     put_join_lists(out, report, followed, p, l, g, s) as u64
 }
 
-// The lists of an answer, chosen and written; `left` and `right` are the keys that were built.
+// The lists of an answer, chosen and written; `left`, `right` and `turned` stand at the positions.
 fn answer_lists<'a>(
     lists: &'a [[u64; 64]],
     counts: &[usize],
-    c: Current,
+    o: Attempt,
+    at: &[u64],
     left: &'a [u64],
     right: &'a [u64],
+    turned: &'a [u64],
     out: &mut [u8],
 ) -> u64
-    requires { ⌜ JoinHeld (now lists) (now counts) × WholeCurrent c × FollowedWithin (heldAt (now lists) (now counts) 3) (c .at) (c .outcome) × (now left ≡ packedKeys (c .left)) × (now right ≡ packedKeys (c .right)) ⌝ }
-    ensures { λ r. ⌜ (let t = within (length (now (out .entry))) (wrote (joinAnswerText (currentOf (heldJoinSheet (now (lists .entry)) (now (counts .entry))) c))) in (r ≡ answer t) × (now (out .exit) ≡ after t (now (out .entry)))) ⌝ }
+    requires { ⌜ JoinHeld (now lists) (now counts) × ReadyJoin (now lists) (now counts) o (now at) (now left) (now right) (now turned) ⌝ }
+    ensures { λ r. ⌜ (let t = within (length (now (out .entry))) (wrote (joinAnswerText (attemptOf (heldJoinSheet (now (lists .entry)) (now (counts .entry))) (now (at .entry)) o))) in (r ≡ answer t) × (now (out .exit) ≡ after t (now (out .entry)))) ⌝ }
 {
-    let o = c.outcome;
-    let at = c.at;
-    let n = at.count;
-    let positions = at.items;
-    let s = held(lists, counts, 3);
-    let turned = moved_directions(o, at, s);
-    let m = turned.count;
-    let directions = turned.items;
     write_join(
         report_number(o),
         side_number(side_followed(o)),
-        followed_only(o, &positions[0..n]),
+        at,
         followed_or(o, left, held(lists, counts, 1)),
         followed_or(o, right, held(lists, counts, 2)),
-        followed_or(o, &directions[0..m], s),
+        followed_or(o, turned, held(lists, counts, 3)),
         out,
     )
 }
@@ -87,9 +77,30 @@ pub fn answer_join_sheet(
     ensures { λ r. ⌜ (let t = within (length (now (out .entry))) (wrote (joinAnswerText (reorderJoinKeysToInputs (heldJoinSheet (now (lists .entry)) (now (counts .entry))) sameExpr))) in (r ≡ answer t) × (now (out .exit) ≡ after t (now (out .entry)))) ⌝ }
 {
     let c = follow(lists, counts, w, v);
+    let o = c.outcome;
+    let at = c.at;
+    let n = at.count;
+    let positions = at.items;
     let mut left = [0u64; 32];
     let mut right = [0u64; 32];
-    let l = unpack_keys(c.left, &mut left);
-    let g = unpack_keys(c.right, &mut right);
-    answer_lists(lists, counts, c, &left[0..l], &right[0..g], out)
+    let mut turned = [0u64; 32];
+    let m = moved_pairs(
+        held(lists, counts, 1),
+        held(lists, counts, 2),
+        held(lists, counts, 3),
+        &positions[0..n],
+        &mut left,
+        &mut right,
+        &mut turned,
+    );
+    answer_lists(
+        lists,
+        counts,
+        o,
+        &positions[0..n],
+        &left[0..n],
+        &right[0..n],
+        &turned[0..m],
+        out,
+    )
 }

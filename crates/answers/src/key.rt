@@ -1,30 +1,32 @@
 // The answer of a K sheet that was read.
 ghost use mathlib.Core.Path.{_≡_};
-ghost use mathlib.Core.List.{_++_};
-ghost use Prim.Native.Nat.{_≤_};
+ghost use mathlib.Core.List.{List, _++_};
+ghost use Prim.Native.Nat.{ℕ, _≤_};
 ghost use lib.ListN.{length, getD};
 ghost use Rattle.keys.specs.Expressions.{sameExpr};
 ghost use Rattle.keys.specs.Adjust.{adjustInputKeysOrdering};
-ghost use Rattle.keys.specs.Answers.{WholeAdjusted, answerOf};
+ghost use Rattle.keys.specs.Answers.{WholeAdjusted, answerBy, answerOf};
 ghost use Rattle.sheet.specs.KeyAnswers.{wrote, keyAnswerText, adjusted};
 ghost use Rattle.sheet.specs.Outcomes.{answer, after, within};
 ghost use Rattle.sheet.specs.Held.{childCount, heldKeySheet, KeyHeld};
 ghost use Rattle.answers.specs.Texts.{keyListsText};
 ghost use Rattle.answers.specs.Children.{childrenText};
-ghost use Rattle.answers.specs.AnswerLists.{refusedBy, KeyFew, ReadyKey};
+ghost use Rattle.answers.specs.AnswerLists.{refusedBy, KeyFew, heldProjection, ReadyKey};
 use crate::children::children_length;
 use crate::children::put_children;
 use crate::chosen::cleared_or;
 use crate::chosen::handed_list;
 use crate::chosen::keeps;
 use crate::chosen::moved_or;
-use crate::chosen::unpack_keys;
+use crate::chosen::shifted_keys;
 use crate::decide::adjust;
 use crate::held::held;
 use crate::key_text::key_lists_length;
 use crate::key_text::put_key_lists;
+use crate::moved::moved_pairs;
 use crate::projection::projected_by;
 use keys::answer::Adjusted;
+use keys::answer::Handed;
 use keys::answer::Outcome;
 use keys::answer::changed_number;
 use keys::answer::report_number;
@@ -81,46 +83,43 @@ fn write_key(
     put_children(out, e, stays, first, kept, others, lists, counts, n) as u64
 }
 
-// The lists of an answer, chosen and written; `left`, `right` and `j` are the keys that were built and the projection.
+// The lists of an answer, chosen and written. `left`, `right` and `turned` stand at the positions, `shifted` is R shifted, `j` the projection.
 fn answer_lists<'a>(
     lists: &'a [[u64; 64]],
     counts: &[usize],
-    x: Adjusted,
+    o: Outcome,
+    cleared: bool,
+    first: Handed,
+    others: Handed,
+    at: &[u64],
     left: &'a [u64],
     right: &'a [u64],
+    turned: &'a [u64],
+    shifted: &'a [u64],
     j: &[u64],
     out: &mut [u8],
 ) -> u64
-    requires { ⌜ KeyHeld (now lists) (now counts) × ReadyKey (now lists) (now counts) x (now left) (now right) (now j) ⌝ }
-    ensures { λ r. ⌜ (let t = within (length (now (out .entry))) (wrote (keyAnswerText (answerOf (heldKeySheet (now (lists .entry)) (now (counts .entry))) x))) in (r ≡ answer t) × (now (out .exit) ≡ after t (now (out .entry)))) ⌝ }
+    requires { ⌜ KeyHeld (now lists) (now counts) × ReadyKey (now lists) (now counts) o first others (now at) (now left) (now right) (now turned) (now shifted) × (length (now j) ≤ 128) ⌝ }
+    ensures { λ r. ⌜ ((places : List ℕ) → now (j .entry) ≡ heldProjection (now (lists .entry)) (now (counts .entry)) o places → let t = within (length (now (out .entry))) (wrote (keyAnswerText (answerBy (heldKeySheet (now (lists .entry)) (now (counts .entry))) o cleared first others (now (at .entry)) places))) in (r ≡ answer t) × (now (out .exit) ≡ after t (now (out .entry)))) ⌝ }
 {
-    let o = x.outcome;
-    let first = x.first;
-    let others = x.others;
-    let at = x.at;
-    let n = at.count;
-    let positions = at.items;
-    let turned = x.directions;
-    let m = turned.count;
-    let directions = turned.items;
     let required = held(lists, counts, 1);
-    let l = held(lists, counts, 2);
-    let g = held(lists, counts, 3);
-    let s = held(lists, counts, 4);
     let mapped = held(lists, counts, 8);
+    let l = moved_or(o, left, held(lists, counts, 2));
+    let g = moved_or(o, right, held(lists, counts, 3));
+    let s = moved_or(o, turned, held(lists, counts, 4));
     write_key(
         changed_number(o),
         report_number(o),
-        &positions[0..n],
-        cleared_or(x.cleared, required),
-        moved_or(o, left, l),
-        moved_or(o, right, g),
-        moved_or(o, &directions[0..m], s),
+        at,
+        cleared_or(cleared, required),
+        l,
+        g,
+        s,
         j,
         keeps(first),
-        handed_list(first, required, l, left, mapped),
+        handed_list(first, required, l, shifted, mapped),
         keeps(others),
-        handed_list(others, required, g, right, mapped),
+        handed_list(others, required, g, shifted, mapped),
         lists,
         counts,
         out,
@@ -133,18 +132,48 @@ fn answer_adjusted(lists: &[[u64; 64]], counts: &[usize], x: Adjusted, out: &mut
     ensures { λ r. ⌜ (let t = within (length (now (out .entry))) (wrote (keyAnswerText (answerOf (heldKeySheet (now (lists .entry)) (now (counts .entry))) x))) in (r ≡ answer t) × (now (out .exit) ≡ after t (now (out .entry)))) ⌝ }
 {
     let o = x.outcome;
+    let first = x.first;
+    let others = x.others;
+    let at = x.at;
+    let n = at.count;
+    let positions = at.items;
+    let found = x.places;
+    let k = found.count;
+    let places = found.items;
     let mut left = [0u64; 32];
     let mut right = [0u64; 32];
+    let mut turned = [0u64; 32];
+    let mut shifted = [0u64; 32];
     let mut j = [0u64; 128];
-    let l = unpack_keys(x.left, &mut left);
-    let g = unpack_keys(x.right, &mut right);
-    let found = x.places;
-    let n = found.count;
-    let places = found.items;
+    let m = moved_pairs(
+        held(lists, counts, 2),
+        held(lists, counts, 3),
+        held(lists, counts, 4),
+        &positions[0..n],
+        &mut left,
+        &mut right,
+        &mut turned,
+    );
+    let columns = held(lists, counts, 0)[3];
+    let h = shifted_keys(others, held(lists, counts, 1), columns, &mut shifted);
     let groups = held(lists, counts, 6);
     let names = held(lists, counts, 7);
-    let m = projected_by(o, groups, &places[0..n], names, &mut j);
-    answer_lists(lists, counts, x, &left[0..l], &right[0..g], &j[0..m], out)
+    let w = projected_by(o, groups, &places[0..k], names, &mut j);
+    answer_lists(
+        lists,
+        counts,
+        o,
+        x.cleared,
+        first,
+        others,
+        &positions[0..n],
+        &left[0..n],
+        &right[0..n],
+        &turned[0..m],
+        &shifted[0..h],
+        &j[0..w],
+        out,
+    )
 }
 
 // The decision on a K sheet and its answer's bytes; `rules` is room for the rewriting.

@@ -2,12 +2,12 @@
 pub mod children;
 pub mod chosen;
 pub mod decide;
-pub mod directions;
 pub mod held;
 pub mod join;
 pub mod join_text;
 pub mod key;
 pub mod key_text;
 pub mod line;
+pub mod moved;
 pub mod projection;
 pub mod sheet_text;

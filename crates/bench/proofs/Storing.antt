@@ -8,9 +8,10 @@ use lib.ListN.{length, getD, drop, set, drop-of-length-le}
 use lib.Seq.{sets, drop-cons}
 use mathlib.Core.Bool.{true, false}
 use borrow.Author.Tests.{le-leb, lt-leb, eq-eqb, ne-eqb}
+use Rattle.keys.specs.Lists.{permute}
+use Rattle.keys.specs.Expressions.{goneNumber}
 use Rattle.keys.specs.Reorder.{Tried}
-use Rattle.keys.specs.Values.{packedKeys, reportOf, resulting, triedOf}
-use Rattle.keys.specs.declared.reorder.Reordered.{Reordered}
+use Rattle.keys.specs.Values.{numbers, reportOf, resulting, triedOf}
 use Rattle.keys.specs.declared.reorder.Reordered.the-variants.{Moved}
 use Rattle.keys.specs.declared.reorder.Reorder.{Reorder}
 use Rattle.bench.specs.Orders.{taken, tried, reportFor, leftFor, rightFor}
@@ -52,10 +53,10 @@ module _ (w : List (List ℕ)) (r l g left right : List ℕ) where
     stood n z h = (rw (e, reported n z), (rw (e, reported n z, ne-eqb n 2 h), rw (e, reported n z, ne-eqb n 2 h)))
 
     pub moved :
-        t .outcome ≡ Moved → (left′ right′ : List ℕ) → left′ ≡ sets left 0 (packedKeys (t .left)) → right′ ≡ sets right 0 (packedKeys (t .right)) →
+        t .outcome ≡ Moved → (left′ right′ ps : List ℕ) → ps ≡ numbers (t .at) → left′ ≡ sets left 0 (permute goneNumber l ps) → right′ ≡ sets right 0 (permute goneNumber g ps) →
         (2 ≡ reportFor w r l g) × ((left′ ≡ leftFor w r l g left) × (right′ ≡ rightFor w r l g right))
-    moved z left′ right′ p q =
+    moved z left′ right′ ps f p q =
         let n : tried w r l g .report ≡ 2 = reported 2 (ap reportOf z) in
-        let a : tried w r l g .left ≡ packedKeys (t .left) = ap (λ (x : Tried ℕ). x .left) (sym so) ∙ ap (λ (o : Reordered). resulting o l (t .left)) z in
-        let b : tried w r l g .right ≡ packedKeys (t .right) = ap (λ (x : Tried ℕ). x .right) (sym so) ∙ ap (λ (o : Reordered). resulting o g (t .right)) z in
+        let a : tried w r l g .left ≡ permute goneNumber l ps = ap (λ (x : Tried ℕ). x .left) (sym so) ∙ (λ i. resulting goneNumber (z i) l (sym f i)) in
+        let b : tried w r l g .right ≡ permute goneNumber g ps = ap (λ (x : Tried ℕ). x .right) (sym so) ∙ (λ i. resulting goneNumber (z i) g (sym f i)) in
         (rw (e, n), (rw (e, n, a) p, rw (e, n, b) q))

@@ -7,9 +7,11 @@ ghost use Rattle.text.specs.Read.{storedIn};
 ghost use Rattle.text.specs.Write.{rowField, lineText};
 ghost use Rattle.bench.specs.Answers.{found, placeAfter, storedFrom};
 ghost use lib.Seq.{sets};
-ghost use Rattle.keys.specs.Values.{packedKeys, Whole};
+ghost use Rattle.keys.specs.Lists.{permute};
+ghost use Rattle.keys.specs.Expressions.{goneNumber};
 ghost use Rattle.bench.specs.Orders.{reportFor, leftFor, rightFor};
-use keys::list::KeyList;
+use keys::list::entry;
+use keys::reorder::GONE;
 use keys::reorder::Reordered;
 use keys::reorder::try_reorder;
 use text::line::Line;
@@ -82,16 +84,13 @@ fn store(out: &mut [u64], i: usize, value: u64)
     }
 }
 
-// Stores the keys where there is room.
-fn store_keys(k: KeyList, out: &mut [u64])
-    requires { ⌜ Whole k ⌝ }
-    ensures { λ _. ⌜ now (out .exit) ≡ sets (now (out .entry)) 0 (packedKeys k) ⌝ }
+// Stores the keys at the positions where there is room.
+fn store_moved(all: &[u64], at: &[u64], out: &mut [u64])
+    ensures { λ _. ⌜ now (out .exit) ≡ sets (now (out .entry)) 0 (permute goneNumber (now (all .entry)) (now (at .entry))) ⌝ }
 {
-    let n = k.count;
     let mut i: usize = 0;
-    while i < n {
-        let e = k.items[i];
-        store(out, i, e.number);
+    while i < at.len() {
+        store(out, i, entry(GONE, all, at[i]));
         i += 1;
     }
 }
@@ -125,8 +124,11 @@ pub extern "C" fn bench_try_reorder(
         Reordered::Met => 1,
         Reordered::Impossible => 3,
         Reordered::Moved => {
-            store_keys(t.left, left);
-            store_keys(t.right, right);
+            let at = t.at;
+            let n = at.count;
+            let items = at.items;
+            store_moved(l, &items[0..n], left);
+            store_moved(g, &items[0..n], right);
             2
         }
     }

@@ -1,11 +1,12 @@
 // The order that the inputs of a join have already. Ports `reorder_join_keys_to_inputs` and `reorder_current_join_keys`.
 ghost use mathlib.Core.Path.{_≡_};
-ghost use mathlib.Core.List.{List};
+ghost use mathlib.Core.List.{List, []};
 ghost use Prim.Native.Nat.{ℕ, _≤_};
 ghost use lib.ListN.{length};
 ghost use Rattle.keys.specs.Expressions.{sameExpr, rules};
 ghost use Rattle.keys.specs.Inputs.{JoinSheet, JoinAnswer, trySide, reorderCurrentJoinKeys, reorderJoinKeysToInputs};
 ghost use Rattle.keys.specs.Kept.{hashed, orderTried};
+ghost use Rattle.keys.specs.Values.{numbers, WholeNumbers};
 ghost use Rattle.keys.specs.InputValues.{inputOf, joinSheet, withPairs, sideNumber, PartOf, markLength, answerBy, currentOf, WholeCurrent};
 use keys::inputs::Attempt;
 use keys::inputs::Current;
@@ -33,38 +34,30 @@ pub fn after_mark<'a>(input: &'a [u64]) -> &'a [u64]
 }
 
 fn stood(outcome: Attempt) -> Current
-    ensures { λ r. ⌜ WholeCurrent r × (r .outcome ≡ outcome) ⌝ }
+    ensures { λ r. ⌜ WholeNumbers (r .at) × (numbers (r .at) ≡ []) × (r .outcome ≡ outcome) ⌝ }
 {
     let at = keys::list::no_numbers();
-    let left = keys::list::no_keys();
-    let right = keys::list::no_keys();
     Current {
         outcome: outcome,
         at: at,
-        left: left,
-        right: right,
     }
 }
 
 fn follow(side: Side, tried: Reorder) -> Current
-    ensures { λ r. ⌜ (r .outcome ≡ Attempt.Followed side (tried .outcome)) × (r .at ≡ tried .at) × (r .left ≡ tried .left) × (r .right ≡ tried .right) ⌝ }
+    ensures { λ r. ⌜ (r .outcome ≡ Attempt.Followed side (tried .outcome)) × (r .at ≡ tried .at) ⌝ }
 {
     let o = tried.outcome;
     let at = tried.at;
-    let left = tried.left;
-    let right = tried.right;
     Current {
         outcome: Attempt::Followed(side, o),
         at: at,
-        left: left,
-        right: right,
     }
 }
 
 // One side under its own rewriting.
 fn try_side(side: Side, l: &[u64], g: &[u64], input: &[u64], rewriting: &[[u64; 2]]) -> Current
     requires { ⌜ (length (now l) ≤ 32) × (length (now g) ≡ length (now l)) × (length (now input) ≤ 33) ⌝ }
-    ensures { λ r. ⌜ WholeCurrent r × ((s : JoinSheet) (impossible untried : JoinAnswer) → let t = withPairs (now (l .entry)) (now (g .entry)) s in answerBy t r impossible untried (r .outcome) ≡ trySide t sameExpr (sideNumber side) (rules (now (rewriting .entry))) impossible untried (inputOf (now (input .entry)))) ⌝ }
+    ensures { λ r. ⌜ WholeCurrent r × ((s : JoinSheet) (impossible untried : JoinAnswer) → let t = withPairs (now (l .entry)) (now (g .entry)) s in answerBy t (numbers (r .at)) impossible untried (r .outcome) ≡ trySide t sameExpr (sideNumber side) (rules (now (rewriting .entry))) impossible untried (inputOf (now (input .entry)))) ⌝ }
 {
     if !hash_partitioned(input) {
         return stood(Attempt::Untried);
@@ -116,7 +109,7 @@ fn order_tried(op: u64, mode: u64) -> bool
     mode == 0
 }
 
-// Every list of the answer, by value.
+// The answer by its outcome and positions.
 pub fn join_keys_to_inputs(
     op: u64,
     mode: u64,

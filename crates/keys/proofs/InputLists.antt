@@ -19,6 +19,7 @@ use Rattle.keys.specs.Expressions.{Expression, sameExpr, placeholder, go
 use Rattle.keys.specs.Arrange.{Below}
 use Rattle.keys.specs.Inputs.{JoinSheet, JoinAnswer, asStood, following, reorderJoinKeysToInputs, followedKeys}
 use Rattle.keys.specs.Kept.{askedUnder}
+use Rattle.keys.specs.Values.{numbers}
 use Rattle.keys.specs.InputValues.{inputOf, joinSheet, sideNumber, markLength, HandedBack, answerBy, currentOf, WholeCurrent, reportBy, sideBy, positionCount, InputsOrdered, InputLists}
 use Rattle.keys.specs.declared.inputs.Side.{Side}
 use Rattle.keys.specs.declared.inputs.Side.the-variants.{Neither, Left, Right}
@@ -140,7 +141,7 @@ module _ (op mode : ℕ) (l g s : List ℕ) (h n : RefT (List ℕ)) (w v : List 
 
   module _ (e : currentOf theSheet c ≡ theAnswer) where
     abbrev answerAt : Attempt → JoinAnswer
-    answerAt o = answerBy theSheet c (asStood theSheet 3) (asStood theSheet 0) o
+    answerAt o = answerBy theSheet (numbers (c .at)) (asStood theSheet 3) (asStood theSheet 0) o
 
     report-is : reportBy (c .outcome) ≡ theAnswer .report
     report-is = go (c .outcome) ∙ ap (λ (a : JoinAnswer). a .report) e

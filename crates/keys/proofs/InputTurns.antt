@@ -11,8 +11,7 @@ use Rattle.keys.specs.Expressions.{sameExpr, placeholder, goneNumber, ex
 use Rattle.keys.specs.Inputs.{JoinSheet, JoinAnswer, asStood, following, trySide, tryRight, reorderCurrentJoinKeys, reorderJoinKeysToInputs}
 use Rattle.keys.specs.Kept.{hashed, orderTried}
 use Rattle.keys.specs.Values.{numbers, numberRules, reportOf, resulting, triedOf}
-use Rattle.keys.specs.InputValues.{inputOf, withPairs, sideNumber, movedTo, currentTry, answerBy, currentOf}
-use Rattle.keys.specs.declared.list.KeyList.{KeyList}
+use Rattle.keys.specs.InputValues.{inputOf, withPairs, sideNumber, currentTry, answerBy, currentOf}
 use Rattle.keys.specs.declared.reorder.Reordered.{Reordered}
 use Rattle.keys.specs.declared.reorder.Reordered.the-variants.{Met, Moved, Impossible}
 use Rattle.keys.specs.declared.reorder.Reorder.{Reorder}
@@ -20,19 +19,19 @@ use Rattle.keys.specs.declared.inputs.Side.{Side}
 use Rattle.keys.specs.declared.inputs.Attempt.{Attempt}
 use Rattle.keys.specs.declared.inputs.Attempt.the-variants.{Untried, Followed, Failed}
 use Rattle.keys.specs.declared.inputs.Current.{Current}
-use Rattle.keys.proofs.Packed.{mapTried, try-expressions}
+use Rattle.keys.proofs.Packed.{mapTried, try-expressions, permute-expressions}
 use Rattle.keys.proofs.InputMarks.{unhashed}
 
-movedTo-packed : (o : Reordered) (ks : List ℕ) (k : KeyList) → movedTo o (expressions ks) k ≡ expressions (resulting o ks k)
-movedTo-packed Met ks k = refl
-movedTo-packed Moved ks k = refl
-movedTo-packed Impossible ks k = refl
+resulting-packed : (o : Reordered) (ks ps : List ℕ) → resulting placeholder o (expressions ks) ps ≡ expressions (resulting goneNumber o ks ps)
+resulting-packed Met ks ps = refl
+resulting-packed Moved ks ps = permute-expressions ks ps
+resulting-packed Impossible ks ps = refl
 
 -- one side, under its rewriting w
 module _ (s : JoinSheet) (l g : List ℕ) (w : List (List ℕ)) (side : Side) (impossible untried : JoinAnswer) (h : List ℕ) (c : Current) where
   abbrev SideAnswered : Type 0
   SideAnswered =
-      answerBy (withPairs l g s) c impossible untried (c .outcome)
+      answerBy (withPairs l g s) (numbers (c .at)) impossible untried (c .outcome)
       ≡ trySide (withPairs l g s) sameExpr (sideNumber side) (rules w) impossible untried (inputOf h)
 
   pub side-untried : hashed (inputOf h) ≡ false → c .outcome ≡ Untried → SideAnswered
@@ -46,12 +45,12 @@ module _ (s : JoinSheet) (l g : List ℕ) (w : List (List ℕ)) (side : Side) (i
     pub side-failed : r .outcome ≡ Impossible → c .outcome ≡ Failed → SideAnswered
     side-failed p o = rw (o, i, tried-is, p)
 
-    module _ (at : c .at ≡ r .at) (left : c .left ≡ r .left) (right : c .right ≡ r .right) where
-      current-try : currentTry (withPairs l g s) c (r .outcome) ≡ mapTried expression (triedOf l g r)
+    module _ (at : c .at ≡ r .at) where
+      current-try : currentTry (withPairs l g s) (numbers (c .at)) (r .outcome) ≡ mapTried expression (triedOf l g r)
       current-try =
           let o = r .outcome in
-          let p : movedTo o (expressions l) (c .left) ≡ expressions (resulting o l (r .left)) = rw left (movedTo-packed o l (r .left)) in
-          let q : movedTo o (expressions g) (c .right) ≡ expressions (resulting o g (r .right)) = rw right (movedTo-packed o g (r .right)) in
+          let p : resulting placeholder o (expressions l) (numbers (c .at)) ≡ expressions (resulting goneNumber o l (numbers (r .at))) = rw at (resulting-packed o l (numbers (r .at))) in
+          let q : resulting placeholder o (expressions g) (numbers (c .at)) ≡ expressions (resulting goneNumber o g (numbers (r .at))) = rw at (resulting-packed o g (numbers (r .at))) in
           λ k. record { report = reportOf o; positions = numbers (at k); left = p k; right = q k }
 
       pub side-followed : eqb (reportOf (r .outcome)) 3 ≡ false → c .outcome ≡ Followed side (r .outcome) → SideAnswered
@@ -69,12 +68,12 @@ Asked Failed = Unit {0}
 
 -- left first: what the two tries come to
 module _ (s : JoinSheet) (left : Current)
-    (answer : (impossible untried : JoinAnswer) → answerBy s left impossible untried (left .outcome) ≡ trySide s sameExpr 1 (s .leftRewriting) impossible untried (s .leftInput)) where
+    (answer : (impossible untried : JoinAnswer) → answerBy s (numbers (left .at)) impossible untried (left .outcome) ≡ trySide s sameExpr 1 (s .leftRewriting) impossible untried (s .leftInput)) where
   abbrev Answers : Current → Type 0
   Answers c = currentOf s c ≡ reorderCurrentJoinKeys s sameExpr
 
   abbrev byLeft : Attempt → JoinAnswer
-  byLeft o = answerBy s left (tryRight s sameExpr 3) (tryRight s sameExpr 0) o
+  byLeft o = answerBy s (numbers (left .at)) (tryRight s sameExpr 3) (tryRight s sameExpr 0) o
 
   left-answers : byLeft (left .outcome) ≡ reorderCurrentJoinKeys s sameExpr
   left-answers = answer (tryRight s sameExpr 3) (tryRight s sameExpr 0)
@@ -82,8 +81,8 @@ module _ (s : JoinSheet) (left : Current)
   pub left-followed : (side : Side) (o : Reordered) → left .outcome ≡ Followed side o → Answers left
   left-followed side o e = rw e (rw e at left-answers)
 
-  module _ (right : Current) (again : (impossible untried : JoinAnswer) → answerBy s right impossible untried (right .outcome) ≡ trySide s sameExpr 2 (s .rightRewriting) impossible untried (s .rightInput)) (u : Unfollowed (left .outcome)) where
-    right-answers : (report : ℕ) → answerBy s right (asStood s 3) (asStood s report) (right .outcome) ≡ tryRight s sameExpr report
+  module _ (right : Current) (again : (impossible untried : JoinAnswer) → answerBy s (numbers (right .at)) impossible untried (right .outcome) ≡ trySide s sameExpr 2 (s .rightRewriting) impossible untried (s .rightInput)) (u : Unfollowed (left .outcome)) where
+    right-answers : (report : ℕ) → answerBy s (numbers (right .at)) (asStood s 3) (asStood s report) (right .outcome) ≡ tryRight s sameExpr report
     right-answers report = again (asStood s 3) (asStood s report)
 
     pub right-asked : Asked (right .outcome) → Answers right
@@ -91,8 +90,8 @@ module _ (s : JoinSheet) (left : Current)
       where
         go :
             (a : Attempt) → Unfollowed a → (b : Attempt) → Asked b →
-            answerBy s right (asStood s 3) (asStood s 0) b ≡ tryRight s sameExpr 0 → answerBy s right (asStood s 3) (asStood s 3) b ≡ tryRight s sameExpr 3 →
-            answerBy s right (asStood s 3) (asStood s 0) b ≡ byLeft a
+            answerBy s (numbers (right .at)) (asStood s 3) (asStood s 0) b ≡ tryRight s sameExpr 0 → answerBy s (numbers (right .at)) (asStood s 3) (asStood s 3) b ≡ tryRight s sameExpr 3 →
+            answerBy s (numbers (right .at)) (asStood s 3) (asStood s 0) b ≡ byLeft a
         go Untried u b k p q = p
         go (Followed side o) u b k p q = absurd u
         go Failed u Untried k p q = absurd k
@@ -102,7 +101,7 @@ module _ (s : JoinSheet) (left : Current)
     pub right-unasked : right .outcome ≡ Untried → Answers left
     right-unasked e = go (left .outcome) u (rw e at (right-answers 0)) (rw e at (right-answers 3)) ∙ left-answers
       where
-        go : (a : Attempt) → Unfollowed a → asStood s 0 ≡ tryRight s sameExpr 0 → asStood s 3 ≡ tryRight s sameExpr 3 → answerBy s left (asStood s 3) (asStood s 0) a ≡ byLeft a
+        go : (a : Attempt) → Unfollowed a → asStood s 0 ≡ tryRight s sameExpr 0 → asStood s 3 ≡ tryRight s sameExpr 3 → answerBy s (numbers (left .at)) (asStood s 3) (asStood s 0) a ≡ byLeft a
         go Untried u p q = p
         go (Followed side o) u p q = absurd u
         go Failed u p q = q

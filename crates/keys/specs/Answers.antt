@@ -1,18 +1,17 @@
 -- What the answers of `adjust_input_keys_ordering` and `reorder_join_keys_to_inputs` stand for: document 01's numbers and lists for each case.
 use Prim.Native.Nat.{ℕ}
 use mathlib.Core.Path.{_≡_}
-use mathlib.Core.Bool.{cond}
-use mathlib.Core.Logic.{_⊎_}
+use mathlib.Core.Bool.{Bool, cond}
 use mathlib.Core.List.{List, [], _++_}
 use lib.ListN.{length}
-use Rattle.keys.specs.Expressions.{Expression, expressions, rules}
-use Rattle.keys.specs.Adjust.{KeySheet, KeyAnswer, Projected, Adjustment, answered, nameNotFound, handOver, placedNames, namesFrom}
-use Rattle.keys.specs.Values.{keys, numbers, Whole, WholeNumbers, reportOf}
+use Rattle.keys.specs.Lists.{permute}
+use Rattle.keys.specs.Expressions.{Expression, placeholder, expressions, rules}
+use Rattle.keys.specs.Adjust.{KeySheet, KeyAnswer, Projected, Adjustment, answered, nameNotFound, handOver, movedDirections, shiftRightRequired, placedNames, namesFrom}
+use Rattle.keys.specs.Values.{numbers, WholeNumbers, reportOf}
 use Rattle.keys.specs.declared.reorder.Reordered.the-variants.{Met, Moved, Impossible}
-use Rattle.keys.specs.declared.list.KeyList.{KeyList}
 use Rattle.keys.specs.declared.answer.Operator.{Operator}
 use Rattle.keys.specs.declared.answer.Handed.{Handed}
-use Rattle.keys.specs.declared.answer.Handed.the-variants.{Kept, Cleared, Required, Keys, Built, Mapped}
+use Rattle.keys.specs.declared.answer.Handed.the-variants.{Kept, Cleared, Required, Keys, Shifted, Mapped}
 use Rattle.keys.specs.declared.answer.Outcome.{Outcome}
 use Rattle.keys.specs.declared.answer.Outcome.the-variants.{Unchanged, Passed, Tried, Regrouped, NameNotFound}
 use Rattle.keys.specs.declared.answer.Adjusted.{Adjusted}
@@ -38,25 +37,37 @@ keySheet k r l g s w o a m cs = record {
   children = cs;
 }
 
--- a direction for each pair, or none at all
-abbrev pub Directed : List ℕ → List ℕ → Type 0
-Directed s l = (length s ≡ length l) ⊎ (length s ≡ 0)
+-- there are places only where groups moved, and positions only where there is an answer
+abbrev pub OnlyAnswered : Outcome → List ℕ → List ℕ → Type 0
+OnlyAnswered Unchanged ps places = places ≡ []
+OnlyAnswered Passed ps places = places ≡ []
+OnlyAnswered (Tried o) ps places = places ≡ []
+OnlyAnswered Regrouped ps places = Unit {0}
+OnlyAnswered NameNotFound ps places = (ps ≡ []) × (places ≡ [])
+
+-- a first child is not handed R shifted
+abbrev pub Unshifted : Handed → Type 0
+Unshifted Kept = Unit {0}
+Unshifted Cleared = Unit {0}
+Unshifted Required = Unit {0}
+Unshifted Keys = Unit {0}
+Unshifted Shifted = ⊥
+Unshifted Mapped = Unit {0}
 
 pub record WholeAdjusted (a : Adjusted) : Type 0 where
   pub at : WholeNumbers (a .at)
-  pub left : Whole (a .left)
-  pub right : Whole (a .right)
-  pub directions : WholeNumbers (a .directions)
   pub places : WholeNumbers (a .places)
+  pub only : OnlyAnswered (a .outcome) (numbers (a .at)) (numbers (a .places))
+  pub first : Unshifted (a .first)
 
--- a child's list c becomes: c, nothing, R, its own side's keys, the keys that were built for it, M
-abbrev pub handed : KeySheet → List Expression → KeyList → Handed → List Expression → List Expression
-handed s side built Kept c = c
-handed s side built Cleared c = []
-handed s side built Required c = s .required
-handed s side built Keys c = side
-handed s side built Built c = keys built
-handed s side built Mapped c = s .mapped
+-- a child's list c becomes: c, nothing, R, its own side's keys as they come out, R shifted, M
+abbrev pub handed : KeySheet → List Expression → Handed → List Expression → List Expression
+handed s side Kept c = c
+handed s side Cleared c = []
+handed s side Required c = s .required
+handed s side Keys c = side
+handed s side Shifted c = shiftRightRequired (s .columns) (s .required)
+handed s side Mapped c = s .mapped
 
 abbrev pub changedBy : Outcome → ℕ
 changedBy Unchanged = 0
@@ -89,18 +100,27 @@ projectedBy (Tried o) ps = []
 projectedBy Regrouped ps = ps
 projectedBy NameNotFound ps = []
 
+-- the answer of an outcome with its marks, positions and places
+module _ (s : KeySheet) (o : Outcome) (cleared : Bool) (first others : Handed) (ps places : List ℕ) where
+  -- a side's keys as they come out
+  abbrev pub sideBy : List Expression → List Expression
+  sideBy ks = movedOr o (permute placeholder ks ps) ks
+
+  abbrev pub answerBy : KeyAnswer
+  answerBy = record {
+    changed = changedBy o;
+    report = reportedBy o;
+    positions = ps;
+    required = cond cleared [] (s .required);
+    left = sideBy (s .left);
+    right = sideBy (s .right);
+    directions = movedOr o (movedDirections (s .directions) ps) (s .directions);
+    projection = projectedBy o (placedNames (s .groups) places ++ namesFrom (length (s .groups)) (s .aggregates));
+    children = handOver (handed s (sideBy (s .left)) first) (handed s (sideBy (s .right)) others) (s .children);
+  }
+
 abbrev pub answerOf : KeySheet → Adjusted → KeyAnswer
-answerOf s a = record {
-  changed = changedBy (a .outcome);
-  report = reportedBy (a .outcome);
-  positions = numbers (a .at);
-  required = cond (a .cleared) [] (s .required);
-  left = movedOr (a .outcome) (keys (a .left)) (s .left);
-  right = movedOr (a .outcome) (keys (a .right)) (s .right);
-  directions = movedOr (a .outcome) (numbers (a .directions)) (s .directions);
-  projection = projectedBy (a .outcome) (placedNames (s .groups) (numbers (a .places)) ++ namesFrom (length (s .groups)) (s .aggregates));
-  children = handOver (handed s (s .left) (a .left) (a .first)) (handed s (s .right) (a .right) (a .others)) (s .children);
-}
+answerOf s a = answerBy s (a .outcome) (a .cleared) (a .first) (a .others) (numbers (a .at)) (numbers (a .places))
 
 -- refusal 10, or the answer
 abbrev pub adjustedBy : Outcome → KeyAnswer → Adjustment

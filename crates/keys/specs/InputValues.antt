@@ -9,13 +9,11 @@ use lib.ListN.{length, take, drop}
 use denote.Ref.{RefT}
 use Rattle.keys.specs.Lists.{permute}
 use Rattle.keys.specs.Reorder.{Tried}
-use Rattle.keys.specs.Expressions.{Expression, expressions, goneNumber, rules}
+use Rattle.keys.specs.Expressions.{Expression, placeholder, expressions, goneNumber, rules}
 use Rattle.keys.specs.Inputs.{JoinSheet, JoinAnswer, asStood, following, followedKeys}
 use Rattle.keys.specs.Arrange.{Below}
-use Rattle.keys.specs.Values.{keys, numbers, Whole, WholeNumbers, reportOf}
-use Rattle.keys.specs.declared.list.KeyList.{KeyList}
+use Rattle.keys.specs.Values.{numbers, WholeNumbers, reportOf, resulting}
 use Rattle.keys.specs.declared.reorder.Reordered.{Reordered}
-use Rattle.keys.specs.declared.reorder.Reordered.the-variants.{Met, Moved, Impossible}
 use Rattle.keys.specs.declared.inputs.Side.{Side}
 use Rattle.keys.specs.declared.inputs.Side.the-variants.{Neither, Left, Right}
 use Rattle.keys.specs.declared.inputs.Attempt.{Attempt}
@@ -78,20 +76,14 @@ pub record HandedBack (followed : ℕ) (h n r : RefT (List ℕ)) : Type 0 where
   pub left : followed ≡ 1 → PartOf h (markLength (h .now)) (length (h .now)) r
   pub right : followed ≡ 2 → PartOf n (markLength (n .now)) (length (n .now)) r
 
--- keys that moved, or those that stood
-abbrev pub movedTo : Reordered → List Expression → KeyList → List Expression
-movedTo Met stood k = stood
-movedTo Moved stood k = keys k
-movedTo Impossible stood k = stood
-
-module _ (s : JoinSheet) (c : Current) where
-  -- the try that an outcome and the lists beside it stand for
+module _ (s : JoinSheet) (ps : List ℕ) where
+  -- the try that an outcome and the positions beside it stand for
   abbrev pub currentTry : Reordered → Tried Expression
   currentTry o = record {
     report = reportOf o;
-    positions = numbers (c .at);
-    left = movedTo o (s .left) (c .left);
-    right = movedTo o (s .right) (c .right);
+    positions = ps;
+    left = resulting placeholder o (s .left) ps;
+    right = resulting placeholder o (s .right) ps;
   }
 
   -- the answer where a side was followed, or what else is answered
@@ -100,13 +92,21 @@ module _ (s : JoinSheet) (c : Current) where
   answerBy impossible untried (Followed side o) = following s (sideNumber side) (currentTry o)
   answerBy impossible untried Failed = impossible
 
-  abbrev pub currentOf : JoinAnswer
-  currentOf = answerBy (asStood s 3) (asStood s 0) (c .outcome)
+  abbrev pub attemptOf : Attempt → JoinAnswer
+  attemptOf o = answerBy (asStood s 3) (asStood s 0) o
+
+abbrev pub currentOf : JoinSheet → Current → JoinAnswer
+currentOf s c = attemptOf s (numbers (c .at)) (c .outcome)
+
+-- there are positions only where a side was followed
+abbrev pub OnlyFollowed : Attempt → List ℕ → Type 0
+OnlyFollowed Untried ps = ps ≡ []
+OnlyFollowed (Followed side o) ps = Unit {0}
+OnlyFollowed Failed ps = ps ≡ []
 
 pub record WholeCurrent (c : Current) : Type 0 where
   pub at : WholeNumbers (c .at)
-  pub left : Whole (c .left)
-  pub right : Whole (c .right)
+  pub only : OnlyFollowed (c .outcome) (numbers (c .at))
 
 -- document 01's numbers
 abbrev pub reportBy : Attempt → ℕ

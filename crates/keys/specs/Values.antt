@@ -4,7 +4,8 @@ use mathlib.Core.Path.{_≡_}
 use mathlib.Core.Option.{Option, none, some}
 use mathlib.Core.List.{List, map}
 use lib.ListN.{length, take, getD}
-use Rattle.keys.specs.Expressions.{Expression, expressions}
+use Rattle.keys.specs.Lists.{permute}
+use Rattle.keys.specs.Expressions.{Expression, expressions, goneNumber}
 use Rattle.keys.specs.Reorder.{Rule, Tried}
 use Rattle.keys.specs.declared.expr.Expr.{Expr}
 use Rattle.keys.specs.declared.list.KeyList.{KeyList}
@@ -64,22 +65,17 @@ reportOf Met = 1
 reportOf Moved = 2
 reportOf Impossible = 3
 
-pub record WholeReorder (r : Reorder) : Type 0 where
-  pub at : WholeNumbers (r .at)
-  pub left : Whole (r .left)
-  pub right : Whole (r .right)
-
--- keys that moved, or those that stood
-abbrev pub resulting : Reordered → List ℕ → KeyList → List ℕ
-resulting Met ks k = ks
-resulting Moved ks k = packedKeys k
-resulting Impossible ks k = ks
+-- the keys at the positions where they moved, or those that stood
+abbrev pub resulting : {A : Type 0} → A → Reordered → List A → List ℕ → List A
+resulting gone Met ks ps = ks
+resulting gone Moved ks ps = permute gone ks ps
+resulting gone Impossible ks ps = ks
 
 -- of the pairs l, g
 abbrev pub triedOf : List ℕ → List ℕ → Reorder → Tried ℕ
 triedOf l g r = record {
   report = reportOf (r .outcome);
   positions = numbers (r .at);
-  left = resulting (r .outcome) l (r .left);
-  right = resulting (r .outcome) g (r .right);
+  left = resulting goneNumber (r .outcome) l (numbers (r .at));
+  right = resulting goneNumber (r .outcome) g (numbers (r .at));
 }

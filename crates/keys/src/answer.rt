@@ -1,9 +1,8 @@
-// What is answered of an operator: an outcome, what each child's list becomes, and the lists that were built.
+// What is answered of an operator: an outcome, what each child's list becomes, and the positions that were found.
 ghost use mathlib.Core.Path.{_≡_};
 ghost use mathlib.Core.List.{[]};
 ghost use Rattle.keys.specs.Values.{numbers};
-ghost use Rattle.keys.specs.Answers.{WholeAdjusted, changedBy, reportedBy};
-use crate::list::KeyList;
+ghost use Rattle.keys.specs.Answers.{Unshifted, WholeAdjusted, changedBy, reportedBy};
 use crate::list::NumberList;
 use crate::reorder::Reordered;
 
@@ -23,7 +22,7 @@ pub enum Handed {
     Cleared,
     Required,
     Keys,
-    Built,
+    Shifted,
     Mapped,
 }
 
@@ -35,12 +34,9 @@ pub enum Outcome {
     NameNotFound,
 }
 
-// Lists that an outcome doesn't speak of are empty.
+// Positions of the pairs or groups that moved, and the group names' places: empty where an outcome doesn't speak of them.
 pub struct Adjusted {
     pub at: NumberList,
-    pub left: KeyList,
-    pub right: KeyList,
-    pub directions: NumberList,
     pub places: NumberList,
     pub outcome: Outcome,
     pub cleared: bool,
@@ -49,12 +45,10 @@ pub struct Adjusted {
 }
 
 pub fn passed(outcome: Outcome, cleared: bool, first: Handed, others: Handed) -> Adjusted
-    ensures { λ r. ⌜ WholeAdjusted r × (r .outcome ≡ outcome) × (r .cleared ≡ cleared) × (r .first ≡ first) × (r .others ≡ others) × (numbers (r .at) ≡ []) ⌝ }
+    requires { ⌜ Unshifted first ⌝ }
+    ensures { λ r. ⌜ WholeAdjusted r × (r .outcome ≡ outcome) × (r .cleared ≡ cleared) × (r .first ≡ first) × (r .others ≡ others) × (numbers (r .at) ≡ []) × (numbers (r .places) ≡ []) ⌝ }
 {
     let at = crate::list::no_numbers();
-    let left = crate::list::no_keys();
-    let right = crate::list::no_keys();
-    let directions = crate::list::no_numbers();
     let places = crate::list::no_numbers();
     Adjusted {
         outcome: outcome,
@@ -62,9 +56,6 @@ pub fn passed(outcome: Outcome, cleared: bool, first: Handed, others: Handed) ->
         first: first,
         others: others,
         at: at,
-        left: left,
-        right: right,
-        directions: directions,
         places: places,
     }
 }

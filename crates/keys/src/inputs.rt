@@ -1,7 +1,6 @@
 // What is answered of a join's inputs: which side was followed, and what came of it.
 ghost use mathlib.Core.Path.{_≡_};
 ghost use Rattle.keys.specs.InputValues.{sideNumber, reportBy, sideBy};
-use crate::list::KeyList;
 use crate::list::NumberList;
 use crate::reorder::Reordered;
 
@@ -18,11 +17,9 @@ pub enum Attempt {
     Failed,
 }
 
-// Positions and keys count only where the pairs are moved.
+// There are positions only where the pairs are moved.
 pub struct Current {
     pub at: NumberList,
-    pub left: KeyList,
-    pub right: KeyList,
     pub outcome: Attempt,
 }
 

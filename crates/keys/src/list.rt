@@ -2,10 +2,8 @@
 ghost use mathlib.Core.Path.{_≡_};
 ghost use mathlib.Core.List.{[]};
 ghost use Prim.Native.Nat.{_≤_};
-ghost use lib.ListN.{length};
-ghost use Rattle.keys.specs.Expressions.{goneNumber};
+ghost use lib.ListN.{length, getD, take};
 ghost use Rattle.keys.specs.Lists.{permute};
-ghost use Rattle.keys.specs.Arrange.{Below};
 ghost use Rattle.keys.specs.Values.{packedKeys, numbers, Whole, WholeNumbers};
 use crate::expr::Expr;
 
@@ -65,34 +63,25 @@ fn place(p: u64) -> usize
     p as usize
 }
 
-// The keys at the positions.
-pub fn moved_keys(keys: &[u64], at: &[u64]) -> KeyList
-    requires { ⌜ (length (now at) ≤ 32) × Below (length (now keys)) (now at) ⌝ }
-    ensures { λ r. ⌜ Whole r × (packedKeys r ≡ permute goneNumber (now (keys .entry)) (now (at .entry))) ⌝ }
+// What stands at a position, or `gone` where nothing does.
+pub fn entry(gone: u64, all: &[u64], p: u64) -> u64
+    ensures { λ r. ⌜ r ≡ getD (now (all .entry)) p gone ⌝ }
 {
-    let mut out = no_keys();
-    let mut i: usize = 0;
-    while i < at.len() {
-        let p = place(at[i]);
-        out.items[i] = Expr { number: keys[p] };
-        i += 1;
+    let i = place(p);
+    if i < all.len() {
+        return all[i];
     }
-    out.count = i;
-    out
+    gone
 }
 
-// The numbers at the positions.
-pub fn moved_numbers(all: &[u64], at: &[u64]) -> NumberList
-    requires { ⌜ (length (now at) ≤ 32) × Below (length (now all)) (now at) ⌝ }
-    ensures { λ r. ⌜ WholeNumbers r × (numbers r ≡ permute 0 (now (all .entry)) (now (at .entry))) ⌝ }
+// What stands at the positions, in the front of the room lent.
+pub fn permute(gone: u64, all: &[u64], at: &[u64], out: &mut [u64; 32])
+    requires { ⌜ (length (now at) ≤ 32) × (length (now out) ≡ 32) ⌝ }
+    ensures { λ _. ⌜ (length (now (out .exit)) ≡ 32) × (take (length (now (at .entry))) (now (out .exit)) ≡ permute gone (now (all .entry)) (now (at .entry))) ⌝ }
 {
-    let mut out = no_numbers();
     let mut i: usize = 0;
     while i < at.len() {
-        let p = place(at[i]);
-        out.items[i] = all[p];
+        out[i] = entry(gone, all, at[i]);
         i += 1;
     }
-    out.count = i;
-    out
 }

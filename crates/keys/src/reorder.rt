@@ -2,22 +2,20 @@
 ghost use mathlib.Core.Path.{_≡_};
 ghost use mathlib.Core.Option.{none};
 ghost use mathlib.Core.Bool.{false};
-ghost use mathlib.Core.List.{[]};
-ghost use Prim.Native.Nat.{_≤_};
+ghost use mathlib.Core.List.{List, []};
+ghost use Prim.Native.Nat.{ℕ, _≤_};
 ghost use lib.Dec.{eqb};
 ghost use lib.ListN.{length, take};
 ghost use Rattle.keys.specs.Expressions.{goneNumber};
 ghost use Rattle.keys.specs.Lists.{sameList, takePlaces, expectedExprPositions};
 ghost use Rattle.keys.specs.Reorder.{rewriteOne, rewrite, meets, eitherSide, movedBy, tryReorder};
 ghost use Rattle.keys.specs.Searched.{searched, searchedBy};
-ghost use Rattle.keys.specs.Arrange.{AllBelow};
-ghost use Rattle.keys.specs.Values.{numbers, numberRules, WholeNumbers, WholeReorder, positionsOf, triedOf, reportOf};
+ghost use Rattle.keys.specs.Values.{numbers, numberRules, WholeNumbers, positionsOf, triedOf, reportOf};
 use crate::expr::Expr;
-use crate::list::KeyList;
 use crate::list::NumberList;
 
 // The placeholder, packed.
-const GONE: u64 = 8589934592;
+pub const GONE: u64 = 8589934592;
 
 pub enum Placed {
     All,
@@ -153,54 +151,42 @@ pub enum Reordered {
     Impossible,
 }
 
-// Positions and keys are empty but where the pairs are moved.
+// There are positions only where the pairs are moved.
 pub struct Reorder {
     pub at: NumberList,
-    pub left: KeyList,
-    pub right: KeyList,
     pub outcome: Reordered,
 }
 
 fn unmoved(outcome: Reordered) -> Reorder
-    ensures { λ r. ⌜ WholeReorder r × (numbers (r .at) ≡ []) × (r .outcome ≡ outcome) ⌝ }
+    ensures { λ r. ⌜ WholeNumbers (r .at) × (numbers (r .at) ≡ []) × (r .outcome ≡ outcome) ⌝ }
 {
     let at = crate::list::no_numbers();
-    let left = crate::list::no_keys();
-    let right = crate::list::no_keys();
     Reorder {
         outcome: outcome,
         at: at,
-        left: left,
-        right: right,
     }
 }
 
-// The pairs at the positions, where all were found.
-fn moved_by(l: &[u64], g: &[u64], p: Positions) -> Reorder
-    requires { ⌜ WholeNumbers (p .at) × (length (now l) ≡ length (now g)) × AllBelow (length (now l)) (positionsOf p) ⌝ }
-    ensures { λ r. ⌜ WholeReorder r × (triedOf (now (l .entry)) (now (g .entry)) r ≡ movedBy goneNumber (now (l .entry)) (now (g .entry)) (positionsOf p)) ⌝ }
+// The pairs are moved to the positions, where all were found.
+fn moved_by(p: Positions) -> Reorder
+    requires { ⌜ WholeNumbers (p .at) ⌝ }
+    ensures { λ r. ⌜ WholeNumbers (r .at) × ((l g : List ℕ) → triedOf l g r ≡ movedBy goneNumber l g (positionsOf p)) ⌝ }
 {
     let o = p.outcome;
     let Placed::All = o else {
         return unmoved(Reordered::Impossible);
     };
     let at = p.at;
-    let n = at.count;
-    let items = at.items;
-    let left = crate::list::moved_keys(l, &items[0..n]);
-    let right = crate::list::moved_keys(g, &items[0..n]);
     Reorder {
         outcome: Reordered::Moved,
         at: at,
-        left: left,
-        right: right,
     }
 }
 
 // Where the keys as they stand do not meet the requirement: the rewritten ones rr, ll, gg, and the search.
 fn search_order(r: &[u64], l: &[u64], g: &[u64], rr: &[u64], ll: &[u64], gg: &[u64]) -> Reorder
     requires { ⌜ (length (now r) ≤ 32) × (length (now l) ≤ 32) × (length (now g) ≡ length (now l)) × (length (now rr) ≤ 32) × (length (now ll) ≡ length (now l)) × (length (now gg) ≡ length (now l)) ⌝ }
-    ensures { λ t. ⌜ WholeReorder t × (triedOf (now (l .entry)) (now (g .entry)) t ≡ searched eqb goneNumber (now (r .entry)) (now (l .entry)) (now (g .entry)) (now (rr .entry)) (now (ll .entry)) (now (gg .entry))) ⌝ }
+    ensures { λ t. ⌜ WholeNumbers (t .at) × (triedOf (now (l .entry)) (now (g .entry)) t ≡ searched eqb goneNumber (now (r .entry)) (now (l .entry)) (now (g .entry)) (now (rr .entry)) (now (ll .entry)) (now (gg .entry))) ⌝ }
 {
     if meets(rr, ll, gg) {
         return unmoved(Reordered::Met);
@@ -208,15 +194,15 @@ fn search_order(r: &[u64], l: &[u64], g: &[u64], rr: &[u64], ll: &[u64], gg: &[u
     let p = either_side(r, l, g);
     let o = p.outcome;
     let Placed::Missing = o else {
-        return moved_by(l, g, p);
+        return moved_by(p);
     };
     let q = either_side(rr, ll, gg);
-    moved_by(l, g, q)
+    moved_by(q)
 }
 
 fn try_rewritten(w: &[[u64; 2]], r: &[u64], l: &[u64], g: &[u64]) -> Reorder
     requires { ⌜ (length (now r) ≤ 32) × (length (now l) ≡ length (now r)) × (length (now g) ≡ length (now r)) ⌝ }
-    ensures { λ t. ⌜ WholeReorder t × (triedOf (now (l .entry)) (now (g .entry)) t ≡ searchedBy eqb goneNumber (numberRules (now (w .entry))) (now (r .entry)) (now (l .entry)) (now (g .entry))) ⌝ }
+    ensures { λ t. ⌜ WholeNumbers (t .at) × (triedOf (now (l .entry)) (now (g .entry)) t ≡ searchedBy eqb goneNumber (numberRules (now (w .entry))) (now (r .entry)) (now (l .entry)) (now (g .entry))) ⌝ }
 {
     let n = r.len();
     let mut rr = [0u64; 32];
@@ -230,7 +216,7 @@ fn try_rewritten(w: &[[u64; 2]], r: &[u64], l: &[u64], g: &[u64]) -> Reorder
 
 pub fn try_reorder(w: &[[u64; 2]], r: &[u64], l: &[u64], g: &[u64]) -> Reorder
     requires { ⌜ (length (now r) ≤ 32) × (length (now l) ≤ 32) × (length (now g) ≡ length (now l)) ⌝ }
-    ensures { λ t. ⌜ WholeReorder t × (triedOf (now (l .entry)) (now (g .entry)) t ≡ tryReorder eqb goneNumber (numberRules (now (w .entry))) (now (r .entry)) (now (l .entry)) (now (g .entry))) ⌝ }
+    ensures { λ t. ⌜ WholeNumbers (t .at) × (triedOf (now (l .entry)) (now (g .entry)) t ≡ tryReorder eqb goneNumber (numberRules (now (w .entry))) (now (r .entry)) (now (l .entry)) (now (g .entry))) ⌝ }
 {
     if l.len() != r.len() {
         return unmoved(Reordered::Impossible);
@@ -240,7 +226,7 @@ pub fn try_reorder(w: &[[u64; 2]], r: &[u64], l: &[u64], g: &[u64]) -> Reorder
     }
     if w.len() == 0 {
         let raw = either_side(r, l, g);
-        return moved_by(l, g, raw);
+        return moved_by(raw);
     }
     try_rewritten(w, r, l, g)
 }

@@ -4,15 +4,12 @@ use mathlib.Core.Path.{_≡_, ap}
 use mathlib.Core.Bool.{true}
 use native.Mathlib.Omega.{arith}
 use Rattle.keys.specs.Values.{reportOf, triedOf}
+use Rattle.keys.proofs.Outcomes.{from-start}
 use Rattle.bench.specs.Orders.{taken, tried}
 use Rattle.bench.proofs.Storing.{long-required, long-left, uneven, even, not-taken, stood, moved}
 use borrow.Author.Needs.{needs}
 use Rattle.bench.proofs.bench_try_reorder.Statement.{statement}
 use Rattle.bench.proofs.bench_try_reorder.Tie as tie
-use Rattle.bench.proofs.bench_try_reorder.Reads as reads
-use Rattle.bench.proofs.bench_try_reorder.Lts as lts
-use Rattle.bench.proofs.store_keys.Reads as store-keys-reads
-use Rattle.keys.proofs.reorder.try_reorder.Reads as try-reorder-reads
 
 returns : tie.Need-returns
 returns c = let s = c .before .before .before .before .before .before in not-taken (s .args .w .now) (s .args .r .now) (s .args .l .now) (s .args .g .now) (s .args .left .now) (s .args .right .now) (long-required (s .args .r .now) (s .args .l .now) (s .args .g .now) (c .if1 .taken))
@@ -47,11 +44,29 @@ enum-told-2 c = search needs
 enum-told-3 : tie.Need-enum-told-3
 enum-told-3 c = search needs
 
-store-keys-requires : tie.Need-store-keys-requires
-store-keys-requires c κs = search needs
+sub-store-moved : tie.Need-sub-store-moved
+sub-store-moved c = search needs
 
-store-keys-requires-2 : tie.Need-store-keys-requires-2
-store-keys-requires-2 c κs = search needs
+part-store-moved-start : tie.Need-part-store-moved-start
+part-store-moved-start c = search needs
+
+part-store-moved-end : tie.Need-part-store-moved-end
+part-store-moved-end c = search needs
+
+store-moved-requires : tie.Need-store-moved-requires
+store-moved-requires c κs = search needs
+
+sub-store-moved-2 : tie.Need-sub-store-moved-2
+sub-store-moved-2 c = search needs
+
+part-store-moved-start-2 : tie.Need-part-store-moved-start-2
+part-store-moved-start-2 c = search needs
+
+part-store-moved-end-2 : tie.Need-part-store-moved-end-2
+part-store-moved-end-2 c = search needs
+
+store-moved-requires-2 : tie.Need-store-moved-requires-2
+store-moved-requires-2 c κs = search needs
 
 returns-4 : tie.Need-returns-4
 returns-4 c =
@@ -73,9 +88,10 @@ same-length-2 c = search needs
 
 returns-6 : tie.Need-returns-6
 returns-6 c =
-    let d = c .before .before .before .before .before .before .before .before .before .before in
-    let s = d .before .before .before .before .before .before .before .before .before in
-    moved (s .args .w .now) (s .args .r .now) (s .args .l .now) (s .args .g .now) (s .args .left .now) (s .args .right .now) (is-taken (d .before)) (d .try-reorder .result) (so d) (c .before .before .before .before .before .before .before .before .enum-told3 .given .1) (c .before .before .before .before .before .before .store-keys .last .1 .0) (c .before .before .store-keys2 .last .1 .0) (c .before .before .before .before .before .before .store-keys .ensures) (c .before .before .store-keys2 .ensures)
+    let d = c .before .before .before .before .before .before .before .before .before .before .before .before .before .before .before .before in
+    let s = c .before .before .before .before .before .before .before .before .before .before .before .before .before .before .before .before .before .before .before .before .before .before .before .before .before in
+    let at = d .try-reorder .result .at in
+    moved (s .args .w .now) (s .args .r .now) (s .args .l .now) (s .args .g .now) (s .args .left .now) (s .args .right .now) (is-taken (d .before)) (d .try-reorder .result) (so d) (c .before .before .before .before .before .before .before .before .before .before .before .before .before .before .enum-told3 .given .1) _ _ _ (from-start (at .count) (at .items)) (c .before .before .before .before .before .before .before .before .store-moved .ensures) (c .before .before .store-moved2 .ensures)
 
 pub bench-try-reorder-spec : {M : Type 1} → statement M
 bench-try-reorder-spec =
@@ -88,8 +104,14 @@ bench-try-reorder-spec =
     enum-told
     enum-told-2
     enum-told-3
-    store-keys-requires
-    store-keys-requires-2
+    sub-store-moved
+    part-store-moved-start
+    part-store-moved-end
+    store-moved-requires
+    sub-store-moved-2
+    part-store-moved-start-2
+    part-store-moved-end-2
+    store-moved-requires-2
     returns-4
     returns-5
     same-length

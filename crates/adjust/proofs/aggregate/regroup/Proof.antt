@@ -14,7 +14,7 @@ use Rattle.keys.specs.Answers.{keySheet}
 use Rattle.keys.specs.declared.answer.Outcome.the-variants.{NameNotFound}
 use Rattle.keys.specs.declared.answer.Handed.the-variants.{Kept}
 use Rattle.keys.proofs.Tries.{when-all, when-missing}
-use Rattle.keys.proofs.Outcomes.{from-start, adjusted-by}
+use Rattle.keys.proofs.Outcomes.{from-start, moved-front, adjusted-by}
 use borrow.Author.Needs.{needs}
 use Rattle.adjust.proofs.aggregate.regroup.Statement.{statement}
 use Rattle.adjust.proofs.aggregate.regroup.Tie as tie
@@ -25,26 +25,26 @@ places : (c : tie.After-name-places) →
     namePlaces (permute 0 (s .args .o .now) (numbers (s .args .at)) ++ s .args .a .now) (s .args .o .now) ≡ positionsOf (c .name-places .result)
 places c =
     let s = c .before .before .before .before .before .before .before .before .before .before in
-    let q = c .before .before .before .before .moved-numbers in
-    sym (c .name-places .ensures .1
-    ∙ ap (λ (xs : List ℕ). namePlaces (xs ++ s .args .a .now) (s .args .o .now))
-    (from-start (q .result .count) (q .result .items) ∙ q .ensures .1 ∙ ap (permute 0 (s .args .o .now)) (from-start (s .args .at .count) (s .args .at .items))))
+    let w = s .pre .0 in
+    let q = c .before .before .before .permute in
+    let front = moved-front 0 (s .args .at .count) (s .args .at .items) _ (s .args .o .now) (omega (arith, w .full, w .fits)) (q .ensures .1) in
+    sym (c .name-places .ensures .1 ∙ ap (λ (xs : List ℕ). namePlaces (xs ++ s .args .a .now) (s .args .o .now)) front)
 
-sub-moved-numbers : tie.Need-sub-moved-numbers
-sub-moved-numbers c = search needs
+sub-permute : tie.Need-sub-permute
+sub-permute c = search needs
 
-part-moved-numbers-start : tie.Need-part-moved-numbers-start
-part-moved-numbers-start c = search needs
+part-permute-start : tie.Need-part-permute-start
+part-permute-start c = search needs
 
-part-moved-numbers-end : tie.Need-part-moved-numbers-end
-part-moved-numbers-end c = search needs
+part-permute-end : tie.Need-part-permute-end
+part-permute-end c = search needs
 
-moved-numbers-requires : tie.Need-moved-numbers-requires
-moved-numbers-requires c κs =
-    let s = c .before .before .before .before .before in
+permute-requires : tie.Need-permute-requires
+permute-requires c κs =
+    let s = c .before .before .before .before .before .before in
     let w = s .pre .0 in
     rw (from-start (s .args .at .count) (s .args .at .items))
-    (rw (length-take-le (s .args .at .count) (s .args .at .items) (omega (arith, w .full, w .fits))) (w .fits), s .pre .3)
+    (rw (length-take-le (s .args .at .count) (s .args .at .items) (omega (arith, w .full, w .fits))) (w .fits), search needs)
 
 sub-name-places : tie.Need-sub-name-places
 sub-name-places c = search needs
@@ -97,10 +97,10 @@ pub regroup-spec : {M : Type 1} → statement M
 regroup-spec =
     tie.close
     (tie.spec
-    sub-moved-numbers
-    part-moved-numbers-start
-    part-moved-numbers-end
-    moved-numbers-requires
+    sub-permute
+    part-permute-start
+    part-permute-end
+    permute-requires
     sub-name-places
     part-name-places-start
     part-name-places-end

@@ -4,16 +4,14 @@ use mathlib.Core.Path.{_≡_, sym, ap, _∙_}
 use mathlib.Core.Bool.{false}
 use mathlib.Core.List.{List, []}
 use lib.ListN.{length, length-map}
-use Rattle.keys.specs.Expressions.{Expression, sameExpr, placeholder, goneNumber, expression, expressions}
+use Rattle.keys.specs.Expressions.{Expression, sameExpr, placeholder, expression, expressions}
 use Rattle.keys.specs.Answers.{keySheet}
 use Rattle.keys.specs.declared.answer.Outcome.the-variants.{Passed}
 use Rattle.keys.specs.declared.answer.Handed.the-variants.{Kept}
 use Rattle.keys.proofs.Outcomes.{adjusted-by}
-use lib.Dec.{eqb}
 use Rattle.keys.specs.Lists.{expectedExprPositions}
 use Rattle.keys.specs.Adjust.{columnsFrom}
 use Rattle.keys.specs.Values.{numbers, positionsOf}
-use Rattle.keys.proofs.Lists.{found-below, positions-below}
 use Rattle.keys.proofs.Tries.{when-all, when-missing}
 use Rattle.keys.proofs.Packed.{positions-expressions}
 use Rattle.keys.proofs.Names.{columns-length}
@@ -57,16 +55,7 @@ returns c =
     )
 
 regroup-requires : tie.Need-regroup-requires
-regroup-requires c κs =
-    let d = c .before .before .before in
-    let s = d .before .before .before .before .before in
-    let p = d .expected-expr-positions in (
-      p .ensures .0,
-      s .pre .1,
-      s .pre .2,
-      rw (long s) at (found-below (length (s .args .columns .now)) (expectedExprPositions eqb goneNumber (s .args .columns .now) (s .args .r .now)) (numbers (p .result .at))
-          (positions-below eqb goneNumber (s .args .columns .now) (s .args .r .now)) (sym (p .ensures .1) ∙ when-all (p .result) (c .before .enum-told .given .1))),
-    )
+regroup-requires c κs = search needs
 
 returns-2 : tie.Need-returns-2
 returns-2 c =

@@ -26,24 +26,21 @@ held-requires-4 : tie.Need-held-requires-4
 held-requires-4 c κs = let s = c .before .before .before .before .before in key-there (s .args .lists .now) (s .args .counts .now) (s .pre .0) 3 (omega arith)
 
 held-requires-5 : tie.Need-held-requires-5
-held-requires-5 c κs = let s = c .before .before .before .before .before .before in key-there (s .args .lists .now) (s .args .counts .now) (s .pre .0) 4 (omega arith)
-
-held-requires-6 : tie.Need-held-requires-6
-held-requires-6 c κs = let s = c .before .before .before .before .before .before .before in key-there (s .args .lists .now) (s .args .counts .now) (s .pre .0) 5 (omega arith)
+held-requires-5 c κs = let s = c .before .before .before .before .before .before in key-there (s .args .lists .now) (s .args .counts .now) (s .pre .0) 5 (omega arith)
 
 rule-rows-requires : tie.Need-rule-rows-requires
 rule-rows-requires c κs =
-    let s = c .before .before .before .before .before .before .before .before .before in
-    (rw (c .before .held6 .ensures) (key-short (s .args .lists .now) (s .args .counts .now) (s .pre .0) 5 (omega arith)), s .pre .1)
+    let s = c .before .before .before .before .before .before .before .before in
+    (rw (c .before .held5 .ensures) (key-short (s .args .lists .now) (s .args .counts .now) (s .pre .0) 5 (omega arith)), s .pre .1)
+
+held-requires-6 : tie.Need-held-requires-6
+held-requires-6 c κs = let s = c .before .before .before .before .before .before .before .before .before .before in key-there (s .args .lists .now) (s .args .counts .now) (s .pre .0) 6 (omega arith)
 
 held-requires-7 : tie.Need-held-requires-7
-held-requires-7 c κs = let s = c .before .before .before .before .before .before .before .before .before .before .before in key-there (s .args .lists .now) (s .args .counts .now) (s .pre .0) 6 (omega arith)
+held-requires-7 c κs = let s = c .before .before .before .before .before .before .before .before .before .before .before in key-there (s .args .lists .now) (s .args .counts .now) (s .pre .0) 7 (omega arith)
 
 held-requires-8 : tie.Need-held-requires-8
-held-requires-8 c κs = let s = c .before .before .before .before .before .before .before .before .before .before .before .before in key-there (s .args .lists .now) (s .args .counts .now) (s .pre .0) 7 (omega arith)
-
-held-requires-9 : tie.Need-held-requires-9
-held-requires-9 c κs = let s = c .before .before .before .before .before .before .before .before .before .before .before .before .before in key-there (s .args .lists .now) (s .args .counts .now) (s .pre .0) 8 (omega arith)
+held-requires-8 c κs = let s = c .before .before .before .before .before .before .before .before .before .before .before .before in key-there (s .args .lists .now) (s .args .counts .now) (s .pre .0) 8 (omega arith)
 
 sub-w : tie.Need-sub-w
 sub-w c = search needs
@@ -52,26 +49,26 @@ part-w-start : tie.Need-part-w-start
 part-w-start c = search needs
 
 part-w-end : tie.Need-part-w-end
-part-w-end c = let e = c .before .before .before .before .before .rule-rows .ensures in omega (arith, e .1, e .3, c .before .before .before .before .before .before .before .before .before .before .before .before .before .before .before .pre .1)
+part-w-end c = let e = c .before .before .before .before .before .rule-rows .ensures in omega (arith, e .1, e .3, c .before .before .before .before .before .before .before .before .before .before .before .before .before .before .pre .1)
 
 adjust-input-keys-ordering-requires : tie.Need-adjust-input-keys-ordering-requires
 adjust-input-keys-ordering-requires c κs =
-    let s = c .before .before .before .before .before .before .before .before .before .before .before .before .before .before .before .before in
-    key-suited (s .args .lists .now) (s .args .counts .now) (s .pre .0) (c .before .before .before .before .before .before .before .before .before .before .before .before .held2 .ensures) (c .before .before .before .before .before .before .before .before .before .before .before .held3 .ensures) (c .before .before .before .before .before .before .before .before .before .before .held4 .ensures) (c .before .before .before .before .before .before .before .before .before .held5 .ensures)
-    (c .before .before .before .before .held7 .ensures) (c .before .before .before .held8 .ensures)
+    let s = c .before .before .before .before .before .before .before .before .before .before .before .before .before .before .before in
+    key-suited (s .args .lists .now) (s .args .counts .now) (s .pre .0) (c .before .before .before .before .before .before .before .before .before .before .before .held2 .ensures) (c .before .before .before .before .before .before .before .before .before .before .held3 .ensures) (c .before .before .before .before .before .before .before .before .before .held4 .ensures)
+    (c .before .before .before .before .held6 .ensures) (c .before .before .before .held7 .ensures)
 
 same-length : tie.Need-same-length
 same-length c = search needs
 
 returns : tie.Need-returns
 returns c =
-    let s = c .before .before .before .before .before .before .before .before .before .before .before .before .before .before .before .before .before in
+    let s = c .before .before .before .before .before .before .before .before .before .before .before .before .before .before .before .before in
     let d = c .adjust-input-keys-ordering in
     let q = c .before .before .before .before .before .before .before in (
       d .ensures .0,
-      key-decided (s .args .lists .now) (s .args .counts .now) (d .result) (c .before .before .before .before .before .before .before .before .before .before .before .before .before .before .operator .ensures ∙ ap operatorOf (c .before .before .before .before .before .before .before .before .before .before .before .before .before .before .before .held .ensures))
-          (c .before .before .before .before .before .before .before .before .before .before .before .before .before .held2 .ensures) (c .before .before .before .before .before .before .before .before .before .before .before .before .held3 .ensures) (c .before .before .before .before .before .before .before .before .before .before .before .held4 .ensures) (c .before .before .before .before .before .before .before .before .before .before .held5 .ensures)
-          (from-start (q .rule-rows .result) (q .rule-rows .last .1 .0) ∙ q .rule-rows .ensures .2 ∙ ap pairRows (q .before .before .held6 .ensures)) (c .before .before .before .before .before .held7 .ensures) (c .before .before .before .before .held8 .ensures) (c .before .before .before .held9 .ensures)
+      key-decided (s .args .lists .now) (s .args .counts .now) (d .result) (c .before .before .before .before .before .before .before .before .before .before .before .before .before .operator .ensures ∙ ap operatorOf (c .before .before .before .before .before .before .before .before .before .before .before .before .before .before .held .ensures))
+          (c .before .before .before .before .before .before .before .before .before .before .before .before .held2 .ensures) (c .before .before .before .before .before .before .before .before .before .before .before .held3 .ensures) (c .before .before .before .before .before .before .before .before .before .before .held4 .ensures)
+          (from-start (q .rule-rows .result) (q .rule-rows .last .1 .0) ∙ q .rule-rows .ensures .2 ∙ ap pairRows (q .before .before .held5 .ensures)) (c .before .before .before .before .before .held6 .ensures) (c .before .before .before .before .held7 .ensures) (c .before .before .before .held8 .ensures)
           (d .ensures .1),
     )
 
@@ -85,11 +82,10 @@ adjust-spec =
     held-requires-3
     held-requires-4
     held-requires-5
-    held-requires-6
     rule-rows-requires
+    held-requires-6
     held-requires-7
     held-requires-8
-    held-requires-9
     sub-w
     part-w-start
     part-w-end

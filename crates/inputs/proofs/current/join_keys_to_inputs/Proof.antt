@@ -16,9 +16,9 @@ stood-requires c κs = tt
 returns : tie.Need-returns
 returns c =
     let a = c .before .before .before .before .before .before .before .args in (
-      c .stood .ensures .0,
+      record { at = c .stood .ensures .0; only = rw (c .stood .ensures .2) (c .stood .ensures .1) },
       λ s. order-untried (joinSheet (a .op) (a .mode) (a .l .now) (a .g .now) s (a .h .now) (a .n .now) (a .w .now) (a .v .now)) (c .stood .result)
-          (sym (c .before .before .order-tried .ensures) ∙ not-true _ (c .before .if1 .taken)) (c .stood .ensures .1),
+          (sym (c .before .before .order-tried .ensures) ∙ not-true _ (c .before .if1 .taken)) (c .stood .ensures .2),
     )
 
 reorder-current-join-keys-requires : tie.Need-reorder-current-join-keys-requires

@@ -8,6 +8,7 @@ use types.Run.{OneOf}
 use denote.Enum.Declared.{tagOf}
 use Rattle.keys.specs.Expressions.{sameExpr}
 use Rattle.keys.specs.Inputs.{JoinSheet, JoinAnswer, trySide}
+use Rattle.keys.specs.Values.{numbers}
 use Rattle.keys.specs.InputValues.{joinSheet, answerBy}
 use Rattle.keys.specs.declared.inputs.Attempt.{Attempt}
 use Rattle.keys.specs.declared.inputs.Attempt.the-variants.{Untried, Followed, Failed}
@@ -38,13 +39,13 @@ module _ (op mode : ℕ) (s : List ℕ) where
 
   answer :
       (d : tie.After-try-side) (impossible untried : JoinAnswer) →
-      answerBy (sheet d) (d .try-side .result) impossible untried (d .try-side .result .outcome)
+      answerBy (sheet d) (numbers (d .try-side .result .at)) impossible untried (d .try-side .result .outcome)
       ≡ trySide (sheet d) sameExpr 1 (sheet d .leftRewriting) impossible untried (sheet d .leftInput)
   answer d = d .try-side .ensures .1 (sheet d)
 
   again :
       (e : tie.After-try-side2) (impossible untried : JoinAnswer) →
-      answerBy (sheet (e .before .before)) (e .try-side2 .result) impossible untried (e .try-side2 .result .outcome)
+      answerBy (sheet (e .before .before)) (numbers (e .try-side2 .result .at)) impossible untried (e .try-side2 .result .outcome)
       ≡ trySide (sheet (e .before .before)) sameExpr 2 (sheet (e .before .before) .rightRewriting) impossible untried (sheet (e .before .before) .rightInput)
   again e = e .try-side2 .ensures .1 (sheet (e .before .before))
 

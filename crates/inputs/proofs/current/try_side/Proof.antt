@@ -44,9 +44,9 @@ returns : tie.Need-returns
 returns c =
     let s = c .before .before .before .before .before .before in
     let p = c .before .before .hash-partitioned in (
-      c .stood .ensures .0,
+      record { at = c .stood .ensures .0; only = rw (c .stood .ensures .2) (c .stood .ensures .1) },
       λ t impossible untried. side-untried t (s .args .l .now) (s .args .g .now) (s .args .rewriting .now) (s .args .side) impossible untried (s .args .input .now) (c .stood .result)
-          (sym (p .ensures) ∙ not-true _ (c .before .if1 .taken)) (c .stood .ensures .1),
+          (sym (p .ensures) ∙ not-true _ (c .before .if1 .taken)) (c .stood .ensures .2),
     )
 
 after-mark-requires : tie.Need-after-mark-requires
@@ -69,9 +69,9 @@ returns-2 c =
     let d = c .before .before in
     let t = d .try-reorder in
     let f = c .follow .ensures in (
-      record { at = rw (f .1) (t .ensures .0 .at); left = rw (f .2) (t .ensures .0 .left); right = rw (f .3) (t .ensures .0 .right) },
+      record { at = rw (f .1) (t .ensures .0); only = rw (f .0) tt },
       λ x impossible untried. side-followed x (s .args .l .now) (s .args .g .now) (s .args .rewriting .now) (s .args .side) impossible untried (s .args .input .now) (c .follow .result)
-          (d .before .after-mark .result .now) (t .result) (keys-tried d) (t .ensures .1) (f .1) (f .2) (f .3) (possible (t .result .outcome) (c .before .match .keys2)) (f .0),
+          (d .before .after-mark .result .now) (t .result) (keys-tried d) (t .ensures .1) (f .1) (possible (t .result .outcome) (c .before .match .keys2)) (f .0),
     )
 
 stood-requires-2 : tie.Need-stood-requires-2
@@ -82,9 +82,9 @@ returns-3 c =
     let s = c .before .before .before .before .before .before .before .before .before .before in
     let d = c .before .before .before in
     let t = d .try-reorder in (
-      c .stood2 .ensures .0,
+      record { at = c .stood2 .ensures .0; only = rw (c .stood2 .ensures .2) (c .stood2 .ensures .1) },
       λ x impossible untried. side-failed x (s .args .l .now) (s .args .g .now) (s .args .rewriting .now) (s .args .side) impossible untried (s .args .input .now) (c .stood2 .result)
-          (d .before .after-mark .result .now) (t .result) (keys-tried d) (t .ensures .1) (c .before .enum-told .given .1) (c .stood2 .ensures .1),
+          (d .before .after-mark .result .now) (t .result) (keys-tried d) (t .ensures .1) (c .before .enum-told .given .1) (c .stood2 .ensures .2),
     )
 
 pub try-side-spec : {M : Type 1} → statement M

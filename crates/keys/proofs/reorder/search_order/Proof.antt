@@ -1,14 +1,13 @@
 -- `keys::reorder::search_order` meets its contract. One law of `searched` for each way out.
 -- Assumes nothing.
-use mathlib.Core.Path.{refl, sym, ap, _∙_}
+use mathlib.Core.Path.{sym, ap, _∙_}
 use mathlib.Core.List.{List}
 use Prim.Native.Nat.{ℕ}
 use lib.Dec.{eqb}
-use lib.ListN.{length}
 use Rattle.keys.specs.Reorder.{movedBy}
 use Rattle.keys.specs.Expressions.{goneNumber}
 use Rattle.keys.specs.Values.{numbers}
-use Rattle.keys.proofs.Tries.{when-all, when-missing, either-below, searched-met, searched-first, searched-next}
+use Rattle.keys.proofs.Tries.{when-all, when-missing, searched-met, searched-first, searched-next}
 use Rattle.keys.proofs.Outcomes.{tried-met}
 use borrow.Author.Needs.{needs}
 use Rattle.keys.proofs.reorder.search_order.Statement.{statement}
@@ -54,10 +53,7 @@ enum-told-2 : tie.Need-enum-told-2
 enum-told-2 c = search needs
 
 moved-by-requires : tie.Need-moved-by-requires
-moved-by-requires c κs =
-    let s = c .before .before .before .before .before .before .before .before .before .before .before in
-    let p = c .before .before .either-side in
-    (p .ensures .0, sym (s .pre .2), rw (p .ensures .1) (either-below eqb goneNumber (length (L s)) (R s) (L s) (G s) refl (s .pre .2)))
+moved-by-requires c κs = search needs
 
 returns-2 : tie.Need-returns-2
 returns-2 c =
@@ -66,7 +62,7 @@ returns-2 c =
     let m = c .moved-by .ensures in
     let f = c .before .before .before .before in (
       m .0,
-      m .1 ∙ ap (movedBy goneNumber (L s) (G s)) (p .ensures .1)
+      m .1 (L s) (G s) ∙ ap (movedBy goneNumber (L s) (G s)) (p .ensures .1)
           ∙ searched-first eqb goneNumber (R s) (L s) (G s) (R' s) (L' s) (G' s) (sym (f .before .meets .ensures) ∙ f .if1 .left) (numbers (p .result .at))
           (sym (p .ensures .1) ∙ when-all (p .result) (c .before .enum-told2 .given .1)),
     )
@@ -75,10 +71,7 @@ either-side-requires-2 : tie.Need-either-side-requires-2
 either-side-requires-2 c κs = search needs
 
 moved-by-requires-2 : tie.Need-moved-by-requires-2
-moved-by-requires-2 c κs =
-    let s = c .before .before .before .before .before .before .before .before .before .before .before .before in
-    let p = c .either-side2 in
-    (p .ensures .0, sym (s .pre .2), rw (p .ensures .1) (either-below eqb goneNumber (length (L s)) (R' s) (L' s) (G' s) (s .pre .4) (s .pre .5)))
+moved-by-requires-2 c κs = search needs
 
 returns-3 : tie.Need-returns-3
 returns-3 c =
@@ -88,7 +81,7 @@ returns-3 c =
     let m = c .moved-by2 .ensures in
     let f = c .before .before .before .before .before in (
       m .0,
-      m .1 ∙ ap (movedBy goneNumber (L s) (G s)) (q .ensures .1)
+      m .1 (L s) (G s) ∙ ap (movedBy goneNumber (L s) (G s)) (q .ensures .1)
           ∙ searched-next eqb goneNumber (R s) (L s) (G s) (R' s) (L' s) (G' s) (sym (f .before .meets .ensures) ∙ f .if1 .left)
           (sym (p .ensures .1) ∙ when-missing (p .result) (c .before .before .enum-told .given .1)),
     )

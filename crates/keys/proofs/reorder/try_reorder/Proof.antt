@@ -1,15 +1,14 @@
 -- `keys::reorder::try_reorder` meets its contract. One law of `tryReorder` for each way out.
 -- Assumes nothing.
-use mathlib.Core.Path.{_≡_, refl, sym, ap, _∙_}
+use mathlib.Core.Path.{_≡_, sym, ap, _∙_}
 use mathlib.Core.Bool.{false}
 use mathlib.Core.List.{List}
 use Prim.Native.Nat.{ℕ}
 use lib.Dec.{eqb}
-use lib.ListN.{length}
 use Rattle.keys.specs.Reorder.{Rule, movedBy, meets, tryReorder}
 use Rattle.keys.specs.Expressions.{goneNumber}
 use Rattle.keys.specs.Values.{numberRules}
-use Rattle.keys.proofs.Tries.{either-below, try-unequal, try-met, try-raw, try-searched}
+use Rattle.keys.proofs.Tries.{try-unequal, try-met, try-raw, try-searched}
 use Rattle.keys.proofs.Outcomes.{tried-met, tried-impossible, no-entry}
 use borrow.Author.Needs.{needs}
 use Rattle.keys.proofs.reorder.try_reorder.Statement.{statement}
@@ -59,10 +58,7 @@ either-side-requires : tie.Need-either-side-requires
 either-side-requires c κs = search needs
 
 moved-by-requires : tie.Need-moved-by-requires
-moved-by-requires c κs =
-    let s = c .before .before .before .before .before .before .before .before in
-    let p = c .either-side in
-    (p .ensures .0, sym (s .pre .2), rw (p .ensures .1) (either-below eqb goneNumber (length (L s)) (R s) (L s) (G s) refl (s .pre .2)))
+moved-by-requires c κs = search needs
 
 returns-3 : tie.Need-returns-3
 returns-3 c =
@@ -70,7 +66,7 @@ returns-3 c =
     let d = c .before .before .before in
     let m = c .moved-by .ensures in (
       m .0,
-      m .1 ∙ ap (movedBy goneNumber (L s) (G s)) (c .before .either-side .ensures .1)
+      m .1 (L s) (G s) ∙ ap (movedBy goneNumber (L s) (G s)) (c .before .either-side .ensures .1)
           ∙ try-raw eqb goneNumber (R s) (L s) (G s) (d .before .before .if1 .left) (unmet d)
           ∙ ap (λ (w : List (List ℕ)). tryReorder eqb goneNumber (numberRules w) (R s) (L s) (G s)) (sym (no-entry (s .args .w .now) (c .before .before .if3 .taken))),
     )
