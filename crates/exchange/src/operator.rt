@@ -7,6 +7,7 @@ use crate::row::Node;
 ghost use mathlib.Core.Path.{_≡_};
 ghost use mathlib.Core.Bool.{cond, _&&_};
 ghost use lib.Dec.{ltb};
+ghost use Rattle.exchange.specs.Ensure.{interleaved as interleavedOf};
 ghost use Rattle.exchange.specs.FactRows.{factRow};
 ghost use Rattle.exchange.specs.NewRows.{newOf, limitFor};
 ghost use Rattle.exchange.specs.Operators.{hasOrder, mark as markOf, track as trackTo, newOperator, newMerge, newExchange, requiredSort};
@@ -163,6 +164,25 @@ pub fn track(m: u64, n: Node) -> Node
         order: n.order,
         mask: n.mask,
         tracked: m,
+        need: n.need,
+    }
+}
+
+// A union dealt in turn: its order is lost.
+pub fn interleaved(n: Node) -> Node
+    requires { ⌜ nodeOf (operatorOf n) ≡ n ⌝ }
+    ensures { λ r. ⌜ r ≡ nodeOf (interleavedOf (operatorOf n)) ⌝ }
+{
+    Node {
+        id: n.id,
+        kind: kind::INTERLEAVE,
+        count: n.count,
+        keeps: n.keeps,
+        limited: n.limited,
+        limit: n.limit,
+        order: 0,
+        mask: n.mask,
+        tracked: n.tracked,
         need: n.need,
     }
 }

@@ -1,5 +1,4 @@
-mod ChangesIf0
-mod ChangesIf1
-mod ChangesIf2
+mod Changes
+mod Numbers
 mod Settled
 mod Past

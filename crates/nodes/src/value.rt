@@ -1,6 +1,5 @@
-// What is done to one node's value, by the functions of `exchange` where it has one.
+// What is done to one node's value, by the functions of `exchange`.
 use exchange::fact::FactRow;
-use exchange::kind;
 use exchange::operator;
 use exchange::replace;
 use exchange::row::Node;
@@ -81,23 +80,10 @@ pub fn sort(n: Node) -> Node
     replace::sorted(settle(n))
 }
 
-// A union dealt in turn: its order is lost.
 pub fn interleave(n: Node) -> Node
     ensures { λ r. ⌜ r ≡ changed interleaved n ⌝ }
 {
-    let m = settle(n);
-    Node {
-        id: m.id,
-        kind: kind::INTERLEAVE,
-        count: m.count,
-        keeps: m.keeps,
-        limited: m.limited,
-        limit: m.limit,
-        order: 0,
-        mask: m.mask,
-        tracked: m.tracked,
-        need: m.need,
-    }
+    operator::interleaved(settle(n))
 }
 
 pub fn relax(n: Node) -> Node

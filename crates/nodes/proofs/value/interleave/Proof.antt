@@ -1,18 +1,20 @@
--- `nodes::value::interleave` meets its contract: the mark and the number of the limit are those that were settled.
+-- `nodes::value::interleave` meets its contract: what was settled is the node of its operator.
 -- Assumes nothing.
-use mathlib.Core.Path.{ap}
 use borrow.Author.Needs.{needs}
-use Rattle.exchange.specs.declared.row.Node.{Node}
+use Rattle.exchange.specs.Ensure.{interleaved}
+use Rattle.nodes.proofs.Settled.{legal, changes-alike}
 use Rattle.nodes.proofs.value.interleave.Statement.{statement}
 use Rattle.nodes.proofs.value.interleave.Tie as tie
 
 settle-requires : tie.Need-settle-requires
 settle-requires c κs = search needs
 
+interleaved-requires : tie.Need-interleaved-requires
+interleaved-requires c κs = legal (c .before .args .n) (c .settle .result) (c .settle .ensures)
+
 returns : tie.Need-returns
 returns c =
-    ap (λ (m : Node). record { id = m .id; kind = 14; count = m .count; keeps = m .keeps; limited = m .limited; limit = m .limit; order = 0; mask = m .mask; tracked = m .tracked; need = m .need })
-    (c .settle .ensures)
+    changes-alike (c .before .before .args .n) (c .before .settle .result) (c .before .settle .ensures) interleaved _ (c .interleaved .ensures)
 
 pub interleave-spec : {M : Type 1} → statement M
-interleave-spec = tie.close (tie.spec settle-requires returns)
+interleave-spec = tie.close (tie.spec settle-requires interleaved-requires returns)
