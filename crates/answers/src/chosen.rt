@@ -4,14 +4,13 @@ ghost use mathlib.Core.Bool.{cond};
 ghost use mathlib.Core.List.{[]};
 ghost use Prim.Native.Nat.{_≤_};
 ghost use lib.ListN.{length, take};
-ghost use Rattle.keys.specs.Values.{packedKeys, Whole};
 ghost use Rattle.keys.specs.Answers.{movedOr};
 ghost use Rattle.answers.specs.Chosen.{triedOr, followedOr, keepsBy, handedList, ShiftedBy};
+use crate::moved::unpack_keys;
 use adjust::adjust::shift_right_required;
 use keys::answer::Handed;
 use keys::answer::Outcome;
 use keys::inputs::Attempt;
-use keys::list::KeyList;
 use keys::reorder::Reordered;
 
 fn tried_or<'a>(o: Reordered, moved: &'a [u64], stood: &'a [u64]) -> &'a [u64]
@@ -87,21 +86,6 @@ pub fn handed_list<'a>(
         Handed::Shifted => return shifted,
         Handed::Mapped => return mapped,
     }
-}
-
-// The keys of a list, as numbers.
-fn unpack_keys(k: KeyList, out: &mut [u64; 32]) -> usize
-    requires { ⌜ Whole k × (length (now out) ≡ 32) ⌝ }
-    ensures { λ r. ⌜ (r ≡ k .count) × (r ≤ 32) × (take r (now (out .exit)) ≡ packedKeys k) × (length (now (out .exit)) ≡ 32) ⌝ }
-{
-    let n = k.count;
-    let mut i: usize = 0;
-    while i < n {
-        let e = k.items[i];
-        out[i] = e.number;
-        i += 1;
-    }
-    i
 }
 
 // R shifted, where a child is handed it; else nothing.

@@ -5,8 +5,25 @@ ghost use lib.ListN.{length, take};
 ghost use Rattle.keys.specs.Lists.{permute};
 ghost use Rattle.keys.specs.Expressions.{goneNumber};
 ghost use Rattle.keys.specs.Adjust.{movedDirections};
+ghost use Rattle.keys.specs.Values.{packedKeys, Whole};
+use keys::list::KeyList;
+use keys::list::moved_keys;
 use keys::list::permute;
-use keys::reorder::GONE;
+
+// The keys of a list, as numbers.
+pub(crate) fn unpack_keys(k: KeyList, out: &mut [u64; 32]) -> usize
+    requires { ⌜ Whole k × (length (now out) ≡ 32) ⌝ }
+    ensures { λ r. ⌜ (r ≡ k .count) × (r ≤ 32) × (take r (now (out .exit)) ≡ packedKeys k) × (length (now (out .exit)) ≡ 32) ⌝ }
+{
+    let n = k.count;
+    let mut i: usize = 0;
+    while i < n {
+        let e = k.items[i];
+        out[i] = e.number;
+        i += 1;
+    }
+    i
+}
 
 // The first n entries, or all.
 fn front<'a>(list: &'a [u64], n: usize) -> &'a [u64]
@@ -41,7 +58,7 @@ pub fn moved_pairs(
     requires { ⌜ (length (now at) ≤ 32) × (length (now left) ≡ 32) × (length (now right) ≡ 32) × (length (now turned) ≡ 32) ⌝ }
     ensures { λ r. ⌜ (length (now (left .exit)) ≡ 32) × (length (now (right .exit)) ≡ 32) × (length (now (turned .exit)) ≡ 32) × (r ≤ 32) × (take (length (now (at .entry))) (now (left .exit)) ≡ permute goneNumber (now (l .entry)) (now (at .entry))) × (take (length (now (at .entry))) (now (right .exit)) ≡ permute goneNumber (now (g .entry)) (now (at .entry))) × (take r (now (turned .exit)) ≡ movedDirections (now (s .entry)) (now (at .entry))) ⌝ }
 {
-    permute(GONE, l, at, left);
-    permute(GONE, g, at, right);
+    unpack_keys(moved_keys(l, at), left);
+    unpack_keys(moved_keys(g, at), right);
     moved_directions(s, at, turned)
 }

@@ -3,9 +3,11 @@ ghost use mathlib.Core.Path.{_≡_};
 ghost use mathlib.Core.List.{[]};
 ghost use Prim.Native.Nat.{_≤_};
 ghost use lib.ListN.{length, getD, take};
+ghost use Rattle.keys.specs.Expressions.{goneNumber};
 ghost use Rattle.keys.specs.Lists.{permute};
 ghost use Rattle.keys.specs.Values.{packedKeys, numbers, Whole, WholeNumbers};
 use crate::expr::Expr;
+use crate::reorder::GONE;
 
 pub struct KeyList {
     pub items: [Expr; 32],
@@ -74,7 +76,24 @@ pub fn entry(gone: u64, all: &[u64], p: u64) -> u64
     gone
 }
 
-// What stands at the positions, in the front of the room lent.
+// The keys at the positions.
+pub fn moved_keys(keys: &[u64], at: &[u64]) -> KeyList
+    requires { ⌜ length (now at) ≤ 32 ⌝ }
+    ensures { λ r. ⌜ Whole r × (packedKeys r ≡ permute goneNumber (now (keys .entry)) (now (at .entry))) × (r .count ≡ length (now (at .entry))) ⌝ }
+{
+    let mut out = no_keys();
+    let mut i: usize = 0;
+    while i < at.len() {
+        out.items[i] = Expr {
+            number: entry(GONE, keys, at[i]),
+        };
+        i += 1;
+    }
+    out.count = i;
+    out
+}
+
+// The numbers at the positions, in the front of the room lent; `gone` where nothing stands.
 pub fn permute(gone: u64, all: &[u64], at: &[u64], out: &mut [u64; 32])
     requires { ⌜ (length (now at) ≤ 32) × (length (now out) ≡ 32) ⌝ }
     ensures { λ _. ⌜ (length (now (out .exit)) ≡ 32) × (take (length (now (at .entry))) (now (out .exit)) ≡ permute gone (now (all .entry)) (now (at .entry))) ⌝ }

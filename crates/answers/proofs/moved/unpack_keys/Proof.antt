@@ -1,4 +1,4 @@
--- `answers::chosen::unpack_keys` meets its contract. The array filled so far, with what is left of the keys, is all the keys (`fill-turn`).
+-- `answers::moved::unpack_keys` meets its contract. The array filled so far, with what is left of the keys, is all the keys (`fill-turn`).
 -- Assumes nothing.
 use mathlib.Core.Path.{_≡_, sym}
 use mathlib.Core.List.{_++_}
@@ -8,8 +8,8 @@ use lib.ListN.{length, take, drop, length-set}
 use Rattle.keys.specs.Values.{packedKeys}
 use Rattle.keys.proofs.Turns.{fill-turn, fill-end, key-length, key-entry}
 use borrow.Author.Needs.{needs}
-use Rattle.answers.proofs.chosen.unpack_keys.Statement.{statement}
-use Rattle.answers.proofs.chosen.unpack_keys.Tie as tie
+use Rattle.answers.proofs.moved.unpack_keys.Statement.{statement}
+use Rattle.answers.proofs.moved.unpack_keys.Tie as tie
 
 abbrev Inv-loop : tie.InvT-loop
 Inv-loop out₀ k n i₀ out i = (i ≤ n) × (length out ≡ 32) × (take i out ++ drop i (packedKeys k) ≡ packedKeys k)
