@@ -2,7 +2,7 @@
 use Prim.Native.Nat.{ℕ, _≤_}
 use mathlib.Core.Path.{_≡_}
 use mathlib.Core.Option.{Option, none, some}
-use mathlib.Core.List.{List, map}
+use mathlib.Core.List.{List, [], map}
 use lib.ListN.{length, take, getD}
 use Rattle.keys.specs.Lists.{permute}
 use Rattle.keys.specs.Expressions.{Expression, expressions, goneNumber}
@@ -51,6 +51,15 @@ placed Missing ps = none
 
 abbrev pub positionsOf : Positions → Option (List ℕ)
 positionsOf r = placed (r .outcome) (numbers (r .at))
+
+-- where an expected key is missing, no position is left
+abbrev pub OnlyPlaced : Placed → List ℕ → Type 0
+OnlyPlaced All ps = Unit {0}
+OnlyPlaced Missing ps = ps ≡ []
+
+pub record WholePositions (r : Positions) : Type 0 where
+  pub at : WholeNumbers (r .at)
+  pub only : OnlyPlaced (r .outcome) (numbers (r .at))
 
 -- a rewriting list on packed numbers
 abbrev pub numberRule : List ℕ → Rule ℕ

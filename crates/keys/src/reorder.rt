@@ -10,7 +10,7 @@ ghost use Rattle.keys.specs.Expressions.{goneNumber};
 ghost use Rattle.keys.specs.Lists.{sameList, takePlaces, expectedExprPositions};
 ghost use Rattle.keys.specs.Reorder.{rewriteOne, rewrite, meets, eitherSide, movedBy, tryReorder};
 ghost use Rattle.keys.specs.Searched.{searched, searchedBy};
-ghost use Rattle.keys.specs.Values.{numbers, numberRules, WholeNumbers, positionsOf, triedOf, reportOf};
+ghost use Rattle.keys.specs.Values.{numbers, numberRules, WholeNumbers, WholePositions, positionsOf, triedOf, reportOf};
 use crate::expr::Expr;
 use crate::list::NumberList;
 
@@ -46,7 +46,7 @@ pub fn same_keys(a: &[u64], b: &[u64]) -> bool
 // Each expected key takes its leftmost place among the current ones, which then becomes the placeholder.
 fn take_places(current: &[u64], expected: &[u64]) -> Positions
     requires { ⌜ (length (now current) ≤ 32) × (length (now expected) ≤ 32) ⌝ }
-    ensures { λ r. ⌜ WholeNumbers (r .at) × (positionsOf r ≡ takePlaces eqb goneNumber (now (current .entry)) (now (expected .entry))) ⌝ }
+    ensures { λ r. ⌜ WholePositions r × (positionsOf r ≡ takePlaces eqb goneNumber (now (current .entry)) (now (expected .entry))) ⌝ }
 {
     let mut left = crate::list::key_list(current);
     let mut at = crate::list::no_numbers();
@@ -77,7 +77,7 @@ fn take_places(current: &[u64], expected: &[u64]) -> Positions
 }
 
 fn no_positions() -> Positions
-    ensures { λ r. ⌜ WholeNumbers (r .at) × (positionsOf r ≡ none) ⌝ }
+    ensures { λ r. ⌜ WholePositions r × (positionsOf r ≡ none) ⌝ }
 {
     let at = crate::list::no_numbers();
     Positions {
@@ -88,7 +88,7 @@ fn no_positions() -> Positions
 
 pub fn expected_expr_positions(current: &[u64], expected: &[u64]) -> Positions
     requires { ⌜ (length (now current) ≤ 32) × (length (now expected) ≤ 32) ⌝ }
-    ensures { λ r. ⌜ WholeNumbers (r .at) × (positionsOf r ≡ expectedExprPositions eqb goneNumber (now (current .entry)) (now (expected .entry))) ⌝ }
+    ensures { λ r. ⌜ WholePositions r × (positionsOf r ≡ expectedExprPositions eqb goneNumber (now (current .entry)) (now (expected .entry))) ⌝ }
 {
     if current.len() == 0 {
         return no_positions();
@@ -135,7 +135,7 @@ fn meets(r: &[u64], l: &[u64], g: &[u64]) -> bool
 
 fn either_side(r: &[u64], l: &[u64], g: &[u64]) -> Positions
     requires { ⌜ (length (now r) ≤ 32) × (length (now l) ≤ 32) × (length (now g) ≤ 32) ⌝ }
-    ensures { λ p. ⌜ WholeNumbers (p .at) × (positionsOf p ≡ eitherSide eqb goneNumber (now (r .entry)) (now (l .entry)) (now (g .entry))) ⌝ }
+    ensures { λ p. ⌜ WholePositions p × (positionsOf p ≡ eitherSide eqb goneNumber (now (r .entry)) (now (l .entry)) (now (g .entry))) ⌝ }
 {
     let p = expected_expr_positions(l, r);
     let o = p.outcome;

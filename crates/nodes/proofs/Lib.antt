@@ -1,4 +1,3 @@
 mod Changes
 mod Numbers
 mod Settled
-mod Past

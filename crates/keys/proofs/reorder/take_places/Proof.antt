@@ -78,7 +78,7 @@ returns : tie.Need-returns Inv-loop μ-loop
 returns c =
     let l = c .before .before in
     let s = l .before .before .before .before .before in (
-      record { full = l .loop .inv .room; fits = omega (arith, l .loop .inv .uncounted) },
+      record { at = record { full = l .loop .inv .room; fits = omega (arith, l .loop .inv .uncounted) }; only = rw (l .loop .inv .uncounted) },
       sym (l .loop .inv .rest ∙ resume-nowhere eqb goneNumber (L l) (E s) (l .loop .i) (l .loop .p) (take (l .loop .i) (l .loop .at .items)) 0 (c .before .loop-test .taken) (omega (arith, l-long l, c .if1 .taken))),
     )
 
@@ -164,7 +164,7 @@ returns-2 : tie.Need-returns-2 Inv-loop μ-loop
 returns-2 c =
     let l = c .before in
     let s = l .before .before .before .before .before in (
-      record { full = l .loop .inv .room; fits = omega (arith, l .loop .inv .within, s .pre .1) },
+      record { at = record { full = l .loop .inv .room; fits = omega (arith, l .loop .inv .within, s .pre .1) }; only = tt },
       sym (l .loop .inv .rest ∙ resume-end eqb goneNumber (L l) (E s) (l .loop .i) (l .loop .p) (take (l .loop .i) (l .loop .at .items)) (c .loop-test .left)),
     )
 
