@@ -74,7 +74,7 @@ fn name_places(moved: &[u64], aggregates: &[u64], names: &[u64]) -> Positions
                 at: at,
             };
         };
-        at.items[i] = keys::list::wide(p);
+        at.items[i] = keys::list::narrow(p);
         i += 1;
     }
     at.count = i;

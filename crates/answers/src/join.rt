@@ -16,6 +16,7 @@ use crate::held::held;
 use crate::join_text::join_lists_length;
 use crate::join_text::put_join_lists;
 use crate::moved::moved_pairs;
+use crate::moved::wide_positions;
 use keys::inputs::Attempt;
 use keys::inputs::report_number;
 use keys::inputs::side_followed;
@@ -45,7 +46,7 @@ fn answer_lists<'a>(
     lists: &'a [[u64; 64]],
     counts: &[usize],
     o: Attempt,
-    at: &[u64],
+    at: &[u8],
     left: &'a [u64],
     right: &'a [u64],
     turned: &'a [u64],
@@ -54,10 +55,13 @@ fn answer_lists<'a>(
     requires { ⌜ JoinHeld (now lists) (now counts) × ReadyJoin (now lists) (now counts) o (now at) (now left) (now right) (now turned) ⌝ }
     ensures { λ r. ⌜ (let t = within (length (now (out .entry))) (wrote (joinAnswerText (attemptOf (heldJoinSheet (now (lists .entry)) (now (counts .entry))) (now (at .entry)) o))) in (r ≡ answer t) × (now (out .exit) ≡ after t (now (out .entry)))) ⌝ }
 {
+    let n = at.len();
+    let mut positions = [0u64; 32];
+    wide_positions(at, &mut positions);
     write_join(
         report_number(o),
         side_number(side_followed(o)),
-        at,
+        &positions[0..n],
         followed_or(o, left, held(lists, counts, 1)),
         followed_or(o, right, held(lists, counts, 2)),
         followed_or(o, turned, held(lists, counts, 3)),

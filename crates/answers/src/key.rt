@@ -24,6 +24,7 @@ use crate::held::held;
 use crate::key_text::key_lists_length;
 use crate::key_text::put_key_lists;
 use crate::moved::moved_pairs;
+use crate::moved::wide_positions;
 use crate::projection::projected_by;
 use keys::answer::Adjusted;
 use keys::answer::Handed;
@@ -91,7 +92,7 @@ fn answer_lists<'a>(
     cleared: bool,
     first: Handed,
     others: Handed,
-    at: &[u64],
+    at: &[u8],
     left: &'a [u64],
     right: &'a [u64],
     turned: &'a [u64],
@@ -102,6 +103,9 @@ fn answer_lists<'a>(
     requires { ⌜ KeyHeld (now lists) (now counts) × ReadyKey (now lists) (now counts) o first others (now at) (now left) (now right) (now turned) (now shifted) × (length (now j) ≤ 128) ⌝ }
     ensures { λ r. ⌜ ((places : List ℕ) → now (j .entry) ≡ heldProjection (now (lists .entry)) (now (counts .entry)) o places → let t = within (length (now (out .entry))) (wrote (keyAnswerText (answerBy (heldKeySheet (now (lists .entry)) (now (counts .entry))) o cleared first others (now (at .entry)) places))) in (r ≡ answer t) × (now (out .exit) ≡ after t (now (out .entry)))) ⌝ }
 {
+    let n = at.len();
+    let mut positions = [0u64; 32];
+    wide_positions(at, &mut positions);
     let required = held(lists, counts, 1);
     let mapped = held(lists, counts, 8);
     let l = moved_or(o, left, held(lists, counts, 2));
@@ -110,7 +114,7 @@ fn answer_lists<'a>(
     write_key(
         changed_number(o),
         report_number(o),
-        at,
+        &positions[0..n],
         cleared_or(cleared, required),
         l,
         g,

@@ -25,8 +25,26 @@ pub(crate) fn unpack_keys(k: KeyList, out: &mut [u64; 32]) -> usize
     i
 }
 
+pub(crate) fn widened(p: u8) -> u64
+    ensures { λ r. ⌜ r ≡ p ⌝ }
+{
+    p as u64
+}
+
+// The positions as numbers, in the front of the room lent.
+pub fn wide_positions(at: &[u8], out: &mut [u64; 32])
+    requires { ⌜ (length (now at) ≤ 32) × (length (now out) ≡ 32) ⌝ }
+    ensures { λ _. ⌜ (length (now (out .exit)) ≡ 32) × (take (length (now (at .entry))) (now (out .exit)) ≡ now (at .entry)) ⌝ }
+{
+    let mut i: usize = 0;
+    while i < at.len() {
+        out[i] = widened(at[i]);
+        i += 1;
+    }
+}
+
 // The first n entries, or all.
-fn front<'a>(list: &'a [u64], n: usize) -> &'a [u64]
+fn front<'a>(list: &'a [u8], n: usize) -> &'a [u8]
     ensures { λ r. ⌜ now r ≡ take n (now (list .entry)) ⌝ }
 {
     if list.len() <= n {
@@ -36,7 +54,7 @@ fn front<'a>(list: &'a [u64], n: usize) -> &'a [u64]
 }
 
 // The directions at the first positions, one for each that there is; how many.
-fn moved_directions(s: &[u64], at: &[u64], out: &mut [u64; 32]) -> usize
+fn moved_directions(s: &[u64], at: &[u8], out: &mut [u64; 32]) -> usize
     requires { ⌜ (length (now at) ≤ 32) × (length (now out) ≡ 32) ⌝ }
     ensures { λ r. ⌜ (length (now (out .exit)) ≡ 32) × (r ≤ 32) × (take r (now (out .exit)) ≡ movedDirections (now (s .entry)) (now (at .entry))) ⌝ }
 {
@@ -50,7 +68,7 @@ pub fn moved_pairs(
     l: &[u64],
     g: &[u64],
     s: &[u64],
-    at: &[u64],
+    at: &[u8],
     left: &mut [u64; 32],
     right: &mut [u64; 32],
     turned: &mut [u64; 32],

@@ -6,11 +6,12 @@ ghost use lib.ListN.{length, take};
 ghost use Rattle.keys.specs.Adjust.{placedNames, namesFrom};
 ghost use Rattle.keys.specs.Answers.{projectedBy};
 ghost use Rattle.sheet.specs.KeyAnswers.{projectedNumbers};
+use crate::moved::widened;
 use keys::answer::Outcome;
 use keys::list::wide;
 
 // The group names at their places.
-fn placed_names(o: &[u64], places: &[u64], out: &mut [u64; 128]) -> usize
+fn placed_names(o: &[u64], places: &[u8], out: &mut [u64; 128]) -> usize
     requires { ⌜ (length (now o) ≤ 32) × (length (now out) ≡ 128) ⌝ }
     ensures { λ r. ⌜ (r ≤ 64) × (length (now (out .exit)) ≡ 128) × (take r (now (out .exit)) ≡ projectedNumbers (placedNames (now (o .entry)) (now (places .entry)))) ⌝ }
 {
@@ -20,7 +21,7 @@ fn placed_names(o: &[u64], places: &[u64], out: &mut [u64; 128]) -> usize
             return i + i;
         }
         out[i + i] = o[i];
-        out[i + i + 1] = places[i];
+        out[i + i + 1] = widened(places[i]);
         i += 1;
     }
     i + i
@@ -43,7 +44,7 @@ fn names_from(first: usize, a: &[u64], out: &mut [u64; 128], at: usize) -> usize
 }
 
 // The group names at their places, and the aggregate names after them.
-fn projected(o: &[u64], places: &[u64], a: &[u64], out: &mut [u64; 128]) -> usize
+fn projected(o: &[u64], places: &[u8], a: &[u64], out: &mut [u64; 128]) -> usize
     requires { ⌜ (length (now o) ≤ 32) × (length (now a) ≤ 32) × (length (now out) ≡ 128) ⌝ }
     ensures { λ r. ⌜ (r ≤ 128) × (length (now (out .exit)) ≡ 128) × (take r (now (out .exit)) ≡ projectedNumbers (placedNames (now (o .entry)) (now (places .entry)) ++ namesFrom (length (now (o .entry))) (now (a .entry)))) ⌝ }
 {
@@ -55,7 +56,7 @@ fn projected(o: &[u64], places: &[u64], a: &[u64], out: &mut [u64; 128]) -> usiz
 pub fn projected_by(
     outcome: Outcome,
     o: &[u64],
-    places: &[u64],
+    places: &[u8],
     a: &[u64],
     out: &mut [u64; 128],
 ) -> usize

@@ -85,7 +85,7 @@ fn store(out: &mut [u64], i: usize, value: u64)
 }
 
 // Stores the keys at the positions where there is room.
-fn store_moved(all: &[u64], at: &[u64], out: &mut [u64])
+fn store_moved(all: &[u64], at: &[u8], out: &mut [u64])
     ensures { λ _. ⌜ now (out .exit) ≡ sets (now (out .entry)) 0 (permute goneNumber (now (all .entry)) (now (at .entry))) ⌝ }
 {
     let mut i: usize = 0;

@@ -36,7 +36,7 @@ pub fn reorder_join_keys_to_inputs<'a>(
     v: &[[u64; 2]],
     report: &mut u64,
     followed: &mut u64,
-    at: &mut [u64; 32],
+    at: &mut [u8; 32],
 ) -> &'a [u64]
     requires { ⌜ (length (now l) ≤ 32) × (length (now g) ≡ length (now l)) × (length (now h) ≤ 33) × (length (now n) ≤ 33) ⌝ }
     ensures { λ r. ⌜ HandedBack (now (followed .exit)) (h .entry) (n .entry) r × (length (now (at .exit)) ≡ 32) × ((s : List ℕ) → let t = joinSheet op mode (now (l .entry)) (now (g .entry)) s (now (h .entry)) (now (n .entry)) (now (w .entry)) (now (v .entry)) in InputsOrdered t (reorderJoinKeysToInputs t sameExpr) (now (l .entry)) (now (report .exit)) (now (followed .exit)) (now (at .exit)) (now r)) ⌝ }

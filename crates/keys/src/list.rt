@@ -1,7 +1,7 @@
 // Lists of keys and of numbers: thirty-two entries and a count.
 ghost use mathlib.Core.Path.{_≡_};
 ghost use mathlib.Core.List.{[]};
-ghost use Prim.Native.Nat.{_≤_};
+ghost use Prim.Native.Nat.{_≤_, _<_};
 ghost use lib.ListN.{length, getD, take};
 ghost use Rattle.keys.specs.Expressions.{goneNumber};
 ghost use Rattle.keys.specs.Lists.{permute};
@@ -14,8 +14,9 @@ pub struct KeyList {
     pub count: usize,
 }
 
+// A position takes a byte, so that a list of them is short enough to be handed over.
 pub struct NumberList {
-    pub items: [u64; 32],
+    pub items: [u8; 32],
     pub count: usize,
 }
 
@@ -59,14 +60,21 @@ pub fn wide(p: usize) -> u64
     p as u64
 }
 
-fn place(p: u64) -> usize
+pub fn narrow(p: usize) -> u8
+    requires { ⌜ p < 256 ⌝ }
+    ensures { λ r. ⌜ r ≡ p ⌝ }
+{
+    p as u8
+}
+
+fn place(p: u8) -> usize
     ensures { λ r. ⌜ r ≡ p ⌝ }
 {
     p as usize
 }
 
 // What stands at a position, or `gone` where nothing does.
-pub fn entry(gone: u64, all: &[u64], p: u64) -> u64
+pub fn entry(gone: u64, all: &[u64], p: u8) -> u64
     ensures { λ r. ⌜ r ≡ getD (now (all .entry)) p gone ⌝ }
 {
     let i = place(p);
@@ -77,7 +85,7 @@ pub fn entry(gone: u64, all: &[u64], p: u64) -> u64
 }
 
 // The keys at the positions.
-pub fn moved_keys(keys: &[u64], at: &[u64]) -> KeyList
+pub fn moved_keys(keys: &[u64], at: &[u8]) -> KeyList
     requires { ⌜ length (now at) ≤ 32 ⌝ }
     ensures { λ r. ⌜ Whole r × (packedKeys r ≡ permute goneNumber (now (keys .entry)) (now (at .entry))) × (r .count ≡ length (now (at .entry))) ⌝ }
 {
@@ -94,7 +102,7 @@ pub fn moved_keys(keys: &[u64], at: &[u64]) -> KeyList
 }
 
 // The numbers at the positions, in the front of the room lent; `gone` where nothing stands.
-pub fn permute(gone: u64, all: &[u64], at: &[u64], out: &mut [u64; 32])
+pub fn permute(gone: u64, all: &[u64], at: &[u8], out: &mut [u64; 32])
     requires { ⌜ (length (now at) ≤ 32) × (length (now out) ≡ 32) ⌝ }
     ensures { λ _. ⌜ (length (now (out .exit)) ≡ 32) × (take (length (now (at .entry))) (now (out .exit)) ≡ permute gone (now (all .entry)) (now (at .entry))) ⌝ }
 {

@@ -62,7 +62,7 @@ fn take_places(current: &[u64], expected: &[u64]) -> Positions
         let e = left.items[p];
         if e.number == expected[i] {
             left.items[p] = Expr { number: GONE };
-            at.items[i] = crate::list::wide(p);
+            at.items[i] = crate::list::narrow(p);
             i += 1;
             p = 0;
             continue;

@@ -21,9 +21,6 @@ abbrev μ-loop : tie.MeasureT-loop
 loop-holds : tie.Need-loop-holds Inv-loop μ-loop
 loop-holds c = search needs
 
-mul-entry : tie.Need-mul-entry Inv-loop μ-loop
-mul-entry c = search needs
-
 shared-slice-read-entry : tie.Need-shared-slice-read-entry Inv-loop μ-loop
 shared-slice-read-entry c = search needs
 
@@ -72,7 +69,6 @@ store-moved-spec =
     Inv-loop
     μ-loop
     loop-holds
-    mul-entry
     shared-slice-read-entry
     entry-requires
     store-requires

@@ -4,10 +4,11 @@ use mathlib.Core.Path.{_≡_, sym, ap, _∙_}
 use mathlib.Core.List.{_++_}
 use Prim.Native.Nat.{_≤_, _-_}
 use native.Mathlib.Omega.{arith}
-use lib.ListN.{length, take, drop}
+use lib.Dec.{eqb}
+use lib.ListN.{length, take, drop, length-append}
 use Rattle.keys.specs.Adjust.{namePlaces}
 use Rattle.keys.specs.Values.{found}
-use Rattle.keys.proofs.Lists.{first-pushed, behind, behind-none}
+use Rattle.keys.proofs.Lists.{place-below, first-pushed, behind, behind-none}
 use Rattle.keys.proofs.Names.{names-turn, names-missing, names-end}
 use borrow.Author.Needs.{needs}
 use Rattle.adjust.proofs.aggregate.name_places.Statement.{statement}
@@ -54,11 +55,15 @@ returns c =
           (c .before .before .before .before .loop-test .taken) (sym (c .before .before .find-field .ensures) ∙ ap found (c .enum-told .given .1))),
     )
 
-wide-requires : tie.Need-wide-requires Inv-loop μ-loop
-wide-requires c κs = tt
-
-mul-at : tie.Need-mul-at Inv-loop μ-loop
-mul-at c = search needs
+narrow-requires : tie.Need-narrow-requires Inv-loop μ-loop
+narrow-requires c κs =
+    let f = c .before .before .before .find-field in
+    let l = c .before .before .before .before .before .before in
+    let s = l .before .before .before .before .before in
+    let moved = s .args .moved .now in
+    let aggregates = s .args .aggregates .now in
+    let h = place-below eqb _ (moved ++ aggregates) (c .before .p .given .0 .0) (sym (f .ensures) ∙ ap found (c .before .p .given .1)) in
+    omega (arith, h, length-append moved aggregates, s .pre .0, s .pre .1)
 
 element-write-at : tie.Need-element-write-at Inv-loop μ-loop
 element-write-at c = search needs
@@ -81,7 +86,7 @@ loop-again c =
       l .loop .inv .3
           ∙ names-turn (s .args .moved .now ++ s .args .aggregates .now) (s .args .names .now) (take i (l .loop .at .items)) i (c .before .before .p .given .0 .0) t
           (sym (c .before .before .before .before .find-field .ensures) ∙ ap found (c .before .before .p .given .1))
-          ∙ rw (first-pushed (l .loop .at .items) i (c .wide .result) (omega (arith, t, l .loop .inv .1, s .pre .2)), c .wide .ensures),
+          ∙ rw (first-pushed (l .loop .at .items) i (c .narrow .result) (omega (arith, t, l .loop .inv .1, s .pre .2)), c .narrow .ensures),
     )
 
 returns-2 : tie.Need-returns-2 Inv-loop μ-loop
@@ -106,8 +111,7 @@ name-places-spec =
     enum-known-p
     enum-told
     returns
-    wide-requires
-    mul-at
+    narrow-requires
     element-write-at
     add-i
     loop-less

@@ -29,7 +29,7 @@ add-result c = search needs
 returns : tie.Need-returns Inv-loop μ-loop
 returns c =
     let l = c .before .before in
-    let s = l .before in
+    let s = l .before .before .before in
     let v = l .loop .inv in
     (omega (arith, v .0, s .pre .0), v .1, places-over (s .args .o .now) (s .args .places .now) (l .loop .out) _ (l .loop .i) (v .2) (c .if1 .taken))
 
@@ -48,11 +48,11 @@ mul-out-2 c = search needs
 element-write-out : tie.Need-element-write-out Inv-loop μ-loop
 element-write-out c = search needs
 
-mul-out-3 : tie.Need-mul-out-3 Inv-loop μ-loop
-mul-out-3 c = search needs
+shared-slice-read-widened : tie.Need-shared-slice-read-widened Inv-loop μ-loop
+shared-slice-read-widened c = search needs
 
-shared-slice-read-out-2 : tie.Need-shared-slice-read-out-2 Inv-loop μ-loop
-shared-slice-read-out-2 c = search needs
+widened-requires : tie.Need-widened-requires Inv-loop μ-loop
+widened-requires c κs = search needs
 
 add-out-2 : tie.Need-add-out-2 Inv-loop μ-loop
 add-out-2 c = search needs
@@ -60,8 +60,8 @@ add-out-2 c = search needs
 add-out-3 : tie.Need-add-out-3 Inv-loop μ-loop
 add-out-3 c = search needs
 
-mul-out-4 : tie.Need-mul-out-4 Inv-loop μ-loop
-mul-out-4 c = search needs
+mul-out-3 : tie.Need-mul-out-3 Inv-loop μ-loop
+mul-out-3 c = search needs
 
 element-write-out-2 : tie.Need-element-write-out-2 Inv-loop μ-loop
 element-write-out-2 c = search needs
@@ -74,13 +74,13 @@ loop-less c = search needs
 
 loop-again : tie.Need-loop-again Inv-loop μ-loop
 loop-again c =
-    let l = c .before .before .before .before in
-    let s = l .before in
+    let l = c .before .before .before .before .before in
+    let s = c .before .before .before .before .before .before .before .before in
     let v = l .loop .inv in
-    let t = c .before .before .before .loop-test .taken in (
+    let t = c .before .before .before .before .loop-test .taken in (
       search needs,
       simp length-set (v .1),
-      placed-turn (s .args .o .now) (s .args .places .now) (l .loop .out) _ (l .loop .i) (v .2) t (c .before .before .if1 .left) (omega (arith, t, v .1, s .pre .0)),
+      rw (c .widened .ensures) (placed-turn (s .args .o .now) (s .args .places .now) (l .loop .out) _ (l .loop .i) (v .2) t (c .before .before .before .if1 .left) (omega (arith, t, v .1, s .pre .0))),
     )
 
 add-result-2 : tie.Need-add-result-2 Inv-loop μ-loop
@@ -89,7 +89,7 @@ add-result-2 c = search needs
 returns-2 : tie.Need-returns-2 Inv-loop μ-loop
 returns-2 c =
     let l = c .before in
-    let s = l .before in
+    let s = l .before .before .before in
     let v = l .loop .inv in
     (omega (arith, v .0, s .pre .0), v .1, names-over (s .args .o .now) (s .args .places .now) (l .loop .out) _ (l .loop .i) (v .2) (c .loop-test .left))
 
@@ -107,11 +107,11 @@ placed-names-spec =
     add-out
     mul-out-2
     element-write-out
-    mul-out-3
-    shared-slice-read-out-2
+    shared-slice-read-widened
+    widened-requires
     add-out-2
     add-out-3
-    mul-out-4
+    mul-out-3
     element-write-out-2
     add-i
     loop-less

@@ -100,11 +100,8 @@ mul-t20 c = search needs
 element-set-from-left : tie.Need-element-set-from-left Inv-loop μ-loop
 element-set-from-left c = search needs
 
-wide-requires : tie.Need-wide-requires Inv-loop μ-loop
-wide-requires c κs = tt
-
-mul-at : tie.Need-mul-at Inv-loop μ-loop
-mul-at c = search needs
+narrow-requires : tie.Need-narrow-requires Inv-loop μ-loop
+narrow-requires c κs = search needs
 
 element-write-at : tie.Need-element-write-at Inv-loop μ-loop
 element-write-at c = search needs
@@ -132,7 +129,7 @@ loop-again c =
       rest =
           l .loop .inv .rest
           ∙ resume-here eqb goneNumber (L l) (E s) i p (take i (l .loop .at .items)) 0 t (rw (l-long l) (inside d)) (eq-eqb (getD (L l) p 0) (getD (E s) i 0) (key-entry (l .loop .left .items) (length (C s)) p (inside d) ∙ c .before .if2 .taken))
-          ∙ rw (first-pushed (l .loop .at .items) i (c .wide .result) (omega (arith, l .loop .inv .room, t, s .pre .1)), c .wide .ensures, key-changed (l .loop .left .items) (length (C s)) p (inside d) (record { number = goneNumber }));
+          ∙ rw (first-pushed (l .loop .at .items) i (c .narrow .result) (omega (arith, l .loop .inv .room, t, s .pre .1)), c .narrow .ensures, key-changed (l .loop .left .items) (length (C s)) p (inside d) (record { number = goneNumber }));
     }
 
 add-p : tie.Need-add-p Inv-loop μ-loop
@@ -184,8 +181,7 @@ take-places-spec =
     shared-slice-read-if2
     mul-t20
     element-set-from-left
-    wide-requires
-    mul-at
+    narrow-requires
     element-write-at
     add-i
     loop-less
