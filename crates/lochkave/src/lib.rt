@@ -86,10 +86,7 @@ pub extern "C" fn lochkave_decide(sheet: &[u8], out: &mut [u8]) -> u64
     if kind == 73 {
         return lochkave_reorder_join_keys_to_inputs(sheet, out);
     }
-    if sheet.len() < SHORT {
-        return distribute_short(sheet, out);
-    }
-    distribute_long(sheet, out)
+    lochkave_ensure_distribution(sheet, out)
 }
 
 // Reads a sheet and writes it again from what was read.

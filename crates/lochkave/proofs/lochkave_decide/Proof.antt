@@ -35,8 +35,8 @@ returns-2 c =
     let a = c .before .before .before .before .before .before .before .before .before .args in
     first-join (a .sheet .now) (a .out .now) _ _ _ _ _ _ (c .before .before .before .before .before .before .first-byte .ensures) (c .before .before .before .before .if2 .taken) (c .before .before .lochkave-reorder-join-keys-to-inputs .ensures)
 
-distribute-short-requires : tie.Need-distribute-short-requires
-distribute-short-requires c κs = search needs
+lochkave-ensure-distribution-requires : tie.Need-lochkave-ensure-distribution-requires
+lochkave-ensure-distribution-requires c κs = search needs
 
 same-length-3 : tie.Need-same-length-3
 same-length-3 c = search needs
@@ -44,20 +44,8 @@ same-length-3 c = search needs
 returns-3 : tie.Need-returns-3
 unfolding decision
 returns-3 c =
-    let a = c .before .before .before .before .before .before .before .before .before .before .args in
-    first-plan (a .sheet .now) (a .out .now) _ _ _ _ _ _ (c .before .before .before .before .before .before .before .first-byte .ensures) (c .before .before .before .before .before .before .if1 .left) (c .before .before .before .before .before .if2 .left) (c .before .before .distribute-short .ensures)
-
-distribute-long-requires : tie.Need-distribute-long-requires
-distribute-long-requires c κs = search needs
-
-same-length-4 : tie.Need-same-length-4
-same-length-4 c = search needs
-
-returns-4 : tie.Need-returns-4
-unfolding decision
-returns-4 c =
-    let a = c .before .before .before .before .before .before .before .before .before .before .args in
-    first-plan (a .sheet .now) (a .out .now) _ _ _ _ _ _ (c .before .before .before .before .before .before .before .first-byte .ensures) (c .before .before .before .before .before .before .if1 .left) (c .before .before .before .before .before .if2 .left) (c .before .before .distribute-long .ensures)
+    let a = c .before .before .before .before .before .before .before .before .before .args in
+    first-plan (a .sheet .now) (a .out .now) _ _ _ _ _ _ (c .before .before .before .before .before .before .first-byte .ensures) (c .before .before .before .before .before .if1 .left) (c .before .before .before .before .if2 .left) (c .before .before .lochkave-ensure-distribution .ensures)
 
 pub lochkave-decide-spec : {M : Type 1} → statement M
 lochkave-decide-spec =
@@ -70,9 +58,6 @@ lochkave-decide-spec =
     lochkave-reorder-join-keys-to-inputs-requires
     same-length-2
     returns-2
-    distribute-short-requires
+    lochkave-ensure-distribution-requires
     same-length-3
-    returns-3
-    distribute-long-requires
-    same-length-4
-    returns-4)
+    returns-3)
