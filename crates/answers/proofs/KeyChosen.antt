@@ -56,8 +56,8 @@ module _ (lists : List (List ℕ)) (counts : List ℕ) (outcome : Outcome) (clea
           right = d;
           directions = rw (c .directions) (moved-any Short outcome turned (At 4) (rw (ready .directions) (turned-short (At 4) ps (ready .positions))) (key-directions lists counts h));
           projection = few;
-          first = rw (c .first-is) (handed-any Short first (At 1) l shifted (At 8) none (lines .0) b (ready .shifted) m);
-          others = rw (c .others-are) (handed-any Short others (At 1) g shifted (At 8) none (lines .0) d (ready .shifted) m);
+          first = rw (c .first-is) (handed-any Short first (At 1) l shifted (At 8) none (lines .0) b (ready .shifted .few) m);
+          others = rw (c .others-are) (handed-any Short others (At 1) g shifted (At 8) none (lines .0) d (ready .shifted .few) m);
         }
 
     pub chosen-text :
@@ -69,7 +69,7 @@ module _ (lists : List (List ℕ)) (counts : List ℕ) (outcome : Outcome) (clea
         ++ childrenText (c .first-kept i) ((c .first-is ∙ ap (λ (ks : List ℕ). handedList first (At 1) ks shifted (At 8)) left-comes) i) (c .others-kept i)
         ((c .others-are ∙ ap (λ (ks : List ℕ). handedList others (At 1) ks shifted (At 8)) right-comes) i) lists counts (childCount lists counts))
         ∙ sym (key-answer-held _ _ _ _ _ _ _ _ _ (key-lists lists counts outcome cleared first others ps places) _ _ _ _ lists counts (childCount lists counts)
-        (key-handed lists counts outcome cleared first others ps places shifted (ready .unshifted) (ready .shifts)))
+        (key-handed lists counts outcome cleared first others ps places shifted (ready .shifted .unshifted) (ready .shifted .shifts)))
       where
         left-comes : l ≡ movedOr outcome (permute goneNumber (At 2) ps) (At 2)
         left-comes = c .left-is ∙ ap (λ (ks : List ℕ). movedOr outcome ks (At 2)) (ready .left)

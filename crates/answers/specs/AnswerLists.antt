@@ -41,15 +41,19 @@ abbrev pub heldProjection : List (List ℕ) → List ℕ → Outcome → List �
 heldProjection lists counts o places =
     projectedNumbers (projectedBy o (placedNames (heldAt lists counts 6) places ++ namesFrom (length (heldAt lists counts 6)) (heldAt lists counts 7)))
 
+-- k is R shifted, of a K sheet that is held, where a child but the first is handed it
+pub record ShiftedKeys (lists : List (List ℕ)) (counts : List ℕ) (first others : Handed) (k : List ℕ) : Type 0 where
+  pub unshifted : Unshifted first
+  pub shifts : ShiftedBy others (getD (heldAt lists counts 0) 3 0) (heldAt lists counts 1) k
+  pub few : length k ≤ 32
+
 -- what stands at the positions ps, and R shifted, of a K sheet that is held
 pub record ReadyKey (lists : List (List ℕ)) (counts : List ℕ) (o : Outcome) (first others : Handed) (ps l g s k : List ℕ) : Type 0 where
   pub positions : length ps ≤ 32
   pub left : l ≡ permute goneNumber (heldAt lists counts 2) ps
   pub right : g ≡ permute goneNumber (heldAt lists counts 3) ps
   pub directions : s ≡ movedDirections (heldAt lists counts 4) ps
-  pub unshifted : Unshifted first
-  pub shifts : ShiftedBy others (getD (heldAt lists counts 0) 3 0) (heldAt lists counts 1) k
-  pub shifted : length k ≤ 32
+  pub shifted : ShiftedKeys lists counts first others k
 
 pub record JoinFew (p l g s : List ℕ) : Type 0 where
   pub positions : length p ≤ 32

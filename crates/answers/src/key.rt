@@ -11,7 +11,7 @@ ghost use Rattle.sheet.specs.Outcomes.{answer, after, within};
 ghost use Rattle.sheet.specs.Held.{childCount, heldKeySheet, KeyHeld};
 ghost use Rattle.answers.specs.Texts.{keyListsText};
 ghost use Rattle.answers.specs.Children.{childrenText};
-ghost use Rattle.answers.specs.AnswerLists.{refusedBy, KeyFew, heldProjection, ReadyKey};
+ghost use Rattle.answers.specs.AnswerLists.{refusedBy, KeyFew, heldProjection, ShiftedKeys, ReadyKey};
 use crate::children::children_length;
 use crate::children::put_children;
 use crate::chosen::cleared_or;
@@ -130,6 +130,47 @@ fn answer_lists<'a>(
     )
 }
 
+// The same, with the pairs at the positions still to be found.
+fn answer_moved<'a>(
+    lists: &'a [[u64; 64]],
+    counts: &[usize],
+    o: Outcome,
+    cleared: bool,
+    first: Handed,
+    others: Handed,
+    at: &[u8],
+    shifted: &'a [u64],
+    j: &[u64],
+    out: &mut [u8],
+) -> u64
+    requires { ⌜ KeyHeld (now lists) (now counts) × (length (now at) ≤ 32) × ShiftedKeys (now lists) (now counts) first others (now shifted) × (length (now j) ≤ 128) ⌝ }
+    ensures { λ r. ⌜ ((places : List ℕ) → now (j .entry) ≡ heldProjection (now (lists .entry)) (now (counts .entry)) o places → let t = within (length (now (out .entry))) (wrote (keyAnswerText (answerBy (heldKeySheet (now (lists .entry)) (now (counts .entry))) o cleared first others (now (at .entry)) places))) in (r ≡ answer t) × (now (out .exit) ≡ after t (now (out .entry)))) ⌝ }
+{
+    let n = at.len();
+    let l = held(lists, counts, 2);
+    let g = held(lists, counts, 3);
+    let s = held(lists, counts, 4);
+    let mut left = [0u64; 32];
+    let mut right = [0u64; 32];
+    let mut turned = [0u64; 32];
+    let m = moved_pairs(l, g, s, at, &mut left, &mut right, &mut turned);
+    answer_lists(
+        lists,
+        counts,
+        o,
+        cleared,
+        first,
+        others,
+        at,
+        &left[0..n],
+        &right[0..n],
+        &turned[0..m],
+        shifted,
+        j,
+        out,
+    )
+}
+
 // The answer of what was decided.
 fn answer_adjusted(lists: &[[u64; 64]], counts: &[usize], x: Adjusted, out: &mut [u8]) -> u64
     requires { ⌜ KeyHeld (now lists) (now counts) × WholeAdjusted x ⌝ }
@@ -144,26 +185,14 @@ fn answer_adjusted(lists: &[[u64; 64]], counts: &[usize], x: Adjusted, out: &mut
     let found = x.places;
     let k = found.count;
     let places = found.items;
-    let mut left = [0u64; 32];
-    let mut right = [0u64; 32];
-    let mut turned = [0u64; 32];
     let mut shifted = [0u64; 32];
     let mut j = [0u64; 128];
-    let m = moved_pairs(
-        held(lists, counts, 2),
-        held(lists, counts, 3),
-        held(lists, counts, 4),
-        &positions[0..n],
-        &mut left,
-        &mut right,
-        &mut turned,
-    );
     let columns = held(lists, counts, 0)[3];
     let h = shifted_keys(others, held(lists, counts, 1), columns, &mut shifted);
     let groups = held(lists, counts, 6);
     let names = held(lists, counts, 7);
     let w = projected_by(o, groups, &places[0..k], names, &mut j);
-    answer_lists(
+    answer_moved(
         lists,
         counts,
         o,
@@ -171,9 +200,6 @@ fn answer_adjusted(lists: &[[u64; 64]], counts: &[usize], x: Adjusted, out: &mut
         first,
         others,
         &positions[0..n],
-        &left[0..n],
-        &right[0..n],
-        &turned[0..m],
         &shifted[0..h],
         &j[0..w],
         out,
