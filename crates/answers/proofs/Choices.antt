@@ -18,12 +18,29 @@ use Rattle.keys.specs.declared.answer.Handed.{Handed}
 use Rattle.keys.specs.declared.answer.Handed.the-variants.{Kept, Cleared, Required, Keys, Shifted, Mapped}
 use Rattle.keys.specs.declared.answer.Outcome.{Outcome}
 use Rattle.keys.specs.declared.answer.Outcome.the-variants.{Unchanged, Passed, Tried, Regrouped, NameNotFound}
-use Rattle.answers.specs.Chosen.{triedOr, followedOr, keepsBy, handedList, ShiftedBy}
+use Rattle.answers.specs.Chosen.{triedOr, followedOr, keepsBy, handedList, shiftedFor}
 
 pub tried-is : {A : Type 0} (o : Reordered) (moved stood : A) → triedOr o moved stood ≡ movedOr (Tried o) moved stood
 tried-is Met moved stood = refl
 tried-is Moved moved stood = refl
 tried-is Impossible moved stood = refl
+
+-- where a child is handed R shifted, k is that, packed
+abbrev pub ShiftedBy : Handed → ℕ → List ℕ → List ℕ → Type 0
+ShiftedBy Kept columns r k = Unit {0}
+ShiftedBy Cleared columns r k = Unit {0}
+ShiftedBy Required columns r k = Unit {0}
+ShiftedBy Keys columns r k = Unit {0}
+ShiftedBy Shifted columns r k = expressions k ≡ shiftRightRequired columns (expressions r)
+ShiftedBy Mapped columns r k = Unit {0}
+
+pub shifted-by : (h : Handed) (columns : ℕ) (r k : List ℕ) → expressions k ≡ shiftedFor h columns (expressions r) → ShiftedBy h columns r k
+shifted-by Kept columns r k e = tt
+shifted-by Cleared columns r k e = tt
+shifted-by Required columns r k e = tt
+shifted-by Keys columns r k e = tt
+shifted-by Shifted columns r k e = e
+shifted-by Mapped columns r k e = tt
 
 -- what a first child is handed is never R shifted
 pub unshifted : (h : Handed) (columns : ℕ) (r k : List ℕ) → Unshifted h → ShiftedBy h columns r k

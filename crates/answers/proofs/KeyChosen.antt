@@ -40,7 +40,7 @@ module _ (lists : List (List ℕ)) (counts : List ℕ) (outcome : Outcome) (clea
     pub others-are : o ≡ handedList others (At 1) g shifted (At 8)
 
   module _ {changed report : ℕ} {r l g s f o : List ℕ} {firstKept kept : Bool} (c : KeyChosen changed report r l g s firstKept f kept o)
-      (ready : ReadyKey lists counts outcome first others ps left right turned shifted) where
+      (ready : ReadyKey lists counts first others ps left right turned shifted) where
     pub key-few : (j : List ℕ) → length j ≤ 128 → KeyHeld lists counts → KeyFew ps r l g s j f o
     key-few j few h =
         let lines = key-lines lists counts h in

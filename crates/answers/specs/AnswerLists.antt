@@ -5,7 +5,7 @@ use mathlib.Core.Bool.{Bool, true, false}
 use mathlib.Core.List.{List, _++_}
 use lib.ListN.{length, getD}
 use Rattle.keys.specs.Lists.{permute}
-use Rattle.keys.specs.Expressions.{goneNumber}
+use Rattle.keys.specs.Expressions.{goneNumber, expressions}
 use Rattle.keys.specs.Adjust.{movedDirections, placedNames, namesFrom}
 use Rattle.keys.specs.Answers.{Unshifted, projectedBy}
 use Rattle.keys.specs.InputValues.{OnlyFollowed}
@@ -15,7 +15,7 @@ use Rattle.keys.specs.declared.answer.Outcome.{Outcome}
 use Rattle.keys.specs.declared.answer.Outcome.the-variants.{Unchanged, Passed, Tried, Regrouped, NameNotFound}
 use Rattle.sheet.specs.KeyAnswers.{projectedNumbers}
 use Rattle.sheet.specs.Held.{heldAt}
-use Rattle.answers.specs.Chosen.{ShiftedBy}
+use Rattle.answers.specs.Chosen.{shiftedFor}
 
 -- refusal 10
 abbrev pub refusedBy : Outcome → Bool
@@ -44,11 +44,11 @@ heldProjection lists counts o places =
 -- k is R shifted, of a K sheet that is held, where a child but the first is handed it
 pub record ShiftedKeys (lists : List (List ℕ)) (counts : List ℕ) (first others : Handed) (k : List ℕ) : Type 0 where
   pub unshifted : Unshifted first
-  pub shifts : ShiftedBy others (getD (heldAt lists counts 0) 3 0) (heldAt lists counts 1) k
+  pub shifts : expressions k ≡ shiftedFor others (getD (heldAt lists counts 0) 3 0) (expressions (heldAt lists counts 1))
   pub few : length k ≤ 32
 
 -- what stands at the positions ps, and R shifted, of a K sheet that is held
-pub record ReadyKey (lists : List (List ℕ)) (counts : List ℕ) (o : Outcome) (first others : Handed) (ps l g s k : List ℕ) : Type 0 where
+pub record ReadyKey (lists : List (List ℕ)) (counts : List ℕ) (first others : Handed) (ps l g s k : List ℕ) : Type 0 where
   pub positions : length ps ≤ 32
   pub left : l ≡ permute goneNumber (heldAt lists counts 2) ps
   pub right : g ≡ permute goneNumber (heldAt lists counts 3) ps

@@ -1,9 +1,8 @@
 -- Which list goes on an answer, by what was decided.
 use Prim.Native.Nat.{ℕ}
-use mathlib.Core.Path.{_≡_}
 use mathlib.Core.Bool.{Bool, true, false}
 use mathlib.Core.List.{List, []}
-use Rattle.keys.specs.Expressions.{expressions}
+use Rattle.keys.specs.Expressions.{Expression}
 use Rattle.keys.specs.Adjust.{shiftRightRequired}
 use Rattle.keys.specs.declared.reorder.Reordered.{Reordered}
 use Rattle.keys.specs.declared.reorder.Reordered.the-variants.{Met, Moved, Impossible}
@@ -42,11 +41,11 @@ handedList Keys required side shifted mapped = side
 handedList Shifted required side shifted mapped = shifted
 handedList Mapped required side shifted mapped = mapped
 
--- where a child is handed R shifted, k is that, packed
-abbrev pub ShiftedBy : Handed → ℕ → List ℕ → List ℕ → Type 0
-ShiftedBy Kept columns r k = Unit {0}
-ShiftedBy Cleared columns r k = Unit {0}
-ShiftedBy Required columns r k = Unit {0}
-ShiftedBy Keys columns r k = Unit {0}
-ShiftedBy Shifted columns r k = expressions k ≡ shiftRightRequired columns (expressions r)
-ShiftedBy Mapped columns r k = Unit {0}
+-- R shifted, where a child is handed it; else nothing
+abbrev pub shiftedFor : Handed → ℕ → List Expression → List Expression
+shiftedFor Kept columns r = []
+shiftedFor Cleared columns r = []
+shiftedFor Required columns r = []
+shiftedFor Keys columns r = []
+shiftedFor Shifted columns r = shiftRightRequired columns r
+shiftedFor Mapped columns r = []

@@ -4,8 +4,9 @@ ghost use mathlib.Core.Bool.{cond};
 ghost use mathlib.Core.List.{[]};
 ghost use Prim.Native.Nat.{_≤_};
 ghost use lib.ListN.{length, take};
+ghost use Rattle.keys.specs.Expressions.{expressions};
 ghost use Rattle.keys.specs.Answers.{movedOr};
-ghost use Rattle.answers.specs.Chosen.{triedOr, followedOr, keepsBy, handedList, ShiftedBy};
+ghost use Rattle.answers.specs.Chosen.{triedOr, followedOr, keepsBy, handedList, shiftedFor};
 use crate::moved::unpack_keys;
 use adjust::adjust::shift_right_required;
 use keys::answer::Handed;
@@ -91,7 +92,7 @@ pub fn handed_list<'a>(
 // R shifted, where a child is handed it; else nothing.
 pub fn shifted_keys(h: Handed, required: &[u64], columns: u64, out: &mut [u64; 32]) -> usize
     requires { ⌜ (length (now required) ≤ 32) × (length (now out) ≡ 32) ⌝ }
-    ensures { λ r. ⌜ (length (now (out .exit)) ≡ 32) × (r ≤ 32) × ShiftedBy h columns (now (required .entry)) (take r (now (out .exit))) ⌝ }
+    ensures { λ r. ⌜ (length (now (out .exit)) ≡ 32) × (r ≤ 32) × (expressions (take r (now (out .exit))) ≡ shiftedFor h columns (expressions (now (required .entry)))) ⌝ }
 {
     match h {
         Handed::Kept => return 0,

@@ -100,7 +100,7 @@ fn answer_lists<'a>(
     j: &[u64],
     out: &mut [u8],
 ) -> u64
-    requires { ⌜ KeyHeld (now lists) (now counts) × ReadyKey (now lists) (now counts) o first others (now at) (now left) (now right) (now turned) (now shifted) × (length (now j) ≤ 128) ⌝ }
+    requires { ⌜ KeyHeld (now lists) (now counts) × ReadyKey (now lists) (now counts) first others (now at) (now left) (now right) (now turned) (now shifted) × (length (now j) ≤ 128) ⌝ }
     ensures { λ r. ⌜ ((places : List ℕ) → now (j .entry) ≡ heldProjection (now (lists .entry)) (now (counts .entry)) o places → let t = within (length (now (out .entry))) (wrote (keyAnswerText (answerBy (heldKeySheet (now (lists .entry)) (now (counts .entry))) o cleared first others (now (at .entry)) places))) in (r ≡ answer t) × (now (out .exit) ≡ after t (now (out .entry)))) ⌝ }
 {
     let n = at.len();

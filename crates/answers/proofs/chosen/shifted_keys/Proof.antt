@@ -11,25 +11,25 @@ enum-told : tie.Need-enum-told
 enum-told c = search needs
 
 returns : tie.Need-returns
-returns c = (c .before .before .before .pre .1, omega arith, rw (c .enum-told .given .1) tt)
+returns c = (c .before .before .before .pre .1, omega arith, rw (c .enum-told .given .1))
 
 enum-told-2 : tie.Need-enum-told-2
 enum-told-2 c = search needs
 
 returns-2 : tie.Need-returns-2
-returns-2 c = (c .before .before .before .pre .1, omega arith, rw (c .enum-told2 .given .1) tt)
+returns-2 c = (c .before .before .before .pre .1, omega arith, rw (c .enum-told2 .given .1))
 
 enum-told-3 : tie.Need-enum-told-3
 enum-told-3 c = search needs
 
 returns-3 : tie.Need-returns-3
-returns-3 c = (c .before .before .before .pre .1, omega arith, rw (c .enum-told3 .given .1) tt)
+returns-3 c = (c .before .before .before .pre .1, omega arith, rw (c .enum-told3 .given .1))
 
 enum-told-4 : tie.Need-enum-told-4
 enum-told-4 c = search needs
 
 returns-4 : tie.Need-returns-4
-returns-4 c = (c .before .before .before .pre .1, omega arith, rw (c .enum-told4 .given .1) tt)
+returns-4 c = (c .before .before .before .pre .1, omega arith, rw (c .enum-told4 .given .1))
 
 enum-told-5 : tie.Need-enum-told-5
 enum-told-5 c = search needs
@@ -49,7 +49,7 @@ enum-told-6 : tie.Need-enum-told-6
 enum-told-6 c = search needs
 
 returns-6 : tie.Need-returns-6
-returns-6 c = (c .before .before .before .pre .1, omega arith, rw (c .enum-told6 .given .1) tt)
+returns-6 c = (c .before .before .before .pre .1, omega arith, rw (c .enum-told6 .given .1))
 
 pub shifted-keys-spec : {M : Type 1} → statement M
 shifted-keys-spec =

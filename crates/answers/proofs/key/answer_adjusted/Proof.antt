@@ -1,14 +1,15 @@
 -- `answers::key::answer_adjusted` meets its contract. R shifted and the projection are made ready for the answer.
 -- Assumes nothing.
-use mathlib.Core.Path.{refl, sym, ap, _∙_, subst}
+use mathlib.Core.Path.{refl, ap, _∙_}
 use mathlib.Core.List.{_++_}
 use native.Mathlib.Omega.{arith}
 use lib.ListN.{length, take, getD, length-take}
+use Rattle.keys.specs.Expressions.{expressions}
 use Rattle.keys.specs.Adjust.{placedNames, namesFrom}
 use Rattle.keys.specs.Answers.{projectedBy}
 use Rattle.keys.proofs.Outcomes.{from-start}
 use Rattle.sheet.specs.KeyAnswers.{projectedNumbers}
-use Rattle.answers.specs.Chosen.{ShiftedBy}
+use Rattle.answers.specs.Chosen.{shiftedFor}
 use Rattle.answers.proofs.HeldKeys.{key-there, key-lines}
 use borrow.Author.Needs.{needs}
 use Rattle.answers.proofs.key.answer_adjusted.Statement.{statement}
@@ -86,8 +87,8 @@ answer-moved-requires c κs =
       record {
         unshifted = s .pre .1 .first;
         shifts =
-            subst (λ (t : Type 0). t) (λ i. ShiftedBy (x .others) (getD (c .before .before .before .before .before .before .before .before .before .before .before .before .before .before .before .before .before .held .ensures i) 3 0) (c .before .before .before .before .before .before .before .before .before .before .before .before .before .before .before .held2 .ensures i) (sym (from-start (k .result) (k .last .1 .1 .1 .0)) i))
-            (k .ensures .2);
+            ap expressions (from-start (k .result) (k .last .1 .1 .1 .0)) ∙ k .ensures .2
+            ∙ (λ i. shiftedFor (x .others) (getD (c .before .before .before .before .before .before .before .before .before .before .before .before .before .before .before .before .before .held .ensures i) 3 0) (expressions (c .before .before .before .before .before .before .before .before .before .before .before .before .before .before .before .held2 .ensures i)));
         few = rw (from-start (k .result) (k .last .1 .1 .1 .0), length-take) (omega (arith, k .ensures .1));
       },
       rw (from-start (j .result) (j .last .1 .1 .1 .1 .0), length-take) (omega (arith, j .ensures .0)),
