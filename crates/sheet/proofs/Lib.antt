@@ -3,6 +3,7 @@ pub mod Judges
 pub mod LineNumbers
 pub mod ReadLines
 pub mod Packing
+pub mod PlainText
 pub mod ReadLists
 pub mod Entries
 pub mod InTurn
@@ -29,3 +30,4 @@ pub mod HeldSheets
 pub mod SheetsRead
 pub mod Bounded
 pub mod HeldTexts
+pub mod PlainLines

@@ -7,6 +7,7 @@ pub mod Reading
 pub mod Sizes
 pub mod LegalSheets
 pub mod ListLines
+pub mod PlainText
 pub mod Refusals
 pub mod Held
 pub mod Outcomes

@@ -48,7 +48,7 @@ pub fn width(c: Codes) -> usize
 }
 
 // Kind 0 is a column; 1 another expression, index 0; 2 the placeholder, both 0.
-fn defined_expr(kind: u64, name: u64, index: u64) -> bool
+pub(crate) fn defined_expr(kind: u64, name: u64, index: u64) -> bool
     ensures { λ r. ⌜ r ≡ definedExpr kind name index ⌝ }
 {
     if kind == 0 {

@@ -4,5 +4,6 @@ pub mod kind;
 pub mod line;
 pub mod lists;
 pub mod pack;
+pub mod plain;
 pub mod read;
 pub mod sheets;

@@ -7,6 +7,8 @@ use crate::kind::Codes;
 use crate::line::Read;
 use crate::line::read_line;
 use crate::pack::pack_line;
+use crate::plain::Entries;
+use crate::plain::list_at;
 
 pub enum SheetKind {
     Key,
@@ -105,8 +107,8 @@ fn number_of(r: Read) -> u64
     }
 }
 
-// Line i of a sheet: its list goes into the room lent.
-pub fn read_list(
+// Line i of a sheet by its fields, each judged: its list goes into the room lent.
+fn judged_list(
     s: &[u8],
     at: usize,
     k: SheetKind,
@@ -128,4 +130,24 @@ pub fn read_list(
         count: packed,
         next: next,
     }
+}
+
+// Line i of a sheet: its list goes into the room lent.
+pub fn read_list(
+    s: &[u8],
+    at: usize,
+    k: SheetKind,
+    i: usize,
+    rows: &mut [[u64; 2]],
+    list: &mut [u64; 64],
+) -> Listed
+    requires { ⌜ (192 ≤ length (now rows)) × (length (now list) ≡ 64) ⌝ }
+    ensures { λ r. ⌜ ListRead (now (s .entry)) at k i r (now (list .exit)) ⌝ }
+{
+    let c = line_codes(k, i);
+    let letter = line_letter(k, i);
+    let Entries::Packed { count, next } = list_at(s, at, letter, c, &mut *list) else {
+        return judged_list(s, at, k, i, rows, list);
+    };
+    Listed::Packed { count, next }
 }
