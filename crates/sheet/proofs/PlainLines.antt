@@ -16,10 +16,10 @@ use Rattle.text.specs.Bounds.{allowsAll, widest}
 use Rattle.text.proofs.Limits.{all-largest}
 use Rattle.text.proofs.RoundTrip.{line-back, after-back}
 use Rattle.sheet.specs.Lines.{plain, wholeEntries, lineNumber}
-use Rattle.sheet.specs.KeyLines.{over, values}
+use Rattle.sheet.specs.KeyLines.{values}
 use Rattle.sheet.specs.Reading.{kindOf, headCount, entryWidth, codesNumber, packs, packedBy, Small}
 use Rattle.sheet.specs.ListLines.{lineLetter, lineCodes, lineKind, ListRead}
-use Rattle.sheet.specs.PlainText.{StandsAt, TextAt, fieldsOf, LineEntries, EntriesFound, RulesFound, MarkedEntries, InputFound, ListAt, ListFound}
+use Rattle.sheet.specs.PlainText.{StandsAt, TextAt, fieldsOf, LineEntries, EntriesFound, RulesFound, NumbersFound, InputFound, ListAt, ListFound}
 use Rattle.sheet.specs.declared.kind.Codes.{Codes}
 use Rattle.sheet.specs.declared.kind.Codes.the-variants.{Exprs, Rules, Input, Directions, Names}
 use Rattle.sheet.specs.declared.plain.Entries.{Entries}
@@ -93,8 +93,8 @@ module _ (s : List ℕ) (at letter : ℕ) (other : letter ≡ 10 → ⊥) (h : S
   exprs-at : (most count next : ℕ) (list′ : List ℕ) → most ≤ 32 → LineEntries s (at + 1) 0 most count next list list′ → ListAt Exprs letter s at count next list′
   exprs-at most count next list′ m e =
       let o = e .entries in
-      list-at s at letter (o .ns) next (rw (e .goes) (line-text s at letter (o .ns) (e .end) h (o .text) (e .ends))) (omega (arith, h .0)) other (o .small) Exprs
-      (omega arith) (eq-eqb ((length (o .ns) - 0) % 3) 0 (omega (arith, o .whole))) (omega (arith, o .whole, e .few)) (e .early) (rw (o .defined)) count list′ (omega (arith, e .few)) (o .packed)
+      list-at s at letter (o .ns) next (rw (e .close .goes) (line-text s at letter (o .ns) (e .end) h (o .text) (e .close .ends))) (omega (arith, h .0)) other (o .small) Exprs
+      (omega arith) (eq-eqb ((length (o .ns) - 0) % 3) 0 (omega (arith, o .whole))) (omega (arith, o .whole, e .few)) (e .close .early) (rw (o .defined)) count list′ (omega (arith, e .few)) (o .packed)
 
   pub exprs-found : (r : Entries) (list′ : List ℕ) → EntriesFound s (at + 1) 0 32 list r list′ → ListFound Exprs letter s at r list′
   exprs-found (E.Packed count next) list′ e = exprs-at 32 count next list′ (omega arith) e
@@ -103,8 +103,8 @@ module _ (s : List ℕ) (at letter : ℕ) (other : letter ≡ 10 → ⊥) (h : S
   pub rules-found : (r : Entries) (list′ : List ℕ) → RulesFound s (at + 1) list r list′ → ListFound Rules letter s at r list′
   rules-found (E.Packed count next) list′ (e, even) =
       let o = e .entries in
-      list-at s at letter (o .ns) next (rw (e .goes) (line-text s at letter (o .ns) (e .end) h (o .text) (e .ends))) (omega (arith, h .0)) other (o .small) Rules
-      (omega arith) (eq-eqb ((length (o .ns) - 0) % 6) 0 (omega (arith, o .whole))) (omega (arith, o .whole, e .few)) (e .early) (rw (o .defined)) count list′ (e .few) (o .packed)
+      list-at s at letter (o .ns) next (rw (e .close .goes) (line-text s at letter (o .ns) (e .end) h (o .text) (e .close .ends))) (omega (arith, h .0)) other (o .small) Rules
+      (omega arith) (eq-eqb ((length (o .ns) - 0) % 6) 0 (omega (arith, o .whole))) (omega (arith, o .whole, e .few)) (e .close .early) (rw (o .defined)) count list′ (e .few) (o .packed)
   rules-found E.Other list′ e = tt
 
   pub input-found : (r : Entries) (list′ : List ℕ) → 0 < length list → InputFound s (at + 1) list r list′ → ListFound Input letter s at r list′
@@ -113,34 +113,27 @@ module _ (s : List ℕ) (at letter : ℕ) (other : letter ≡ 10 → ⊥) (h : S
       let o = l .entries in
       let ns : List ℕ = e .mark ∷ o .ns in
       let t = more-fields s (e .mark ∷ []) (o .ns) (at + 1) (e .end) (l .end) (e .text) (o .text) in
-      list-at s at letter ns next (rw (l .goes) (line-text s at letter ns (l .end) h t (l .ends))) (omega (arith, h .0)) other (omega (arith, e .small), o .small) Input
-      (omega arith) (eq-eqb ((length ns - 1) % 3) 0 (omega (arith, o .whole))) (omega (arith, o .whole, l .few)) (l .early) (rw (le-ltb 1 (e .mark) (e .small), o .defined)) count list′ (omega (arith, l .few))
+      list-at s at letter ns next (rw (l .close .goes) (line-text s at letter ns (l .end) h t (l .close .ends))) (omega (arith, h .0)) other (omega (arith, e .small), o .small) Input
+      (omega arith) (eq-eqb ((length ns - 1) % 3) 0 (omega (arith, o .whole))) (omega (arith, o .whole, l .few)) (l .close .early) (rw (le-ltb 1 (e .mark) (e .small), o .defined)) count list′ (omega (arith, l .few))
       (o .packed ∙ ap (λ (r : List ℕ). r ++ packs (o .ns)) (first-put list (e .mark ∷ []) (e .mark) full (omega arith) refl))
   input-found E.Other list′ full e = tt
 
-  -- a list without entries
-  empty-at : (count next : ℕ) (list′ : List ℕ) → LineEntries s (at + 1) 0 0 count next list list′ →
-      (TextAt s at (lineText letter (map number [])) next) × (next ≤ 65536) × (count ≡ 0)
-  empty-at count next list′ e =
-      let o = e .entries in
-      let none : o .ns ≡ [] = no-numbers (o .ns) (omega (arith, o .whole, e .few)) in
-      (rw (e .goes) (line-text s at letter [] (e .end) h (subst (λ (r : List ℕ). TextAt s (at + 1) (fieldsOf r) (e .end)) none (o .text)) (e .ends)), e .early, omega (arith, e .few))
-    where
-      no-numbers : (ns : List ℕ) → length ns ≡ 0 → ns ≡ []
-      no-numbers [] e = refl
-      no-numbers (n ∷ ns) e = absurd (omega arith)
+  -- each number is an entry
+  each : (n : ℕ) → wholeEntries 1 n ≡ true
+  each n = eq-eqb (n % 1) 0 (omega arith)
 
-  pub directions-found : (r : Entries) (list′ : List ℕ) → EntriesFound s (at + 1) 0 0 list r list′ → ListFound Directions letter s at r list′
-  unfolding over
+  pub directions-found : (r : Entries) (list′ : List ℕ) → NumbersFound s (at + 1) 3 r list′ → ListFound Directions letter s at r list′
   directions-found (E.Packed count next) list′ e =
-      let z = empty-at count next list′ e in
-      list-at s at letter [] next (z .0) (omega (arith, h .0)) other tt Directions (omega arith) refl (omega arith) (z .1) refl count list′ (omega (arith, z .2)) (rw (z .2))
+      let o = e .numbers in
+      list-at s at letter (o .ns) next (rw (e .close .goes) (line-text s at letter (o .ns) (e .end) h (o .text) (e .close .ends))) (omega (arith, h .0)) other (o .small) Directions
+      (omega arith) (each (length (o .ns) - 0)) (omega (arith, o .long, e .few)) (e .close .early) (rw (o .within)) count list′ (omega (arith, e .few)) (o .held)
   directions-found E.Other list′ e = tt
 
-  pub names-found : (r : Entries) (list′ : List ℕ) → EntriesFound s (at + 1) 0 0 list r list′ → ListFound Names letter s at r list′
+  pub names-found : (r : Entries) (list′ : List ℕ) → NumbersFound s (at + 1) 65535 r list′ → ListFound Names letter s at r list′
   names-found (E.Packed count next) list′ e =
-      let z = empty-at count next list′ e in
-      list-at s at letter [] next (z .0) (omega (arith, h .0)) other tt Names (omega arith) refl (omega arith) (z .1) refl count list′ (omega (arith, z .2)) (rw (z .2))
+      let o = e .numbers in
+      list-at s at letter (o .ns) next (rw (e .close .goes) (line-text s at letter (o .ns) (e .end) h (o .text) (e .close .ends))) (omega (arith, h .0)) other (o .small) Names
+      (omega arith) (each (length (o .ns) - 0)) (omega (arith, o .long, e .few)) (e .close .early) refl count list′ (omega (arith, e .few)) (o .held)
   names-found E.Other list′ e = tt
 
 -- ---- line i of a sheet

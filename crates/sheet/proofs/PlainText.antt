@@ -1,10 +1,12 @@
 -- Text that stands at a place: one text after another, digit after digit, entry after entry.
 -- Assumes nothing.
 use Prim.Native.Nat.{ℕ, zero, suc, _+_, _-_, _*_, _/_, _%_, _≤_, _<_}
-use mathlib.Core.Path.{_≡_, refl, sym, ap, _∙_}
+use mathlib.Core.Path.{_≡_, refl, sym, ap, subst, _∙_}
 use mathlib.Core.Bool.{Bool, true, false, not, _||_}
 use mathlib.Core.List.{List, [], _∷_, _++_, map, append-assoc, append-nil}
 use native.Mathlib.Omega.{arith}
+use borrow.Author.Tests.{le-ltb}
+use lib.Dec.{ltb}
 use lib.ListN.{length, getD, take, drop, set, length-append, length-drop, length-map}
 use lib.Seq.{drop-cons}
 use Rattle.text.specs.Text.{number}
@@ -12,11 +14,13 @@ use Rattle.text.specs.Write.{decimal, fieldText, fieldsText}
 use Rattle.text.proofs.Decimal.{decimal-one, decimal-more}
 use Rattle.keys.specs.Expressions.{packed}
 use Rattle.keys.proofs.Lists.{first-pushed}
-use Rattle.sheet.specs.KeyLines.{definedExpr, undefinedExprs}
+use Rattle.sheet.specs.KeyLines.{definedExpr, undefinedExprs, over}
 use Rattle.sheet.specs.Reading.{packs, Small}
-use Rattle.sheet.specs.PlainText.{StandsAt, DigitAt, TextAt, DigitsFound, fieldsOf, FieldFound, EntryAt, EntriesAt}
+use Rattle.sheet.specs.PlainText.{StandsAt, DigitAt, TextAt, DigitsFound, fieldsOf, FieldFound, EntryAt, EntriesAt, EndFound, EntriesFound, NumbersAt, NumbersFound}
 use Rattle.sheet.specs.declared.plain.Found.{Found}
 use Rattle.sheet.specs.declared.plain.Found.the-variants as F
+use Rattle.sheet.specs.declared.plain.Entries.{Entries}
+use Rattle.sheet.specs.declared.plain.Entries.the-variants as E
 
 pub byte-text : (s : List ℕ) (at b : ℕ) → StandsAt s at b → TextAt s at (b ∷ []) (at + 1)
 byte-text s at b h = let e : suc at ≡ at + 1 = omega arith in record { text = drop-cons s at 0 (h .0) ∙ rw (h .1, e); place = refl }
@@ -115,13 +119,61 @@ entries-more s at from n p x end list list′ o e h =
           ∙ ap (λ (r : List ℕ). take from list ++ r) (ap (λ (y : ℕ). packs (o .ns) ++ (y ∷ [])) (e .packs) ∙ sym (packs-more (e .kind) (e .name) (e .index) (n - from) (o .ns) (o .whole)));
     }
 
+-- ---- numbers
+
+over-more : (m x : ℕ) (ns : List ℕ) → over m ns ≡ false → x ≤ m → over m (ns ++ (x ∷ [])) ≡ false
+unfolding over
+over-more m x [] e h = rw (le-ltb m x h)
+over-more m x (n ∷ ns) e h = or-false (ltb m n) (over m ns) (over m (ns ++ (x ∷ []))) (λ f. over-more m x ns f h) e
+
+pub numbers-none : (s : List ℕ) (at largest : ℕ) (list : List ℕ) → NumbersAt s at largest 0 at list
+unfolding fieldsText over
+numbers-none s at largest list = record { ns = []; text = record { text = refl; place = omega arith }; small = tt; within = refl; long = refl; held = refl }
+
+pub numbers-more : (s : List ℕ) (at largest n p x end : ℕ) (list : List ℕ) → NumbersAt s at largest n p list → FieldFound s p (F.Number x end) → x ≤ largest → n < length list →
+    NumbersAt s at largest (n + 1) end (set list n x)
+numbers-more s at largest n p x end list o e l h = record {
+  ns = o .ns ++ (x ∷ []);
+  text = more-fields s (o .ns) (x ∷ []) at p end (o .text) (e .0);
+  small = small-append (o .ns) (x ∷ []) (o .small) (e .1, tt);
+  within = over-more largest x (o .ns) (o .within) l;
+  long = omega (arith, length-append (o .ns) (x ∷ []), o .long);
+  held = first-pushed list n x h ∙ ap (λ (r : List ℕ). r ++ (x ∷ [])) (o .held);
+}
+
 -- ---- what each call finds
 
 pub field-found : (s : List ℕ) (at : ℕ) (r : Found) → StandsAt s at 44 → DigitsFound s (at + 1) r → FieldFound s at r
 field-found s at (F.Number n end) h d = (field-text s at n end h (d .0), d .1)
 field-found s at F.Other h d = tt
 
--- an entry takes bytes
+-- a field takes bytes
+pub field-goes : (s : List ℕ) (at x end : ℕ) → FieldFound s at (F.Number x end) → at < length s → (at < end) × (end ≤ length s)
+unfolding fieldsText
+field-goes s at x end e h = (omega (arith, e .0 .place), text-within s at (fieldsOf (x ∷ [])) end (e .0) (omega arith))
+
+-- so does an entry
 pub entry-goes : (s : List ℕ) (at x end : ℕ) → EntryAt s at x end → at < length s → (at < end) × (end ≤ length s)
 unfolding fieldsText
 entry-goes s at x end e h = (omega (arith, e .text .place), text-within s at (fieldsOf (e .kind ∷ e .name ∷ e .index ∷ [])) end (e .text) (omega arith))
+
+-- the line's end after what was read
+pub entries-found : (s : List ℕ) (at from most n p : ℕ) (list list′ : List ℕ) → EntriesAt s at from n p list list′ → n ≤ most →
+    (r : Entries) → EndFound s p n r → EntriesFound s at from most list r list′
+entries-found s at from most n p list list′ o h (E.Packed count next) e = record {
+  end = p;
+  entries = subst (λ (m : ℕ). EntriesAt s at from m p list list′) (sym (e .0)) o;
+  few = omega (arith, e .0);
+  close = e .1;
+}
+entries-found s at from most n p list list′ o h E.Other e = tt
+
+pub numbers-found : (s : List ℕ) (at largest n p : ℕ) (list : List ℕ) → NumbersAt s at largest n p list → n ≤ 32 →
+    (r : Entries) → EndFound s p n r → NumbersFound s at largest r list
+numbers-found s at largest n p list o h (E.Packed count next) e = record {
+  end = p;
+  numbers = subst (λ (m : ℕ). NumbersAt s at largest m p list) (sym (e .0)) o;
+  few = omega (arith, e .0);
+  close = e .1;
+}
+numbers-found s at largest n p list o h E.Other e = tt

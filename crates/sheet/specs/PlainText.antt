@@ -8,7 +8,7 @@ use lib.ListN.{length, getD, take, drop, set}
 use Rattle.text.specs.Text.{number, lineAt, after}
 use Rattle.text.specs.Write.{decimal, fieldsText}
 use Rattle.keys.specs.Expressions.{packed}
-use Rattle.sheet.specs.KeyLines.{definedExpr, undefinedExprs}
+use Rattle.sheet.specs.KeyLines.{definedExpr, undefinedExprs, over}
 use Rattle.sheet.specs.Lines.{lineNumber}
 use Rattle.sheet.specs.Reading.{kindOf, packs, Small}
 use Rattle.sheet.specs.ListLines.{packedList}
@@ -67,18 +67,46 @@ pub record EntriesAt (s : List ℕ) (at from count end : ℕ) (list list′ : Li
   pub whole : length ns ≡ (count - from) * 3
   pub packed : take count list′ ≡ take from list ++ packs ns
 
--- such entries up to an LF, on a line that ends within the bytes that a sheet may have
-pub record LineEntries (s : List ℕ) (at from most count next : ℕ) (list list′ : List ℕ) : Type 0 where
-  pub end : ℕ
-  pub entries : EntriesAt s at from count end list list′
-  pub few : count ≤ most
+-- an LF, on a line that ends within the bytes that a sheet may have
+pub record LineEnd (s : List ℕ) (end next : ℕ) : Type 0 where
   pub ends : StandsAt s end 10
   pub goes : next ≡ end + 1
   pub early : next ≤ 65536
 
+abbrev pub EndFound : List ℕ → ℕ → ℕ → Entries → Type 0
+EndFound s end n (E.Packed count next) = (count ≡ n) × LineEnd s end next
+EndFound s end n E.Other = Unit {0}
+
+-- such entries up to the line's end
+pub record LineEntries (s : List ℕ) (at from most count next : ℕ) (list list′ : List ℕ) : Type 0 where
+  pub end : ℕ
+  pub entries : EntriesAt s at from count end list list′
+  pub few : count ≤ most
+  pub close : LineEnd s end next
+
 abbrev pub EntriesFound : List ℕ → ℕ → ℕ → ℕ → List ℕ → Entries → List ℕ → Type 0
 EntriesFound s at from most list (E.Packed count next) list′ = LineEntries s at from most count next list list′
 EntriesFound s at from most list E.Other list′ = Unit {0}
+
+-- numbers up to the largest, at the front of a list
+pub record NumbersAt (s : List ℕ) (at largest count end : ℕ) (list : List ℕ) : Type 0 where
+  pub ns : List ℕ
+  pub text : TextAt s at (fieldsOf ns) end
+  pub small : Small ns
+  pub within : over largest ns ≡ false
+  pub long : length ns ≡ count
+  pub held : take count list ≡ ns
+
+-- such numbers up to the line's end
+pub record LineNumbers (s : List ℕ) (at largest count next : ℕ) (list : List ℕ) : Type 0 where
+  pub end : ℕ
+  pub numbers : NumbersAt s at largest count end list
+  pub few : count ≤ 32
+  pub close : LineEnd s end next
+
+abbrev pub NumbersFound : List ℕ → ℕ → ℕ → Entries → List ℕ → Type 0
+NumbersFound s at largest (E.Packed count next) list = LineNumbers s at largest count next list
+NumbersFound s at largest E.Other list = Unit {0}
 
 abbrev pub RulesFound : List ℕ → ℕ → List ℕ → Entries → List ℕ → Type 0
 RulesFound s at list (E.Packed count next) list′ = LineEntries s at 0 64 count next list list′ × (count % 2 ≡ 0)

@@ -4,7 +4,7 @@ ghost use mathlib.Core.Path.{_≡_};
 ghost use mathlib.Core.Bool.{true};
 ghost use Prim.Native.Nat.{_≤_};
 ghost use lib.ListN.{length};
-ghost use Rattle.sheet.specs.PlainText.{StandsAt, DigitAt, DigitsFound, FieldFound, EntryFound, EntriesFound, RulesFound, InputFound, ListFound};
+ghost use Rattle.sheet.specs.PlainText.{StandsAt, DigitAt, DigitsFound, FieldFound, EntryFound, EndFound, EntriesFound, NumbersFound, RulesFound, InputFound, ListFound};
 use crate::kind::Codes;
 use crate::kind::defined_expr;
 
@@ -109,6 +109,22 @@ fn entry_at(s: &[u8], at: usize) -> Found
     }
 }
 
+// The end of a line of n entries, at a place.
+fn line_end(s: &[u8], at: usize, n: usize) -> Entries
+    ensures { λ r. ⌜ EndFound (now (s .entry)) at n r ⌝ }
+{
+    if !stands(s, at, 10) {
+        return Entries::Other;
+    }
+    if at >= 65536 {
+        return Entries::Other;
+    }
+    Entries::Packed {
+        count: n,
+        next: at + 1,
+    }
+}
+
 // Expressions from a place on to the LF, up to `most` with those before `from`, packed behind these.
 fn entries_at(s: &[u8], at: usize, from: usize, most: usize, list: &mut [u64; 64]) -> Entries
     requires { ⌜ (length (now list) ≡ 64) × (from ≤ most) × (most ≤ 64) ⌝ }
@@ -127,16 +143,31 @@ fn entries_at(s: &[u8], at: usize, from: usize, most: usize, list: &mut [u64; 64
         n += 1;
         p = end;
     }
-    if !stands(s, p, 10) {
-        return Entries::Other;
+    line_end(s, p, n)
+}
+
+// Numbers up to the largest, from a place on to the LF.
+fn numbers_at(s: &[u8], at: usize, largest: u64, list: &mut [u64; 64]) -> Entries
+    requires { ⌜ length (now list) ≡ 64 ⌝ }
+    ensures { λ r. ⌜ (length (now (list .exit)) ≡ 64) × NumbersFound (now (s .entry)) at largest r (now (list .exit)) ⌝ }
+{
+    let mut p = at;
+    let mut n: usize = 0;
+    while stands(s, p, 44) {
+        if n == 32 {
+            return Entries::Other;
+        }
+        let Found::Number { value, end } = field_at(s, p) else {
+            return Entries::Other;
+        };
+        if value > largest {
+            return Entries::Other;
+        }
+        list[n] = value;
+        n += 1;
+        p = end;
     }
-    if p >= 65536 {
-        return Entries::Other;
-    }
-    Entries::Packed {
-        count: n,
-        next: p + 1,
-    }
+    line_end(s, p, n)
 }
 
 // Rules: an even number of expressions.
@@ -168,7 +199,7 @@ fn input_at(s: &[u8], at: usize, list: &mut [u64; 64]) -> Entries
     entries_at(s, end, 1, 33, list)
 }
 
-// The list of a line of a letter: expressions, rules or a mark and expressions, or a list without entries.
+// The list of a line of a letter.
 pub(crate) fn list_at(s: &[u8], at: usize, letter: u8, c: Codes, list: &mut [u64; 64]) -> Entries
     requires { ⌜ (length (now list) ≡ 64) × (letter ≡ 10 → ⊥) ⌝ }
     ensures { λ r. ⌜ (length (now (list .exit)) ≡ 64) × ListFound c letter (now (s .entry)) at r (now (list .exit)) ⌝ }
@@ -182,7 +213,7 @@ pub(crate) fn list_at(s: &[u8], at: usize, letter: u8, c: Codes, list: &mut [u64
         Codes::Exprs => return entries_at(s, at + 1, 0, 32, list),
         Codes::Rules => return rules_at(s, at + 1, list),
         Codes::Input => return input_at(s, at + 1, list),
-        Codes::Directions => return entries_at(s, at + 1, 0, 0, list),
-        Codes::Names => return entries_at(s, at + 1, 0, 0, list),
+        Codes::Directions => return numbers_at(s, at + 1, 3, list),
+        Codes::Names => return numbers_at(s, at + 1, 65535, list),
     }
 }

@@ -49,7 +49,7 @@ returns : tie.Need-returns
 returns c = search needs
 
 returns-2 : tie.Need-returns-2
-returns-2 c = 
+returns-2 c =
     let n = c .before in
     let f = n .before .before in
     let s = f .before .before .before .before .before in

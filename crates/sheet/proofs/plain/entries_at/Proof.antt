@@ -1,13 +1,12 @@
 -- `sheet::plain::entries_at` meets its contract. What was packed so far stands on the line so far (`entries-more`).
 -- Assumes nothing.
 use Prim.Native.Nat.{_-_, _≤_, _<_}
-use mathlib.Core.Path.{_≡_, refl, subst}
+use mathlib.Core.Path.{_≡_, subst}
 use native.Mathlib.Omega.{arith}
-use borrow.Author.Tests.{not-false}
 use lib.ListN.{length, length-set}
 use Rattle.sheet.specs.PlainText.{StandsAt, EntryAt, EntryFound, EntriesAt}
 use Rattle.sheet.specs.declared.plain.Found.{Found}
-use Rattle.sheet.proofs.PlainText.{entries-none, entries-more, entry-goes}
+use Rattle.sheet.proofs.PlainText.{entries-none, entries-more, entry-goes, entries-found}
 use borrow.Author.Needs.{needs}
 use Rattle.sheet.proofs.plain.entries_at.Statement.{statement}
 use Rattle.sheet.proofs.plain.entries_at.Tie as tie
@@ -76,31 +75,15 @@ loop-again c =
       entries-more _ _ _ _ _ _ _ _ (l .loop .list) (v .2) (entry (c .before)) (omega (arith, v .0, free (c .before .before .before .before))),
     )
 
-stands-requires-2 : tie.Need-stands-requires-2 Inv-loop μ-loop
-stands-requires-2 c κs = search needs
+line-end-requires : tie.Need-line-end-requires Inv-loop μ-loop
+line-end-requires c κs = search needs
 
 returns-3 : tie.Need-returns-3 Inv-loop μ-loop
-returns-3 c = (c .before .before .before .before .loop .inv .0, tt)
-
-returns-4 : tie.Need-returns-4 Inv-loop μ-loop
-returns-4 c = (c .before .before .before .before .before .loop .inv .0, tt)
-
-add-t18 : tie.Need-add-t18 Inv-loop μ-loop
-add-t18 c = omega (arith, c .before .before .stands2 .ensures .0 (not-false _ (c .before .if3 .left)) .0)
-
-returns-5 : tie.Need-returns-5 Inv-loop μ-loop
-returns-5 c =
-    let v = c .before .before .before .before .before .loop .inv in (
-      v .0,
-      record {
-        end = c .before .before .before .before .before .loop .p;
-        entries = v .2;
-        few = v .1;
-        ends = c .before .before .stands2 .ensures .0 (not-false _ (c .before .if3 .left));
-        goes = refl;
-        early = omega arith;
-      },
-    )
+returns-3 c =
+    let l = c .before .before .before in
+    let v = l .loop .inv in
+    let a = l .before .before .args in
+    (v .0, entries-found (a .s .now) (a .at) (a .from) (a .most) (l .loop .n) (l .loop .p) (a .list .now) (l .loop .list) (v .2) (v .1) (c .line-end .result) (c .line-end .ensures))
 
 pub entries-at-spec : {M : Type 1} → statement M
 entries-at-spec =
@@ -120,8 +103,5 @@ entries-at-spec =
     add-n
     loop-less
     loop-again
-    stands-requires-2
-    returns-3
-    returns-4
-    add-t18
-    returns-5)
+    line-end-requires
+    returns-3)

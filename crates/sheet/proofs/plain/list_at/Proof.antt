@@ -82,34 +82,34 @@ returns-6 c =
 enum-told-6 : tie.Need-enum-told-6
 enum-told-6 c = search needs
 
-add-entries-at-2 : tie.Need-add-entries-at-2
-add-entries-at-2 c = omega (arith, letter (c .before .before) .0)
+add-numbers-at : tie.Need-add-numbers-at
+add-numbers-at c = omega (arith, letter (c .before .before) .0)
 
-entries-at-requires-2 : tie.Need-entries-at-requires-2
-entries-at-requires-2 c κs = search needs
+numbers-at-requires : tie.Need-numbers-at-requires
+numbers-at-requires c κs = search needs
 
 returns-7 : tie.Need-returns-7
 returns-7 c =
     let m = c .before .before in
     let f = m .before .before in
     let s = f .before .before .before in
-    (c .entries-at2 .ensures .0, subst (λ (x : Codes). ListFound x (s .args .letter) (s .args .s .now) (s .args .at) (c .entries-at2 .result) (c .entries-at2 .last .1 .1 .1 .1 .0)) (sym (m .enum-told6 .given .1)) (directions-found (s .args .s .now) (s .args .at) (s .args .letter) (s .pre .1) (letter f) (s .args .list .now) (c .entries-at2 .result) (c .entries-at2 .last .1 .1 .1 .1 .0) (c .entries-at2 .ensures .1)))
+    (c .numbers-at .ensures .0, subst (λ (x : Codes). ListFound x (s .args .letter) (s .args .s .now) (s .args .at) (c .numbers-at .result) (c .numbers-at .last .1 .1 .1 .0)) (sym (m .enum-told6 .given .1)) (directions-found (s .args .s .now) (s .args .at) (s .args .letter) (s .pre .1) (letter f) (s .args .list .now) (c .numbers-at .result) (c .numbers-at .last .1 .1 .1 .0) (c .numbers-at .ensures .1)))
 
 enum-told-7 : tie.Need-enum-told-7
 enum-told-7 c = search needs
 
-add-entries-at-3 : tie.Need-add-entries-at-3
-add-entries-at-3 c = omega (arith, letter (c .before .before) .0)
+add-numbers-at-2 : tie.Need-add-numbers-at-2
+add-numbers-at-2 c = omega (arith, letter (c .before .before) .0)
 
-entries-at-requires-3 : tie.Need-entries-at-requires-3
-entries-at-requires-3 c κs = search needs
+numbers-at-requires-2 : tie.Need-numbers-at-requires-2
+numbers-at-requires-2 c κs = search needs
 
 returns-8 : tie.Need-returns-8
 returns-8 c =
     let m = c .before .before in
     let f = m .before .before in
     let s = f .before .before .before in
-    (c .entries-at3 .ensures .0, subst (λ (x : Codes). ListFound x (s .args .letter) (s .args .s .now) (s .args .at) (c .entries-at3 .result) (c .entries-at3 .last .1 .1 .1 .1 .0)) (sym (m .enum-told7 .given .1)) (names-found (s .args .s .now) (s .args .at) (s .args .letter) (s .pre .1) (letter f) (s .args .list .now) (c .entries-at3 .result) (c .entries-at3 .last .1 .1 .1 .1 .0) (c .entries-at3 .ensures .1)))
+    (c .numbers-at2 .ensures .0, subst (λ (x : Codes). ListFound x (s .args .letter) (s .args .s .now) (s .args .at) (c .numbers-at2 .result) (c .numbers-at2 .last .1 .1 .1 .0)) (sym (m .enum-told7 .given .1)) (names-found (s .args .s .now) (s .args .at) (s .args .letter) (s .pre .1) (letter f) (s .args .list .now) (c .numbers-at2 .result) (c .numbers-at2 .last .1 .1 .1 .0) (c .numbers-at2 .ensures .1)))
 
 pub list-at-spec : {M : Type 1} → statement M
 list-at-spec =
@@ -134,10 +134,10 @@ list-at-spec =
     input-at-requires
     returns-6
     enum-told-6
-    add-entries-at-2
-    entries-at-requires-2
+    add-numbers-at
+    numbers-at-requires
     returns-7
     enum-told-7
-    add-entries-at-3
-    entries-at-requires-3
+    add-numbers-at-2
+    numbers-at-requires-2
     returns-8)
