@@ -11,14 +11,15 @@ use lib.ListN.{length, getD, take, length-map, length-take}
 use Rattle.keys.specs.Lists.{permute}
 use Rattle.keys.specs.declared.inputs.Attempt.{Attempt}
 use Rattle.keys.specs.declared.inputs.Attempt.the-variants.{Untried, Followed, Failed}
-use Rattle.keys.specs.Answers.{movedOr, Unshifted, handed}
+use Rattle.keys.specs.Answers.{movedOr, handed}
 use Rattle.keys.specs.declared.reorder.Reordered.{Reordered}
 use Rattle.keys.specs.declared.reorder.Reordered.the-variants.{Met, Moved, Impossible}
 use Rattle.keys.specs.declared.answer.Handed.{Handed}
 use Rattle.keys.specs.declared.answer.Handed.the-variants.{Kept, Cleared, Required, Keys, Shifted, Mapped}
 use Rattle.keys.specs.declared.answer.Outcome.{Outcome}
 use Rattle.keys.specs.declared.answer.Outcome.the-variants.{Unchanged, Passed, Tried, Regrouped, NameNotFound}
-use Rattle.answers.specs.Chosen.{triedOr, followedOr, keepsBy, handedList, shiftedFor}
+use Rattle.keys.proofs.Truths.{or-first, or-second}
+use Rattle.answers.specs.Chosen.{triedOr, followedOr, keepsBy, handedList, shiftsBy, shiftedFor}
 
 pub tried-is : {A : Type 0} (o : Reordered) (moved stood : A) → triedOr o moved stood ≡ movedOr (Tried o) moved stood
 tried-is Met moved stood = refl
@@ -27,29 +28,14 @@ tried-is Impossible moved stood = refl
 
 -- where a child is handed R shifted, k is that, packed
 abbrev pub ShiftedBy : Handed → ℕ → List ℕ → List ℕ → Type 0
-ShiftedBy Kept columns r k = Unit {0}
-ShiftedBy Cleared columns r k = Unit {0}
-ShiftedBy Required columns r k = Unit {0}
-ShiftedBy Keys columns r k = Unit {0}
-ShiftedBy Shifted columns r k = expressions k ≡ shiftRightRequired columns (expressions r)
-ShiftedBy Mapped columns r k = Unit {0}
+ShiftedBy h columns r k = shiftsBy h ≡ true → expressions k ≡ shiftRightRequired columns (expressions r)
 
-pub shifted-by : (h : Handed) (columns : ℕ) (r k : List ℕ) → expressions k ≡ shiftedFor h columns (expressions r) → ShiftedBy h columns r k
-shifted-by Kept columns r k e = tt
-shifted-by Cleared columns r k e = tt
-shifted-by Required columns r k e = tt
-shifted-by Keys columns r k e = tt
-shifted-by Shifted columns r k e = e
-shifted-by Mapped columns r k e = tt
+module _ (first others : Handed) (columns : ℕ) (r k : List ℕ) (e : expressions k ≡ shiftedFor first others columns (expressions r)) where
+  pub shifted-first : ShiftedBy first columns r k
+  shifted-first h = rw (or-first (shiftsBy first) (shiftsBy others) h) at e
 
--- what a first child is handed is never R shifted
-pub unshifted : (h : Handed) (columns : ℕ) (r k : List ℕ) → Unshifted h → ShiftedBy h columns r k
-unshifted Kept columns r k u = tt
-unshifted Cleared columns r k u = tt
-unshifted Required columns r k u = tt
-unshifted Keys columns r k u = tt
-unshifted Shifted columns r k u = absurd u
-unshifted Mapped columns r k u = tt
+  pub shifted-others : ShiftedBy others columns r k
+  shifted-others h = rw (or-second (shiftsBy first) (shiftsBy others) h) at e
 
 pub handed-is :
     (s : KeySheet) (side' : List Expression) (r side k m : List ℕ) → s .required ≡ expressions r → side' ≡ expressions side → s .mapped ≡ expressions m →
@@ -58,7 +44,7 @@ handed-is s side' r side k m p q u Kept t c = refl
 handed-is s side' r side k m p q u Cleared t c = refl
 handed-is s side' r side k m p q u Required t c = p
 handed-is s side' r side k m p q u Keys t c = q
-handed-is s side' r side k m p q u Shifted t c = ap (shiftRightRequired (s .columns)) p ∙ sym t
+handed-is s side' r side k m p q u Shifted t c = ap (shiftRightRequired (s .columns)) p ∙ sym (t refl)
 handed-is s side' r side k m p q u Mapped t c = u
 
 -- a list that a line has room for

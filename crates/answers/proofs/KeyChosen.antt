@@ -69,7 +69,7 @@ module _ (lists : List (List ℕ)) (counts : List ℕ) (outcome : Outcome) (clea
         ++ childrenText (c .first-kept i) ((c .first-is ∙ ap (λ (ks : List ℕ). handedList first (At 1) ks shifted (At 8)) left-comes) i) (c .others-kept i)
         ((c .others-are ∙ ap (λ (ks : List ℕ). handedList others (At 1) ks shifted (At 8)) right-comes) i) lists counts (childCount lists counts))
         ∙ sym (key-answer-held _ _ _ _ _ _ _ _ _ (key-lists lists counts outcome cleared first others ps places) _ _ _ _ lists counts (childCount lists counts)
-        (key-handed lists counts outcome cleared first others ps places shifted (ready .shifted .unshifted) (ready .shifted .shifts)))
+        (key-handed lists counts outcome cleared first others ps places shifted (ready .shifted .shifts)))
       where
         left-comes : l ≡ movedOr outcome (permute goneNumber (At 2) ps) (At 2)
         left-comes = c .left-is ∙ ap (λ (ks : List ℕ). movedOr outcome ks (At 2)) (ready .left)

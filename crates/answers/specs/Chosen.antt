@@ -1,6 +1,6 @@
 -- Which list goes on an answer, by what was decided.
 use Prim.Native.Nat.{ℕ}
-use mathlib.Core.Bool.{Bool, true, false}
+use mathlib.Core.Bool.{Bool, true, false, cond, _||_}
 use mathlib.Core.List.{List, []}
 use Rattle.keys.specs.Expressions.{Expression}
 use Rattle.keys.specs.Adjust.{shiftRightRequired}
@@ -41,11 +41,15 @@ handedList Keys required side shifted mapped = side
 handedList Shifted required side shifted mapped = shifted
 handedList Mapped required side shifted mapped = mapped
 
--- R shifted, where a child is handed it; else nothing
-abbrev pub shiftedFor : Handed → ℕ → List Expression → List Expression
-shiftedFor Kept columns r = []
-shiftedFor Cleared columns r = []
-shiftedFor Required columns r = []
-shiftedFor Keys columns r = []
-shiftedFor Shifted columns r = shiftRightRequired columns r
-shiftedFor Mapped columns r = []
+-- the child is handed R shifted
+abbrev pub shiftsBy : Handed → Bool
+shiftsBy Kept = false
+shiftsBy Cleared = false
+shiftsBy Required = false
+shiftsBy Keys = false
+shiftsBy Shifted = true
+shiftsBy Mapped = false
+
+-- R shifted, where the first child or the others are handed it; else nothing
+abbrev pub shiftedFor : Handed → Handed → ℕ → List Expression → List Expression
+shiftedFor first others columns r = cond (shiftsBy first || shiftsBy others) (shiftRightRequired columns r) []

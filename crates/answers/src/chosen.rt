@@ -1,12 +1,12 @@
 // Which list goes on an answer.
 ghost use mathlib.Core.Path.{_≡_};
-ghost use mathlib.Core.Bool.{cond};
+ghost use mathlib.Core.Bool.{cond, _||_};
 ghost use mathlib.Core.List.{[]};
 ghost use Prim.Native.Nat.{_≤_};
 ghost use lib.ListN.{length, take};
 ghost use Rattle.keys.specs.Expressions.{expressions};
 ghost use Rattle.keys.specs.Answers.{movedOr};
-ghost use Rattle.answers.specs.Chosen.{triedOr, followedOr, keepsBy, handedList, shiftedFor};
+ghost use Rattle.answers.specs.Chosen.{triedOr, followedOr, keepsBy, handedList, shiftsBy, shiftedFor};
 use crate::moved::unpack_keys;
 use adjust::adjust::shift_right_required;
 use keys::answer::Handed;
@@ -89,20 +89,42 @@ pub fn handed_list<'a>(
     }
 }
 
-// R shifted, where a child is handed it; else nothing.
-pub fn shifted_keys(h: Handed, required: &[u64], columns: u64, out: &mut [u64; 32]) -> usize
-    requires { ⌜ (length (now required) ≤ 32) × (length (now out) ≡ 32) ⌝ }
-    ensures { λ r. ⌜ (length (now (out .exit)) ≡ 32) × (r ≤ 32) × (expressions (take r (now (out .exit))) ≡ shiftedFor h columns (expressions (now (required .entry)))) ⌝ }
+fn shifts(h: Handed) -> bool
+    ensures { λ r. ⌜ r ≡ shiftsBy h ⌝ }
 {
     match h {
-        Handed::Kept => return 0,
-        Handed::Cleared => return 0,
-        Handed::Required => return 0,
-        Handed::Keys => return 0,
-        Handed::Shifted => {
-            let k = shift_right_required(required, columns);
-            return unpack_keys(k, out);
-        }
-        Handed::Mapped => return 0,
+        Handed::Kept => false,
+        Handed::Cleared => false,
+        Handed::Required => false,
+        Handed::Keys => false,
+        Handed::Shifted => true,
+        Handed::Mapped => false,
     }
+}
+
+fn either_shifts(first: Handed, others: Handed) -> bool
+    ensures { λ r. ⌜ r ≡ (shiftsBy first || shiftsBy others) ⌝ }
+{
+    if shifts(first) {
+        return true;
+    }
+    shifts(others)
+}
+
+// R shifted, where a child is handed it; else nothing.
+pub fn shifted_keys(
+    first: Handed,
+    others: Handed,
+    required: &[u64],
+    columns: u64,
+    out: &mut [u64; 32],
+) -> usize
+    requires { ⌜ (length (now required) ≤ 32) × (length (now out) ≡ 32) ⌝ }
+    ensures { λ r. ⌜ (length (now (out .exit)) ≡ 32) × (r ≤ 32) × (expressions (take r (now (out .exit))) ≡ shiftedFor first others columns (expressions (now (required .entry)))) ⌝ }
+{
+    if either_shifts(first, others) {
+        let k = shift_right_required(required, columns);
+        return unpack_keys(k, out);
+    }
+    0
 }

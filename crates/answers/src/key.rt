@@ -188,7 +188,7 @@ fn answer_adjusted(lists: &[[u64; 64]], counts: &[usize], x: Adjusted, out: &mut
     let mut shifted = [0u64; 32];
     let mut j = [0u64; 128];
     let columns = held(lists, counts, 0)[3];
-    let h = shifted_keys(others, held(lists, counts, 1), columns, &mut shifted);
+    let h = shifted_keys(first, others, held(lists, counts, 1), columns, &mut shifted);
     let groups = held(lists, counts, 6);
     let names = held(lists, counts, 7);
     let w = projected_by(o, groups, &places[0..k], names, &mut j);

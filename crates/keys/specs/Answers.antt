@@ -45,20 +45,10 @@ OnlyAnswered (Tried o) ps places = places ≡ []
 OnlyAnswered Regrouped ps places = Unit {0}
 OnlyAnswered NameNotFound ps places = (ps ≡ []) × (places ≡ [])
 
--- a first child is not handed R shifted
-abbrev pub Unshifted : Handed → Type 0
-Unshifted Kept = Unit {0}
-Unshifted Cleared = Unit {0}
-Unshifted Required = Unit {0}
-Unshifted Keys = Unit {0}
-Unshifted Shifted = ⊥
-Unshifted Mapped = Unit {0}
-
 pub record WholeAdjusted (a : Adjusted) : Type 0 where
   pub at : WholeNumbers (a .at)
   pub places : WholeNumbers (a .places)
   pub only : OnlyAnswered (a .outcome) (numbers (a .at)) (numbers (a .places))
-  pub first : Unshifted (a .first)
 
 -- a child's list c becomes: c, nothing, R, its own side's keys as they come out, R shifted, M
 abbrev pub handed : KeySheet → List Expression → Handed → List Expression → List Expression

@@ -38,7 +38,7 @@ returns-2 c =
     let s = u .before .before .before .before in
     let v = u .try-reorder .ensures in
     let n = c .no-numbers .ensures in (
-      record { at = v .0; places = n .0; only = n .1; first = tt },
+      record { at = v .0; places = n .0; only = n .1 },
       λ k z o a m cs.
           join-moved (s .args .r .now) (s .args .l .now) (s .args .g .now) (s .args .w .now) (s .pre .2) (T u) (v .1) k z o a m cs (c .before .before .enum-told .given .1) (c .no-numbers .result),
     )
