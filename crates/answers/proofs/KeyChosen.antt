@@ -13,13 +13,13 @@ use Rattle.keys.specs.declared.answer.Handed.{Handed}
 use Rattle.keys.specs.declared.answer.Outcome.{Outcome}
 use Rattle.sheet.specs.KeyAnswers.{keyAnswerText}
 use Rattle.sheet.specs.Held.{heldAt, childCount, heldKeySheet, KeyHeld}
-use Rattle.answers.specs.Chosen.{keepsBy, handedList}
+use Rattle.moves.specs.Chosen.{keepsBy, handedList}
 use Rattle.answers.specs.AnswerLists.{KeyFew, heldProjection, ReadyKey}
-use Rattle.answers.specs.Children.{childrenText}
-use Rattle.answers.specs.Texts.{keyListsText}
-use Rattle.answers.proofs.AnswerParts.{key-answer-held}
-use Rattle.answers.proofs.Choices.{Short, moved-short, turned-short, cleared-any, moved-any, handed-any}
-use Rattle.answers.proofs.HeldKeys.{key-lines, key-directions, key-mapped}
+use Rattle.lines.specs.Children.{childrenText}
+use Rattle.lines.specs.Texts.{keyListsText}
+use Rattle.lines.proofs.AnswerParts.{key-answer-held}
+use Rattle.moves.proofs.Choices.{Short, moved-short, turned-short, cleared-any, moved-any, handed-any}
+use Rattle.moves.proofs.HeldKeys.{key-lines, key-directions, key-mapped}
 use Rattle.answers.proofs.KeyLists.{key-lists, key-handed}
 
 module _ (lists : List (List ℕ)) (counts : List ℕ) (outcome : Outcome) (cleared : Bool) (first others : Handed) (ps left right turned shifted : List ℕ) where

@@ -19,11 +19,11 @@ use Rattle.keys.proofs.Truths.{true-false}
 use Rattle.keys.proofs.Packed.{permute-expressions}
 use Rattle.sheet.specs.KeyAnswers.{refused, wrote, keyAnswerText, adjusted}
 use Rattle.sheet.specs.Held.{heldAt, exprLists, childCount, heldKeySheet, KeyHeld}
-use Rattle.answers.specs.Chosen.{keepsBy, handedList, shiftedFor}
-use Rattle.answers.specs.Children.{chosen}
+use Rattle.moves.specs.Chosen.{keepsBy, handedList, shiftedFor}
+use Rattle.lines.specs.Children.{chosen}
 use Rattle.answers.specs.AnswerLists.{refusedBy, heldProjection}
-use Rattle.answers.proofs.AnswerParts.{KeyLists}
-use Rattle.answers.proofs.Choices.{ShiftedBy, shifted-first, shifted-others, handed-is}
+use Rattle.lines.proofs.AnswerParts.{KeyLists}
+use Rattle.moves.proofs.Choices.{ShiftedBy, shifted-first, shifted-others, handed-is}
 
 moved-packed : (o : Outcome) (moved stood : List ℕ) → movedOr o (expressions moved) (expressions stood) ≡ expressions (movedOr o moved stood)
 moved-packed Unchanged moved stood = refl

@@ -15,7 +15,7 @@ use Rattle.keys.specs.declared.answer.Outcome.{Outcome}
 use Rattle.keys.specs.declared.answer.Outcome.the-variants.{Unchanged, Passed, Tried, Regrouped, NameNotFound}
 use Rattle.sheet.specs.KeyAnswers.{projectedNumbers}
 use Rattle.sheet.specs.Held.{heldAt}
-use Rattle.answers.specs.Chosen.{shiftedFor}
+use Rattle.moves.specs.Chosen.{shiftedFor}
 
 -- refusal 10
 abbrev pub refusedBy : Outcome → Bool

@@ -9,8 +9,8 @@ use Rattle.keys.specs.Adjust.{placedNames, namesFrom}
 use Rattle.keys.specs.Answers.{projectedBy}
 use Rattle.keys.proofs.Outcomes.{from-start}
 use Rattle.sheet.specs.KeyAnswers.{projectedNumbers}
-use Rattle.answers.specs.Chosen.{shiftedFor}
-use Rattle.answers.proofs.HeldKeys.{key-there, key-lines}
+use Rattle.moves.specs.Chosen.{shiftedFor}
+use Rattle.moves.proofs.HeldKeys.{key-there, key-lines}
 use borrow.Author.Needs.{needs}
 use Rattle.answers.proofs.key.answer_adjusted.Statement.{statement}
 use Rattle.answers.proofs.key.answer_adjusted.Tie as tie
