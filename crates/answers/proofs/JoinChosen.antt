@@ -9,12 +9,12 @@ use Rattle.keys.specs.InputValues.{sideNumber, attemptOf, reportBy, sideBy}
 use Rattle.keys.specs.declared.inputs.Attempt.{Attempt}
 use Rattle.sheet.specs.KeyAnswers.{joinAnswerText}
 use Rattle.sheet.specs.Held.{heldAt, heldJoinSheet, JoinHeld}
-use Rattle.answers.specs.Chosen.{followedOr}
+use Rattle.moves.specs.Chosen.{followedOr}
 use Rattle.answers.specs.AnswerLists.{JoinFew, ReadyJoin}
-use Rattle.answers.specs.Texts.{joinListsText}
-use Rattle.answers.proofs.AnswerParts.{join-answer-text}
-use Rattle.answers.proofs.Choices.{Short, moved-short, turned-short, followed-any}
-use Rattle.answers.proofs.HeldJoins.{join-few, join-even, join-directions}
+use Rattle.lines.specs.Texts.{joinListsText}
+use Rattle.lines.proofs.AnswerParts.{join-answer-text}
+use Rattle.moves.proofs.Choices.{Short, moved-short, turned-short, followed-any}
+use Rattle.moves.proofs.HeldJoins.{join-few, join-even, join-directions}
 use Rattle.answers.proofs.JoinLists.{join-lists}
 
 module _ (lists : List (List ℕ)) (counts : List ℕ) (o : Attempt) (ps left right turned : List ℕ) where

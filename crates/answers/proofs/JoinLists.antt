@@ -12,8 +12,8 @@ use Rattle.keys.specs.declared.inputs.Attempt.{Attempt}
 use Rattle.keys.specs.declared.inputs.Attempt.the-variants.{Untried, Followed, Failed}
 use Rattle.keys.proofs.Packed.{permute-expressions}
 use Rattle.sheet.specs.Held.{heldAt, heldJoinSheet}
-use Rattle.answers.specs.Chosen.{followedOr}
-use Rattle.answers.proofs.AnswerParts.{JoinLists}
+use Rattle.moves.specs.Chosen.{followedOr}
+use Rattle.lines.proofs.AnswerParts.{JoinLists}
 
 module _ (lists : List (List ℕ)) (counts : List ℕ) (ps : List ℕ) where
   abbrev At : ℕ → List ℕ

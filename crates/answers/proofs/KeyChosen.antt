@@ -13,13 +13,13 @@ use Rattle.keys.specs.declared.answer.Handed.{Handed}
 use Rattle.keys.specs.declared.answer.Outcome.{Outcome}
 use Rattle.sheet.specs.KeyAnswers.{keyAnswerText}
 use Rattle.sheet.specs.Held.{heldAt, childCount, heldKeySheet, KeyHeld}
-use Rattle.answers.specs.Chosen.{keepsBy, handedList}
+use Rattle.moves.specs.Chosen.{keepsBy, handedList}
 use Rattle.answers.specs.AnswerLists.{KeyFew, heldProjection, ReadyKey}
-use Rattle.answers.specs.Children.{childrenText}
-use Rattle.answers.specs.Texts.{keyListsText}
-use Rattle.answers.proofs.AnswerParts.{key-answer-held}
-use Rattle.answers.proofs.Choices.{Short, moved-short, turned-short, cleared-any, moved-any, handed-any}
-use Rattle.answers.proofs.HeldKeys.{key-lines, key-directions, key-mapped}
+use Rattle.lines.specs.Children.{childrenText}
+use Rattle.lines.specs.Texts.{keyListsText}
+use Rattle.lines.proofs.AnswerParts.{key-answer-held}
+use Rattle.moves.proofs.Choices.{Short, moved-short, turned-short, cleared-any, moved-any, handed-any}
+use Rattle.moves.proofs.HeldKeys.{key-lines, key-directions, key-mapped}
 use Rattle.answers.proofs.KeyLists.{key-lists, key-handed}
 
 module _ (lists : List (List ℕ)) (counts : List ℕ) (outcome : Outcome) (cleared : Bool) (first others : Handed) (ps left right turned shifted : List ℕ) where
@@ -69,7 +69,7 @@ module _ (lists : List (List ℕ)) (counts : List ℕ) (outcome : Outcome) (clea
         ++ childrenText (c .first-kept i) ((c .first-is ∙ ap (λ (ks : List ℕ). handedList first (At 1) ks shifted (At 8)) left-comes) i) (c .others-kept i)
         ((c .others-are ∙ ap (λ (ks : List ℕ). handedList others (At 1) ks shifted (At 8)) right-comes) i) lists counts (childCount lists counts))
         ∙ sym (key-answer-held _ _ _ _ _ _ _ _ _ (key-lists lists counts outcome cleared first others ps places) _ _ _ _ lists counts (childCount lists counts)
-        (key-handed lists counts outcome cleared first others ps places shifted (ready .shifted .unshifted) (ready .shifted .shifts)))
+        (key-handed lists counts outcome cleared first others ps places shifted (ready .shifted .shifts)))
       where
         left-comes : l ≡ movedOr outcome (permute goneNumber (At 2) ps) (At 2)
         left-comes = c .left-is ∙ ap (λ (ks : List ℕ). movedOr outcome ks (At 2)) (ready .left)

@@ -9,7 +9,7 @@ use lib.ListN.{length, getD}
 use Rattle.keys.specs.Lists.{permute}
 use Rattle.keys.specs.Expressions.{Expression, placeholder, goneNumber, expressions}
 use Rattle.keys.specs.Adjust.{KeySheet, KeyAnswer, Adjustment, handOver, movedDirections}
-use Rattle.keys.specs.Answers.{changedBy, reportedBy, movedOr, Unshifted, handed, sideBy, answerBy, answerOf, adjustedBy, adjustedOf}
+use Rattle.keys.specs.Answers.{changedBy, reportedBy, movedOr, handed, sideBy, answerBy, answerOf, adjustedBy, adjustedOf}
 use Rattle.keys.specs.declared.reorder.Reordered.the-variants.{Met, Moved, Impossible}
 use Rattle.keys.specs.declared.answer.Handed.{Handed}
 use Rattle.keys.specs.declared.answer.Outcome.{Outcome}
@@ -19,11 +19,11 @@ use Rattle.keys.proofs.Truths.{true-false}
 use Rattle.keys.proofs.Packed.{permute-expressions}
 use Rattle.sheet.specs.KeyAnswers.{refused, wrote, keyAnswerText, adjusted}
 use Rattle.sheet.specs.Held.{heldAt, exprLists, childCount, heldKeySheet, KeyHeld}
-use Rattle.answers.specs.Chosen.{keepsBy, handedList, shiftedFor}
-use Rattle.answers.specs.Children.{chosen}
+use Rattle.moves.specs.Chosen.{keepsBy, handedList, shiftedFor}
+use Rattle.lines.specs.Children.{chosen}
 use Rattle.answers.specs.AnswerLists.{refusedBy, heldProjection}
-use Rattle.answers.proofs.AnswerParts.{KeyLists}
-use Rattle.answers.proofs.Choices.{ShiftedBy, shifted-by, unshifted, handed-is}
+use Rattle.lines.proofs.AnswerParts.{KeyLists}
+use Rattle.moves.proofs.Choices.{ShiftedBy, shifted-first, shifted-others, handed-is}
 
 moved-packed : (o : Outcome) (moved stood : List ℕ) → movedOr o (expressions moved) (expressions stood) ≡ expressions (movedOr o moved stood)
 moved-packed Unchanged moved stood = refl
@@ -79,16 +79,16 @@ module _ (lists : List (List ℕ)) (counts : List ℕ) where
 
     -- what the children are handed; k is R shifted, where one is handed it
     pub key-handed :
-        (k : List ℕ) → Unshifted first → expressions k ≡ shiftedFor others (getD (At 0) 3 0) (expressions (At 1)) →
+        (k : List ℕ) → expressions k ≡ shiftedFor first others (getD (At 0) 3 0) (expressions (At 1)) →
         theAnswer .children ≡
         handOver (chosen (keepsBy first) (handedList first (At 1) (side 2) k (At 8))) (chosen (keepsBy others) (handedList others (At 1) (side 3) k (At 8))) (exprLists lists counts 9 (childCount lists counts))
     unfolding heldKeySheet
-    key-handed k u t =
+    key-handed k t =
         let s = heldKeySheet lists counts in
         let child : (i : ℕ) (h : Handed) → ShiftedBy h (getD (At 0) 3 0) (At 1) k → (c : List Expression) →
         handed s (sideBy s o cleared first others ps places (expressions (At i))) h c ≡ chosen (keepsBy h) (handedList h (At 1) (side i) k (At 8)) c
         = λ i h d c. handed-is s (sideBy s o cleared first others ps places (expressions (At i))) (At 1) (side i) k (At 8) refl (side-packed i) refl h d c in
-        λ j. handOver (λ c. child 2 first (unshifted first (getD (At 0) 3 0) (At 1) k u) c j) (λ c. child 3 others (shifted-by others (getD (At 0) 3 0) (At 1) k t) c j) (exprLists lists counts 9 (childCount lists counts))
+        λ j. handOver (λ c. child 2 first (shifted-first first others (getD (At 0) 3 0) (At 1) k t) c j) (λ c. child 3 others (shifted-others first others (getD (At 0) 3 0) (At 1) k t) c j) (exprLists lists counts 9 (childCount lists counts))
 
 -- refusal 10, or the text
 module _ (s : KeySheet) (x : Adjusted) {d : Adjustment} (e : adjustedOf s x ≡ d) where

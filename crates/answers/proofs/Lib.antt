@@ -1,16 +1,4 @@
-pub mod Pieces
-pub mod Lines
-pub mod ChildPieces
-pub mod AnswerParts
-pub mod HeldLines
-pub mod Rows
-pub mod HeldRoom
-pub mod HeldKeys
-pub mod HeldJoins
-pub mod Projections
-pub mod Choices
 pub mod KeyLists
 pub mod KeyChosen
 pub mod JoinLists
 pub mod JoinChosen
-pub mod Room

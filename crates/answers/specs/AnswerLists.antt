@@ -7,7 +7,7 @@ use lib.ListN.{length, getD}
 use Rattle.keys.specs.Lists.{permute}
 use Rattle.keys.specs.Expressions.{goneNumber, expressions}
 use Rattle.keys.specs.Adjust.{movedDirections, placedNames, namesFrom}
-use Rattle.keys.specs.Answers.{Unshifted, projectedBy}
+use Rattle.keys.specs.Answers.{projectedBy}
 use Rattle.keys.specs.InputValues.{OnlyFollowed}
 use Rattle.keys.specs.declared.answer.Handed.{Handed}
 use Rattle.keys.specs.declared.inputs.Attempt.{Attempt}
@@ -15,7 +15,7 @@ use Rattle.keys.specs.declared.answer.Outcome.{Outcome}
 use Rattle.keys.specs.declared.answer.Outcome.the-variants.{Unchanged, Passed, Tried, Regrouped, NameNotFound}
 use Rattle.sheet.specs.KeyAnswers.{projectedNumbers}
 use Rattle.sheet.specs.Held.{heldAt}
-use Rattle.answers.specs.Chosen.{shiftedFor}
+use Rattle.moves.specs.Chosen.{shiftedFor}
 
 -- refusal 10
 abbrev pub refusedBy : Outcome → Bool
@@ -41,10 +41,9 @@ abbrev pub heldProjection : List (List ℕ) → List ℕ → Outcome → List �
 heldProjection lists counts o places =
     projectedNumbers (projectedBy o (placedNames (heldAt lists counts 6) places ++ namesFrom (length (heldAt lists counts 6)) (heldAt lists counts 7)))
 
--- k is R shifted, of a K sheet that is held, where a child but the first is handed it
+-- k is R shifted, of a K sheet that is held, where a child is handed it
 pub record ShiftedKeys (lists : List (List ℕ)) (counts : List ℕ) (first others : Handed) (k : List ℕ) : Type 0 where
-  pub unshifted : Unshifted first
-  pub shifts : expressions k ≡ shiftedFor others (getD (heldAt lists counts 0) 3 0) (expressions (heldAt lists counts 1))
+  pub shifts : expressions k ≡ shiftedFor first others (getD (heldAt lists counts 0) 3 0) (expressions (heldAt lists counts 1))
   pub few : length k ≤ 32
 
 -- what stands at the positions ps, and R shifted, of a K sheet that is held

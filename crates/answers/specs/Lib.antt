@@ -1,5 +1,1 @@
-pub mod Fields
-pub mod Texts
-pub mod Children
-pub mod Chosen
 pub mod AnswerLists

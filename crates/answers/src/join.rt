@@ -8,19 +8,19 @@ ghost use Rattle.keys.specs.InputValues.{attemptOf};
 ghost use Rattle.sheet.specs.KeyAnswers.{wrote, joinAnswerText};
 ghost use Rattle.sheet.specs.Outcomes.{answer, after, within};
 ghost use Rattle.sheet.specs.Held.{heldJoinSheet, JoinHeld};
-ghost use Rattle.answers.specs.Texts.{joinListsText};
+ghost use Rattle.lines.specs.Texts.{joinListsText};
 ghost use Rattle.answers.specs.AnswerLists.{JoinFew, ReadyJoin};
-use crate::chosen::followed_or;
-use crate::decide::follow;
-use crate::held::held;
-use crate::join_text::join_lists_length;
-use crate::join_text::put_join_lists;
-use crate::moved::moved_pairs;
-use crate::moved::wide_positions;
 use keys::inputs::Attempt;
 use keys::inputs::report_number;
 use keys::inputs::side_followed;
 use keys::inputs::side_number;
+use lines::join_text::join_lists_length;
+use lines::join_text::put_join_lists;
+use moves::chosen::followed_or;
+use moves::decide::follow;
+use moves::moved::moved_pairs;
+use moves::moved::wide_positions;
+use sheet::held::held;
 
 // The lists, where there is room for them; else refusal 12.
 fn write_join(

@@ -1,16 +1,15 @@
--- The positions that `tryReorder` reports: none but where the pairs move; there, as many as there are pairs, and each below that.
+-- The positions that are searched: where they are found, as many as are expected, and each below the count of pairs. `tryReorder` reports none but where the pairs move.
 -- Assumes nothing.
 use Prim.Native.Nat.{ℕ, suc}
-use mathlib.Core.Path.{_≡_, refl, ap, sym, _∙_, subst}
+use mathlib.Core.Path.{_≡_, refl, ap, _∙_}
 use mathlib.Core.Bool.{Bool}
 use mathlib.Core.Option.{Option, none, some}
 use mathlib.Core.List.{List, [], _∷_}
-use native.Mathlib.Omega.{arith}
 use lib.ListN.{length, set}
 use Rattle.keys.specs.Lists.{also, andThen, orElse, placeOf, takePlaces, expectedExprPositions}
 use Rattle.keys.specs.Reorder.{Rule, Tried, rewrite, eitherSide, tryReorder}
-use Rattle.keys.specs.Arrange.{Below, AllBelow}
-use Rattle.keys.proofs.Lists.{orElse-below, found-below}
+use Rattle.keys.specs.Arrange.{AllBelow}
+use Rattle.keys.proofs.Lists.{orElse-below}
 use Rattle.keys.proofs.Tries.{either-below}
 use Rattle.keys.proofs.Ways.{rewrite-length, searched, Way, unequal, meeting, moving, missing, way}
 
@@ -43,9 +42,6 @@ module _ {A : Type 0} (same : A → A → Bool) (gone : A) where
   positions-long (x ∷ xs) [] = tt
   positions-long (x ∷ xs) (y ∷ ys) = take-long (y ∷ ys) (x ∷ xs)
 
-  pub positions-count : (current expected : List A) (ps : List ℕ) → expectedExprPositions same gone current expected ≡ some ps → length ps ≡ length expected
-  positions-count current expected ps e = subst (AllLong (length expected)) e (positions-long current expected)
-
   either-long : (r l g : List A) → AllLong (length r) (eitherSide same gone r l g)
   either-long r l g = orElse-long (length r) (expectedExprPositions same gone l r) (expectedExprPositions same gone g r) (positions-long l r) (positions-long g r)
 
@@ -69,21 +65,3 @@ module _ {A : Type 0} (same : A → A → Bool) (gone : A) where
         go t (meeting z m) h = refl
         go t (moving z ps o) h = absurd (h refl)
         go t (missing z m o) h = refl
-
-    pub tried-below : tryReorder same gone w r l g .report ≡ 2 → Below (length l) (tryReorder same gone w r l g .positions)
-    tried-below e = go (tryReorder same gone w r l g) (way same gone w r l g) e
-      where
-        go : (t : Tried A) → Way same gone w r l g t → t .report ≡ 2 → Below (length l) (t .positions)
-        go t (unequal u) e = absurd (omega arith)
-        go t (meeting z m) e = absurd (omega arith)
-        go t (moving z ps o) e = found-below (length l) (searched same gone w r l g) ps searched-below o
-        go t (missing z m o) e = absurd (omega arith)
-
-    pub tried-long : tryReorder same gone w r l g .report ≡ 2 → length (tryReorder same gone w r l g .positions) ≡ length l
-    tried-long e = go (tryReorder same gone w r l g) (way same gone w r l g) e
-      where
-        go : (t : Tried A) → Way same gone w r l g t → t .report ≡ 2 → length (t .positions) ≡ length l
-        go t (unequal u) e = absurd (omega arith)
-        go t (meeting z m) e = absurd (omega arith)
-        go t (moving z ps o) e = subst (AllLong (length r)) o searched-long ∙ sym z
-        go t (missing z m o) e = absurd (omega arith)

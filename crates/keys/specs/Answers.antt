@@ -1,7 +1,7 @@
 -- What the answers of `adjust_input_keys_ordering` and `reorder_join_keys_to_inputs` stand for: document 01's numbers and lists for each case.
 use Prim.Native.Nat.{ℕ}
 use mathlib.Core.Path.{_≡_}
-use mathlib.Core.Bool.{Bool, cond}
+use mathlib.Core.Bool.{Bool, false, cond}
 use mathlib.Core.List.{List, [], _++_}
 use lib.ListN.{length}
 use Rattle.keys.specs.Lists.{permute}
@@ -45,20 +45,19 @@ OnlyAnswered (Tried o) ps places = places ≡ []
 OnlyAnswered Regrouped ps places = Unit {0}
 OnlyAnswered NameNotFound ps places = (ps ≡ []) × (places ≡ [])
 
--- a first child is not handed R shifted
-abbrev pub Unshifted : Handed → Type 0
-Unshifted Kept = Unit {0}
-Unshifted Cleared = Unit {0}
-Unshifted Required = Unit {0}
-Unshifted Keys = Unit {0}
-Unshifted Shifted = ⊥
-Unshifted Mapped = Unit {0}
+-- there are marks only where there is an answer: of a refusal nothing is cleared, and every child keeps its list
+abbrev pub OnlyMarked : Outcome → Bool → Handed → Handed → Type 0
+OnlyMarked Unchanged cleared first others = Unit {0}
+OnlyMarked Passed cleared first others = Unit {0}
+OnlyMarked (Tried o) cleared first others = Unit {0}
+OnlyMarked Regrouped cleared first others = Unit {0}
+OnlyMarked NameNotFound cleared first others = (cleared ≡ false) × (first ≡ Kept) × (others ≡ Kept)
 
 pub record WholeAdjusted (a : Adjusted) : Type 0 where
   pub at : WholeNumbers (a .at)
   pub places : WholeNumbers (a .places)
   pub only : OnlyAnswered (a .outcome) (numbers (a .at)) (numbers (a .places))
-  pub first : Unshifted (a .first)
+  pub marks : OnlyMarked (a .outcome) (a .cleared) (a .first) (a .others)
 
 -- a child's list c becomes: c, nothing, R, its own side's keys as they come out, R shifted, M
 abbrev pub handed : KeySheet → List Expression → Handed → List Expression → List Expression

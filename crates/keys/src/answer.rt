@@ -2,7 +2,7 @@
 ghost use mathlib.Core.Path.{_≡_};
 ghost use mathlib.Core.List.{[]};
 ghost use Rattle.keys.specs.Values.{numbers};
-ghost use Rattle.keys.specs.Answers.{Unshifted, WholeAdjusted, changedBy, reportedBy};
+ghost use Rattle.keys.specs.Answers.{OnlyMarked, WholeAdjusted, changedBy, reportedBy};
 use crate::list::NumberList;
 use crate::reorder::Reordered;
 
@@ -44,9 +44,9 @@ pub struct Adjusted {
     pub others: Handed,
 }
 
+// Neither positions nor places.
 pub fn passed(outcome: Outcome, cleared: bool, first: Handed, others: Handed) -> Adjusted
-    requires { ⌜ Unshifted first ⌝ }
-    ensures { λ r. ⌜ WholeAdjusted r × (r .outcome ≡ outcome) × (r .cleared ≡ cleared) × (r .first ≡ first) × (r .others ≡ others) × (numbers (r .at) ≡ []) × (numbers (r .places) ≡ []) ⌝ }
+    ensures { λ r. ⌜ (OnlyMarked outcome cleared first others → WholeAdjusted r) × (r .outcome ≡ outcome) × (r .cleared ≡ cleared) × (r .first ≡ first) × (r .others ≡ others) × (numbers (r .at) ≡ []) × (numbers (r .places) ≡ []) ⌝ }
 {
     let at = crate::list::no_numbers();
     let places = crate::list::no_numbers();

@@ -16,7 +16,7 @@ use Rattle.exchange.specs.Trees.{node, none, _∷ᶠ_, trees, Operator, Plan, P
 use Rattle.exchange.specs.Rows.{limitMark, limitNumber, limitOf, rowOf, flatten, flattens}
 use Rattle.exchange.specs.Ensure.{Answer}
 use Rattle.plansheet.specs.PlanTexts.{limitField as markedLimit}
-use Rattle.answers.proofs.Pieces.{pieces, pieces-later}
+use Rattle.lines.proofs.Pieces.{pieces, pieces-later}
 use Rattle.plananswer.specs.PlanTexts.{limitField, operatorFields, operatorLine, planLines, plansLines, planAnswerText}
 use Rattle.plananswer.specs.RowTexts.{ofRow, linesOf, rowLine, headLine, rowsText}
 

@@ -11,7 +11,7 @@ use Rattle.exchange.specs.Trees.{Plan}
 use Rattle.exchange.specs.Rows.{flatten}
 use Rattle.exchange.specs.Facts.{ChildFacts, Row}
 use Rattle.exchange.specs.FactRows.{nodeFacts, childFacts, factRow}
-use Rattle.answers.proofs.Pieces.{joined}
+use Rattle.lines.proofs.Pieces.{joined}
 use Rattle.plananswer.specs.RowTexts.{linesOf}
 use Rattle.plansheet.specs.PlanTexts.{linesText, numberFields, settingsNumbers, rowFields, nodeNumbers, childNumbers, rowNumbers, childFields, factFields, factsText, planText}
 use Rattle.plananswer.specs.SheetTexts.{treeRowLine, childRowLine, factRowLine, sheetRowsText}

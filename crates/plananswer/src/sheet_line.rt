@@ -8,7 +8,6 @@ ghost use Rattle.sheet.specs.KeyAnswers.{numbersLine};
 ghost use Rattle.plansheet.specs.PlanTexts.{settingsNumbers, rowFields};
 ghost use Rattle.plananswer.specs.SheetTexts.{treeRowLine, childRowLine, factRowLine};
 use crate::line::limit_state;
-use answers::line::put_numbers;
 use exchange::fact::FactRow;
 use exchange::row::CHILDREN;
 use exchange::row::COUNT;
@@ -22,6 +21,7 @@ use exchange::row::Row;
 use exchange::row::TRACKED;
 use exchange::settings::Settings;
 use exchange::status::ChildRow;
+use lines::line::put_numbers;
 use text::write::put_line;
 
 // The D line.

@@ -11,12 +11,12 @@ use crate::sheet_line::put_child_line;
 use crate::sheet_line::put_fact_line;
 use crate::sheet_line::put_settings;
 use crate::sheet_line::put_tree_line;
-use answers::line::put_numbers;
 use exchange::fact::FactRow;
 use exchange::partitioning::NodeRow;
 use exchange::row::Row;
 use exchange::settings::Settings;
 use exchange::status::ChildRow;
+use lines::line::put_numbers;
 
 // The T lines.
 fn put_tree(out: &mut [u8], at: usize, rows: &[Row]) -> usize

@@ -65,7 +65,7 @@ returns-6 : tie.Need-returns-6
 returns-6 c =
     let s₀ = c .before .before .before .before .before .before .before .before .before .before .before .before .before .before .before .before .before .before .before in
     let e = c .passed .ensures in (
-      e .0,
+      e .0 tt,
       λ s cs.
           let t = keySheet (s₀ .args .k) (s₀ .args .r .now) (s₀ .args .l .now) (s₀ .args .g .now) s (s₀ .args .w .now) (s₀ .args .o .now) (s₀ .args .a .now) (s₀ .args .m .now) cs in
           adjusted-by t (c .passed .result) Passed true Kept Kept [] (e .1) (e .2) (e .3) (e .4) (e .5) ∙ op-clearing sameExpr t (c .before .if6 .taken),

@@ -37,7 +37,7 @@ returns-3 : tie.Need-returns-3
 returns-3 c =
     let s₀ = c .before .before .before .before .before .before .before in
     let e = c .passed .ensures in (
-      e .0,
+      e .0 tt,
       λ r l g s w o a m cs.
           let t = keySheet (s₀ .args .k) r l g s w o a m cs in
           adjusted-by t (c .passed .result) Passed false Kept Required [] (e .1) (e .2) (e .3) (e .4) (e .5) ∙ collect-required sameExpr t 5 (c .before .if3 .taken) refl,
@@ -50,7 +50,7 @@ returns-4 : tie.Need-returns-4
 returns-4 c =
     let s₀ = c .before .before .before .before .before .before .before .before .before in
     let e = c .passed2 .ensures in (
-      e .0,
+      e .0 tt,
       λ r l g s w o a m cs.
           let t = keySheet (s₀ .args .k) r l g s w o a m cs in
           adjusted-by t (c .passed2 .result) Passed false Kept Required [] (e .1) (e .2) (e .3) (e .4) (e .5) ∙ collect-required sameExpr t 7 (c .before .if4 .taken) refl,
@@ -63,7 +63,7 @@ returns-5 : tie.Need-returns-5
 returns-5 c =
     let s₀ = c .before .before .before .before .before .before .before .before .before .before .before in
     let e = c .passed3 .ensures in (
-      e .0,
+      e .0 tt,
       λ r l g s w o a m cs.
           let t = keySheet (s₀ .args .k) r l g s w o a m cs in
           adjusted-by t (c .passed3 .result) Passed false Kept Required [] (e .1) (e .2) (e .3) (e .4) (e .5) ∙ collect-required sameExpr t 9 (c .before .if5 .taken) refl,
@@ -76,7 +76,7 @@ returns-6 : tie.Need-returns-6
 returns-6 c =
     let s₀ = c .before .before .before .before .before .before .before .before .before .before .before in
     let e = c .passed4 .ensures in (
-      e .0,
+      e .0 tt,
       λ r l g s w o a m cs.
           let t = keySheet (s₀ .args .k) r l g s w o a m cs in
           adjusted-by t (c .passed4 .result) Passed false Kept Cleared [] (e .1) (e .2) (e .3) (e .4) (e .5) ∙ collect-other sameExpr t (c .before .before .before .before .before .before .before .before .before .if1 .left) (c .before .before .before .before .before .before .before .if2 .left) (c .before .before .before .before .before .if3 .left) (c .before .before .before .if4 .left) (c .before .if5 .left),

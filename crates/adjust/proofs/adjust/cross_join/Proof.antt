@@ -14,7 +14,7 @@ passed-requires c κs = tt
 returns : tie.Need-returns
 returns c =
     let e = c .passed .ensures in
-    (e .0, λ s. adjusted-by s (c .passed .result) Passed false Kept Shifted [] (e .1) (e .2) (e .3) (e .4) (e .5))
+    (e .0 tt, λ s. adjusted-by s (c .passed .result) Passed false Kept Shifted [] (e .1) (e .2) (e .3) (e .4) (e .5))
 
 pub cross-join-spec : {M : Type 1} → statement M
 cross-join-spec = tie.close (tie.spec passed-requires returns)

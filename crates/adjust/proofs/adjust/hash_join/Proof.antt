@@ -38,7 +38,7 @@ returns-3 : tie.Need-returns-3
 returns-3 c =
     let s₀ = c .before .before .before .before .before .before .before .before in
     let e = c .passed .ensures in (
-      e .0,
+      e .0 tt,
       λ s o a m cs.
           let t = keySheet (s₀ .args .k) (s₀ .args .r .now) (s₀ .args .l .now) (s₀ .args .g .now) s (s₀ .args .w .now) o a m cs in
           adjusted-by t (c .passed .result) Passed true Kept Kept [] (e .1) (e .2) (e .3) (e .4) (e .5) ∙ hash-auto sameExpr t (c .before .before .before .if1 .left) (c .before .if2 .left),

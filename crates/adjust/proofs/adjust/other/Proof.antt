@@ -20,7 +20,7 @@ returns : tie.Need-returns
 returns c =
     let s₀ = c .before .before .before in
     let e = c .passed .ensures in (
-      e .0,
+      e .0 tt,
       λ k l g s w o a m cs.
           let t = keySheet k (s₀ .args .r .now) l g s w o a m cs in
           adjusted-by t (c .passed .result) Unchanged false Kept Kept [] (e .1) (e .2) (e .3) (e .4) (e .5) ∙ other-unchanged sameExpr t (length-map (s₀ .args .r .now) expression ∙ c .before .if1 .taken),
@@ -33,7 +33,7 @@ returns-2 : tie.Need-returns-2
 returns-2 c =
     let s₀ = c .before .before .before in
     let e = c .passed2 .ensures in (
-      e .0,
+      e .0 tt,
       λ k l g s w o a m cs.
           let t = keySheet k (s₀ .args .r .now) l g s w o a m cs in
           adjusted-by t (c .passed2 .result) Passed false Required Required [] (e .1) (e .2) (e .3) (e .4) (e .5) ∙ other-pushed sameExpr t (λ z. c .before .if1 .left (sym (length-map (s₀ .args .r .now) expression) ∙ z)),

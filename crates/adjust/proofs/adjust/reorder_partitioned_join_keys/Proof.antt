@@ -23,7 +23,7 @@ returns c =
     let d = c .before .before in
     let s = d .before .before .before .before in
     let e = c .passed .ensures in (
-      e .0,
+      e .0 tt,
       λ k z o a m cs.
           join-stood (s .args .r .now) (s .args .l .now) (s .args .g .now) (s .args .w .now) (s .pre .2) (T d) (d .try-reorder .ensures .1) k z o a m cs
           (c .passed .result) (e .1) (e .2) (e .3) (e .4) (e .5) (not-moved (T d .outcome) (c .before .match .keys2)),
@@ -38,7 +38,7 @@ returns-2 c =
     let s = u .before .before .before .before in
     let v = u .try-reorder .ensures in
     let n = c .no-numbers .ensures in (
-      record { at = v .0; places = n .0; only = n .1; first = tt },
+      record { at = v .0; places = n .0; only = n .1; marks = tt },
       λ k z o a m cs.
           join-moved (s .args .r .now) (s .args .l .now) (s .args .g .now) (s .args .w .now) (s .pre .2) (T u) (v .1) k z o a m cs (c .before .before .enum-told .given .1) (c .no-numbers .result),
     )

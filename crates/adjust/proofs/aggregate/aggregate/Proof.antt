@@ -21,7 +21,7 @@ returns : tie.Need-returns
 returns c =
     let s₀ = c .before .before .before .before .before in
     let e = c .passed .ensures in (
-      e .0,
+      e .0 tt,
       λ l g s w m cs.
           let t = keySheet (s₀ .args .k) (s₀ .args .r .now) l g s w (s₀ .args .o .now) (s₀ .args .a .now) m cs in
           adjusted-by t (c .passed .result) Unchanged false Kept Kept [] (e .1) (e .2) (e .3) (e .4) (e .5) ∙ aggregate-unchanged sameExpr t (length-map (s₀ .args .r .now) expression ∙ c .before .if1 .taken),
@@ -47,7 +47,7 @@ returns-3 : tie.Need-returns-3
 returns-3 c =
     let s₀ = c .before .before .before .before .before .before .before in
     let e = c .passed2 .ensures in (
-      e .0,
+      e .0 tt,
       λ l g s w m cs.
           let t = keySheet (s₀ .args .k) (s₀ .args .r .now) l g s w (s₀ .args .o .now) (s₀ .args .a .now) m cs in
           adjusted-by t (c .passed2 .result) Passed true Kept Kept [] (e .1) (e .2) (e .3) (e .4) (e .5) ∙ aggregate-other sameExpr t (λ z. c .before .before .before .if1 .left (sym (length-map (s₀ .args .r .now) expression) ∙ z)) (c .before .if2 .left),

@@ -1,6 +1,6 @@
 -- `adjust::aggregate::regroup` meets its contract. By whether every group name is found again.
 -- Assumes nothing.
-use mathlib.Core.Path.{_≡_, sym, ap, _∙_}
+use mathlib.Core.Path.{_≡_, refl, sym, ap, _∙_}
 use mathlib.Core.Bool.{false}
 use mathlib.Core.List.{List, [], _++_}
 use Prim.Native.Nat.{ℕ}
@@ -72,7 +72,7 @@ returns c =
     let d = c .before .before .before in
     let s = d .before .before .before .before .before .before .before .before .before .before in
     let e = c .passed .ensures in (
-      e .0,
+      e .0 (refl, refl, refl),
       λ k r l g z w m cs.
           let t = keySheet k r l g z w (s .args .o .now) (s .args .a .now) m cs in
           adjusted-by t (c .passed .result) NameNotFound false Kept Kept [] (e .1) (e .2) (e .3) (e .4) (e .5)

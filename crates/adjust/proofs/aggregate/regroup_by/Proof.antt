@@ -48,7 +48,7 @@ returns : tie.Need-returns
 returns c =
     let s₀ = c .before .before .before .before .before .before .before .before in
     let e = c .passed .ensures in (
-      e .0,
+      e .0 tt,
       λ l g s w m cs.
           let t = keySheet (s₀ .args .k) (s₀ .args .r .now) l g s w (s₀ .args .o .now) (s₀ .args .a .now) m cs in
           adjusted-by t (c .passed .result) Passed false Kept Kept [] (e .1) (e .2) (e .3) (e .4) (e .5) ∙ regrouped-none sameExpr t _ (positions (c .before .before .before) ∙ when-missing (c .before .before .before .expected-expr-positions .result) (c .before .enum-told2 .given .1)),
@@ -76,7 +76,7 @@ returns-3 : tie.Need-returns-3
 returns-3 c =
     let s₀ = c .before .before .before .before .before .before .before .before .before in
     let e = c .passed2 .ensures in (
-      e .0,
+      e .0 tt,
       λ l g s w m cs.
           let t = keySheet (s₀ .args .k) (s₀ .args .r .now) l g s w (s₀ .args .o .now) (s₀ .args .a .now) m cs in
           adjusted-by t (c .passed2 .result) Passed false Kept Kept [] (e .1) (e .2) (e .3) (e .4) (e .5) ∙ regrouped-stays sameExpr t _ (numbers (c .before .before .before .before .expected-expr-positions .result .at)) (positions (c .before .before .before .before) ∙ when-all (c .before .before .before .before .expected-expr-positions .result) (c .before .before .enum-told .given .1)) (c .before .if1 .left),

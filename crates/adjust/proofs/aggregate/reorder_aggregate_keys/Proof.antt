@@ -46,7 +46,7 @@ returns : tie.Need-returns
 returns c =
     let s₀ = c .before .before .before .before .before in
     let e = c .passed .ensures in (
-      e .0,
+      e .0 tt,
       λ l g s w m cs.
           let t = keySheet (s₀ .args .k) (s₀ .args .r .now) l g s w (s₀ .args .o .now) (s₀ .args .a .now) m cs in
           adjusted-by t (c .passed .result) Passed false Kept Kept [] (e .1) (e .2) (e .3) (e .4) (e .5) ∙ aggregate-stays sameExpr t (lengths-differ sameExpr t (λ z. c .before .if1 .taken (sym (length-map (s₀ .args .r .now) expression) ∙ z))),
@@ -59,7 +59,7 @@ returns-2 : tie.Need-returns-2
 returns-2 c =
     let s₀ = c .before .before .before .before .before .before .before in
     let e = c .passed2 .ensures in (
-      e .0,
+      e .0 tt,
       λ l g s w m cs.
           let t = keySheet (s₀ .args .k) (s₀ .args .r .now) l g s w (s₀ .args .o .now) (s₀ .args .a .now) m cs in
           adjusted-by t (c .passed2 .result) Passed false Kept Kept [] (e .1) (e .2) (e .3) (e .4) (e .5) ∙ aggregate-stays sameExpr t (null-there sameExpr t (not-true _ (c .before .if2 .taken))),
@@ -87,7 +87,7 @@ returns-3 : tie.Need-returns-3
 returns-3 c =
     let s₀ = c .before .before .before .before .before .before .before .before .before .before .before .before .before in
     let e = c .passed3 .ensures in (
-      e .0,
+      e .0 tt,
       λ l g s w m cs.
           let t = keySheet (s₀ .args .k) (s₀ .args .r .now) l g s w (s₀ .args .o .now) (s₀ .args .a .now) m cs in
           adjusted-by t (c .passed3 .result) Passed false Kept Kept [] (e .1) (e .2) (e .3) (e .4) (e .5) ∙ aggregate-stays sameExpr t (same-already sameExpr t (asked (c .before .before) ∙ c .before .if3 .taken)),

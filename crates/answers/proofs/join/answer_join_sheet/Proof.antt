@@ -14,7 +14,7 @@ use Rattle.sheet.specs.KeyAnswers.{Outcome, wrote, joinAnswerText}
 use Rattle.sheet.specs.Outcomes.{answer, after, within}
 use Rattle.sheet.specs.Held.{heldJoinSheet}
 use Rattle.keys.proofs.Outcomes.{from-start, room-front}
-use Rattle.answers.proofs.HeldJoins.{join-there}
+use Rattle.moves.proofs.HeldJoins.{join-there}
 use borrow.Author.Needs.{needs}
 use Rattle.answers.proofs.join.answer_join_sheet.Statement.{statement}
 use Rattle.answers.proofs.join.answer_join_sheet.Tie as tie

@@ -6,8 +6,8 @@ use Prim.Native.Nat.{_-_}
 use lib.ListN.{length, take}
 use Rattle.keys.specs.InputValues.{sideNumber}
 use Rattle.keys.proofs.Outcomes.{from-start}
-use Rattle.answers.specs.Chosen.{followedOr}
-use Rattle.answers.proofs.HeldJoins.{join-there}
+use Rattle.moves.specs.Chosen.{followedOr}
+use Rattle.moves.proofs.HeldJoins.{join-there}
 use Rattle.answers.proofs.JoinChosen.{JoinChosen, join-short-lists, chosen-join-text}
 use borrow.Author.Needs.{needs}
 use Rattle.answers.proofs.join.answer_lists.Statement.{statement}

@@ -3,15 +3,15 @@
 use Prim.Native.Nat.{ℕ}
 use mathlib.Core.List.{List}
 use native.Mathlib.Omega.{arith}
-use Rattle.answers.specs.Texts.{joinListsText}
-use Rattle.answers.proofs.Room.{room-written, room-short}
+use Rattle.lines.specs.Texts.{joinListsText}
+use Rattle.lines.proofs.Room.{room-written, room-short}
 use borrow.Author.Needs.{needs}
 use Rattle.answers.proofs.join.write_join.Statement.{statement}
 use Rattle.answers.proofs.join.write_join.Tie as tie
 use Rattle.answers.proofs.join.write_join.Reads as reads
 use Rattle.answers.proofs.join.write_join.Lts as lts
-use Rattle.answers.proofs.join_text.join_lists_length.Reads as join-lists-length-reads
-use Rattle.answers.proofs.join_text.put_join_lists.Reads as put-join-lists-reads
+use Rattle.lines.proofs.join_text.join_lists_length.Reads as join-lists-length-reads
+use Rattle.lines.proofs.join_text.put_join_lists.Reads as put-join-lists-reads
 
 abbrev Text : tie.Start → List ℕ
 Text s = let a = s .args in joinListsText (a .report) (a .followed) (a .p .now) (a .l .now) (a .g .now) (a .s .now)

@@ -9,8 +9,8 @@ use Rattle.keys.specs.Adjust.{placedNames, namesFrom}
 use Rattle.keys.specs.Answers.{projectedBy}
 use Rattle.keys.proofs.Outcomes.{from-start}
 use Rattle.sheet.specs.KeyAnswers.{projectedNumbers}
-use Rattle.answers.specs.Chosen.{shiftedFor}
-use Rattle.answers.proofs.HeldKeys.{key-there, key-lines}
+use Rattle.moves.specs.Chosen.{shiftedFor}
+use Rattle.moves.proofs.HeldKeys.{key-there, key-lines}
 use borrow.Author.Needs.{needs}
 use Rattle.answers.proofs.key.answer_adjusted.Statement.{statement}
 use Rattle.answers.proofs.key.answer_adjusted.Tie as tie
@@ -85,11 +85,10 @@ answer-moved-requires c κs =
       s .pre .0,
       rw (from-start (x .at .count) (x .at .items), length-take (x .at .count) (x .at .items)) (omega (arith, w .fits)),
       record {
-        unshifted = s .pre .1 .first;
         shifts =
-            ap expressions (from-start (k .result) (k .last .1 .1 .1 .0)) ∙ k .ensures .2
-            ∙ (λ i. shiftedFor (x .others) (getD (c .before .before .before .before .before .before .before .before .before .before .before .before .before .before .before .before .before .held .ensures i) 3 0) (expressions (c .before .before .before .before .before .before .before .before .before .before .before .before .before .before .before .held2 .ensures i)));
-        few = rw (from-start (k .result) (k .last .1 .1 .1 .0), length-take) (omega (arith, k .ensures .1));
+            ap expressions (from-start (k .result) (k .last .1 .1 .1 .1 .0)) ∙ k .ensures .2
+            ∙ (λ i. shiftedFor (x .first) (x .others) (getD (c .before .before .before .before .before .before .before .before .before .before .before .before .before .before .before .before .before .held .ensures i) 3 0) (expressions (c .before .before .before .before .before .before .before .before .before .before .before .before .before .before .before .held2 .ensures i)));
+        few = rw (from-start (k .result) (k .last .1 .1 .1 .1 .0), length-take) (omega (arith, k .ensures .1));
       },
       rw (from-start (j .result) (j .last .1 .1 .1 .1 .0), length-take) (omega (arith, j .ensures .0)),
     )

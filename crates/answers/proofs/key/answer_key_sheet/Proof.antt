@@ -8,7 +8,7 @@ use Rattle.answers.proofs.key.answer_key_sheet.Statement.{statement}
 use Rattle.answers.proofs.key.answer_key_sheet.Tie as tie
 use Rattle.answers.proofs.key.answer_key_sheet.Reads as reads
 use Rattle.answers.proofs.key.answer_key_sheet.Lts as lts
-use Rattle.answers.proofs.decide.adjust.Reads as adjust-reads
+use Rattle.moves.proofs.decide.adjust.Reads as adjust-reads
 use Rattle.answers.proofs.key.answer_adjusted.Reads as answer-adjusted-reads
 use Rattle.answers.proofs.key.refused.Reads as refused-reads
 

@@ -8,8 +8,8 @@ use native.Mathlib.Omega.{arith}
 use lib.ListN.{length, take}
 use Rattle.keys.specs.Answers.{movedOr}
 use Rattle.keys.proofs.Outcomes.{from-start}
-use Rattle.answers.specs.Chosen.{handedList}
-use Rattle.answers.proofs.HeldKeys.{key-there}
+use Rattle.moves.specs.Chosen.{handedList}
+use Rattle.moves.proofs.HeldKeys.{key-there}
 use Rattle.answers.proofs.KeyChosen.{KeyChosen, key-few, chosen-text}
 use borrow.Author.Needs.{needs}
 use Rattle.answers.proofs.key.answer_lists.Statement.{statement}

@@ -9,7 +9,7 @@ use Rattle.keys.specs.Lists.{permute}
 use Rattle.keys.specs.Expressions.{goneNumber}
 use Rattle.keys.specs.Adjust.{movedDirections}
 use Rattle.keys.proofs.Outcomes.{from-start}
-use Rattle.answers.proofs.HeldKeys.{key-there}
+use Rattle.moves.proofs.HeldKeys.{key-there}
 use borrow.Author.Needs.{needs}
 use Rattle.answers.proofs.key.answer_moved.Statement.{statement}
 use Rattle.answers.proofs.key.answer_moved.Tie as tie

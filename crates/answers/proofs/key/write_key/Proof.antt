@@ -8,22 +8,22 @@ use lib.ListN.{length, getD, length-append}
 use Rattle.text.specs.Write.{Wrote}
 use Rattle.text.proofs.Stores.{wrote-then, wrote-length}
 use Rattle.sheet.specs.Held.{childCount}
-use Rattle.answers.specs.Texts.{keyListsText}
-use Rattle.answers.specs.Children.{childrenText}
-use Rattle.answers.proofs.HeldKeys.{key-there}
+use Rattle.lines.specs.Texts.{keyListsText}
+use Rattle.lines.specs.Children.{childrenText}
+use Rattle.moves.proofs.HeldKeys.{key-there}
 use Rattle.answers.proofs.KeyLists.{key-children}
-use Rattle.answers.proofs.Room.{room-written, room-short}
+use Rattle.lines.proofs.Room.{room-written, room-short}
 use borrow.Author.Needs.{needs}
 use Rattle.answers.proofs.key.write_key.Statement.{statement}
 use Rattle.answers.proofs.key.write_key.Tie as tie
 use Rattle.answers.proofs.key.write_key.Reads as reads
 use Rattle.answers.proofs.key.write_key.Lts as lts
-use Rattle.answers.proofs.children.children_length.Reads as children-length-reads
-use Rattle.answers.proofs.children.put_children.Reads as put-children-reads
-use Rattle.answers.proofs.held.held.Reads as held-reads
+use Rattle.lines.proofs.children.children_length.Reads as children-length-reads
+use Rattle.lines.proofs.children.put_children.Reads as put-children-reads
+use Rattle.sheet.proofs.held.held.Reads as held-reads
 use Rattle.answers.proofs.key.children.Reads as children-reads
-use Rattle.answers.proofs.key_text.key_lists_length.Reads as key-lists-length-reads
-use Rattle.answers.proofs.key_text.put_key_lists.Reads as put-key-lists-reads
+use Rattle.lines.proofs.key_text.key_lists_length.Reads as key-lists-length-reads
+use Rattle.lines.proofs.key_text.put_key_lists.Reads as put-key-lists-reads
 
 abbrev Lists : tie.Start → List ℕ
 Lists s = let a = s .args in keyListsText (a .changed) (a .report) (a .p .now) (a .r .now) (a .l .now) (a .g .now) (a .s .now) (a .j .now)

@@ -15,7 +15,7 @@ returns : tie.Need-returns
 returns c =
     let a = c .before .no-numbers .ensures in
     let b = c .no-numbers2 .ensures in (
-      record { at = a .0; places = b .0; only = rw (a .1, b .1) (none-left (c .before .before .args .outcome)); first = c .before .before .pre },
+      λ m. record { at = a .0; places = b .0; only = rw (a .1, b .1) (none-left (c .before .before .args .outcome)); marks = m },
       refl,
       refl,
       refl,

@@ -2,7 +2,7 @@
 -- Assumes nothing.
 use mathlib.Core.Path.{ap}
 use lib.ListN.{length}
-use Rattle.answers.proofs.Room.{room-written, room-short}
+use Rattle.lines.proofs.Room.{room-written, room-short}
 use Rattle.plansheet.specs.PlanTexts.{planText}
 use Rattle.lochkave.proofs.PlanEntries.{one-text}
 use native.Mathlib.Omega.{arith}

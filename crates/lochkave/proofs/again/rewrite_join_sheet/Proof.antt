@@ -5,7 +5,7 @@ use native.Mathlib.Omega.{arith}
 use lib.ListN.{replicate}
 use Rattle.sheet.specs.KeySheets.{readJoinSheet}
 use Rattle.sheet.proofs.Bounded.{join-turned-few}
-use Rattle.answers.proofs.Room.{room-written, room-short}
+use Rattle.lines.proofs.Room.{room-written, room-short}
 use Rattle.lochkave.specs.Entry.{joinAgain}
 use Rattle.lochkave.proofs.Entries.{full-zeros, was-turned, Was, was-read, leaves-refused, join-same}
 use borrow.Author.Needs.{needs}

@@ -8,7 +8,7 @@ use lib.ListN.{getD, replicate}
 use Rattle.sheet.specs.KeySheets.{readKeySheet}
 use Rattle.sheet.specs.Held.{childCount}
 use Rattle.sheet.proofs.Bounded.{key-turned-few}
-use Rattle.answers.proofs.Room.{room-written, room-short}
+use Rattle.lines.proofs.Room.{room-written, room-short}
 use Rattle.answers.proofs.KeyLists.{key-children}
 use Rattle.lochkave.specs.Entry.{keyAgain}
 use Rattle.lochkave.proofs.Entries.{full-zeros, was-turned, Was, was-read, leaves-refused, key-same, seventh}

@@ -4,7 +4,7 @@ use Prim.Native.Nat.{_-_}
 use native.Mathlib.Omega.{arith}
 use mathlib.Core.Path.{ap}
 use lib.ListN.{length}
-use Rattle.answers.proofs.Pieces.{Adding, adding-first, adding-more, adding-done}
+use Rattle.lines.proofs.Pieces.{Adding, adding-first, adding-more, adding-done}
 use Rattle.plananswer.specs.RowTexts.{rowLine}
 use Rattle.plananswer.proofs.RowLines.{linePiece, lines-pieces}
 use borrow.Author.Needs.{needs}

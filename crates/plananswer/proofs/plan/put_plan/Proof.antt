@@ -3,7 +3,7 @@
 use Prim.Native.Nat.{ℕ}
 use mathlib.Core.List.{List, _++_}
 use Rattle.text.proofs.Stores.{wrote-then}
-use Rattle.answers.proofs.Pieces.{Owed, owed-all, owed-room, owed-then}
+use Rattle.lines.proofs.Pieces.{Owed, owed-all, owed-room, owed-then}
 use Rattle.plananswer.specs.RowTexts.{linesOf, rowLine, headLine, rowsText}
 use borrow.Author.Needs.{needs}
 use Rattle.plananswer.proofs.plan.put_plan.Statement.{statement}

@@ -5,7 +5,7 @@ use mathlib.Core.Path.{_≡_}
 use mathlib.Core.List.{List}
 use native.Mathlib.Omega.{arith}
 use lib.ListN.{take}
-use Rattle.answers.proofs.Room.{room-written, room-short}
+use Rattle.lines.proofs.Room.{room-written, room-short}
 use Rattle.plananswer.specs.RowTexts.{rowsText}
 use borrow.Author.Needs.{needs}
 use Rattle.plananswer.proofs.plan.write_plan.Statement.{statement}

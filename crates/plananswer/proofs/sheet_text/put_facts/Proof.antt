@@ -2,7 +2,7 @@
 -- Assumes nothing.
 use Prim.Native.Nat.{_-_}
 use lib.ListN.{length}
-use Rattle.answers.proofs.Pieces.{Writing, writing-first, writing-room, writing-more, writing-done}
+use Rattle.lines.proofs.Pieces.{Writing, writing-first, writing-room, writing-more, writing-done}
 use Rattle.plananswer.specs.SheetTexts.{factRowLine}
 use Rattle.plananswer.proofs.RowLines.{linePiece, lines-pieces}
 use borrow.Author.Needs.{needs}

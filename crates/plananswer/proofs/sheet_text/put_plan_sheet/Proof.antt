@@ -5,7 +5,7 @@ use Prim.Native.Nat.{ℕ}
 use lib.ListN.{drop}
 use Rattle.sheet.specs.KeyAnswers.{numbersLine}
 use Rattle.exchange.specs.FactRows.{nodeFacts}
-use Rattle.answers.proofs.Pieces.{Due, due-all, due-room, due-then, due-none}
+use Rattle.lines.proofs.Pieces.{Due, due-all, due-room, due-then, due-none}
 use Rattle.plananswer.specs.RowTexts.{linesOf}
 use Rattle.plansheet.specs.PlanTexts.{settingsNumbers, nodeNumbers}
 use Rattle.plananswer.specs.SheetTexts.{treeRowLine, childRowLine, factRowLine, sheetRowsText}
