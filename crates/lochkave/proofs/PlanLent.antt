@@ -12,8 +12,6 @@ use Rattle.exchange.specs.Facts.{ChildFacts, Facts}
 use Rattle.exchange.specs.FactRows.{childFacts, factRow}
 use Rattle.exchange.specs.Found.{indexOf}
 use Rattle.exchange.specs.Rows.{flatten}
-use Rattle.exchange.specs.Sizes.{lines}
-use Rattle.exchange.proofs.AnswerLines.{lines-rows}
 use Rattle.ensure.specs.Outcomes.{factsBy}
 use Rattle.ensure.specs.Lent.{Known, Sheet}
 use Rattle.plansheet.specs.PlanLines.{twoTo}
@@ -53,9 +51,6 @@ module _ (x : PlanSheet) (s : Settings) (k c n : ℕ) (rows : List (List ℕ)) (
 
   front : take k rows ≡ flatten (x .plan)
   front = ap (take k) (h .held .stands) ∙ take-at (flatten (x .plan)) (h .held .rest) k (sym (h .lines))
-
-  pub lent-lines : k ≤ 256
-  lent-lines = omega (arith, h .lines, lines-rows (x .plan), h .sized .lines)
 
   pub lent-long : length (take k rows) ≡ k
   lent-long = ap length front ∙ sym (h .lines)

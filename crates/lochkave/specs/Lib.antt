@@ -1,3 +1,4 @@
 pub mod Decision
 pub mod Entry
 pub mod PlanHeld
+pub mod Rooms

@@ -4,7 +4,7 @@ ghost use Prim.Native.Nat.{_<_};
 ghost use lib.ListN.{length};
 ghost use Rattle.sheet.specs.Outcomes.{answer, after};
 ghost use Rattle.lochkave.specs.Entry.{distributionOutcome};
-ghost use Rattle.plansheet.specs.PlanRooms.{RoomFor};
+ghost use Rattle.lochkave.specs.Rooms.{PlanRooms};
 use crate::again::refusal;
 use crate::plan::answer_held;
 use exchange::fact::FactRow;
@@ -18,28 +18,35 @@ pub(crate) const SHORT: usize = 1088;
 // Twice as many.
 const MIDDLE: usize = 2176;
 
-// A sheet, with the rooms lent for its T lines and X rows.
-fn distribute_in(sheet: &[u8], rows: &mut [Row], xs: &mut [FactRow], out: &mut [u8]) -> u64
-    requires { ⌜ RoomFor 256 17 (length (now sheet)) (length (now rows)) × RoomFor 128 28 (length (now sheet)) (length (now xs)) ⌝ }
+// A sheet, in the rooms lent.
+fn distribute_in(
+    sheet: &[u8],
+    fields: &mut [[u64; 2]],
+    rows: &mut [Row],
+    xs: &mut [FactRow],
+    mid: &mut [Row],
+    dst: &mut [Row],
+    masks: &mut [u64],
+    index: &mut [u64],
+    out: &mut [u8],
+) -> u64
+    requires { ⌜ PlanRooms (length (now sheet)) (length (now fields)) (length (now rows)) (length (now xs)) (length (now mid)) (length (now dst)) (length (now masks)) (length (now index)) ⌝ }
     ensures result { λ r. ⌜ r ≡ answer (distributionOutcome (now (sheet .entry)) (length (now (out .entry)))) ⌝ }
     ensures bytes { λ _. ⌜ now (out .exit) ≡ after (distributionOutcome (now (sheet .entry)) (length (now (out .entry)))) (now (out .entry)) ⌝ }
 {
-    let mut fields = [[0u64; 2]; 256];
     let mut head = [0u64; 9];
     let mut node = [0u64; 4];
     let mut facts = [[0u64; 7]; 8];
-    let mut masks = [0u64; 256];
-    let mut index = [0u64; 129];
     let p = read_plan(
         sheet,
-        &mut fields,
+        fields,
         &mut head,
         &mut *rows,
         &mut node,
         &mut facts,
         &mut *xs,
-        &mut masks,
-        &mut index,
+        &mut *masks,
+        &mut *index,
     );
     match p {
         Plan::Refused { number, line } => return refusal(number, line),
@@ -59,8 +66,10 @@ fn distribute_in(sheet: &[u8], rows: &mut [Row], xs: &mut [FactRow], out: &mut [
                 node,
                 &facts,
                 &*xs,
-                &masks,
-                &index,
+                &*masks,
+                &*index,
+                mid,
+                dst,
                 out,
             )
         }
@@ -73,9 +82,24 @@ pub(crate) fn distribute_short(sheet: &[u8], out: &mut [u8]) -> u64
     ensures result { λ r. ⌜ r ≡ answer (distributionOutcome (now (sheet .entry)) (length (now (out .entry)))) ⌝ }
     ensures bytes { λ _. ⌜ now (out .exit) ≡ after (distributionOutcome (now (sheet .entry)) (length (now (out .entry)))) (now (out .entry)) ⌝ }
 {
+    let mut fields = [[0u64; 2]; 256];
     let mut rows = [[0u64; 11]; 64];
     let mut xs = [[0u64; 13]; 39];
-    distribute_in(sheet, &mut rows, &mut xs, out)
+    let mut mid = [[0u64; 11]; 66];
+    let mut dst = [[0u64; 11]; 152];
+    let mut masks = [0u64; 256];
+    let mut index = [0u64; 129];
+    distribute_in(
+        sheet,
+        &mut fields,
+        &mut rows,
+        &mut xs,
+        &mut mid,
+        &mut dst,
+        &mut masks,
+        &mut index,
+        out,
+    )
 }
 
 // A sheet of fewer bytes than twice as many.
@@ -84,9 +108,24 @@ fn distribute_middle(sheet: &[u8], out: &mut [u8]) -> u64
     ensures result { λ r. ⌜ r ≡ answer (distributionOutcome (now (sheet .entry)) (length (now (out .entry)))) ⌝ }
     ensures bytes { λ _. ⌜ now (out .exit) ≡ after (distributionOutcome (now (sheet .entry)) (length (now (out .entry)))) (now (out .entry)) ⌝ }
 {
+    let mut fields = [[0u64; 2]; 256];
     let mut rows = [[0u64; 11]; 128];
     let mut xs = [[0u64; 13]; 78];
-    distribute_in(sheet, &mut rows, &mut xs, out)
+    let mut mid = [[0u64; 11]; 130];
+    let mut dst = [[0u64; 11]; 280];
+    let mut masks = [0u64; 256];
+    let mut index = [0u64; 129];
+    distribute_in(
+        sheet,
+        &mut fields,
+        &mut rows,
+        &mut xs,
+        &mut mid,
+        &mut dst,
+        &mut masks,
+        &mut index,
+        out,
+    )
 }
 
 // Any sheet.
@@ -94,9 +133,24 @@ fn distribute_any(sheet: &[u8], out: &mut [u8]) -> u64
     ensures result { λ r. ⌜ r ≡ answer (distributionOutcome (now (sheet .entry)) (length (now (out .entry)))) ⌝ }
     ensures bytes { λ _. ⌜ now (out .exit) ≡ after (distributionOutcome (now (sheet .entry)) (length (now (out .entry)))) (now (out .entry)) ⌝ }
 {
+    let mut fields = [[0u64; 2]; 256];
     let mut rows = [[0u64; 11]; 256];
     let mut xs = [[0u64; 13]; 128];
-    distribute_in(sheet, &mut rows, &mut xs, out)
+    let mut mid = [[0u64; 11]; 258];
+    let mut dst = [[0u64; 11]; 536];
+    let mut masks = [0u64; 256];
+    let mut index = [0u64; 129];
+    distribute_in(
+        sheet,
+        &mut fields,
+        &mut rows,
+        &mut xs,
+        &mut mid,
+        &mut dst,
+        &mut masks,
+        &mut index,
+        out,
+    )
 }
 
 // Any sheet, as one that is not short is decided.

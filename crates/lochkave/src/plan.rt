@@ -56,134 +56,6 @@ fn answer_plan(
     }
 }
 
-// The same of up to 12 lines, with rooms of its own.
-fn answer_least(
-    s: Settings,
-    b: NodeRow,
-    masks: &[u64],
-    facts: &[ChildRow],
-    index: &[u64],
-    rows: &[FactRow],
-    n: usize,
-    src: &mut [Row],
-    out: &mut [u8],
-) -> u64
-    requires { ⌜ Known (now facts) (now rows) (now index) n ⌝ }
-    requires { ⌜ (length (now facts) ≤ 8) × (length (now src) ≤ 12) ⌝ }
-    requires { ⌜ Sheet (now src) (length (now facts)) ⌝ }
-    ensures { λ r. ⌜ ((t : Plan) (rest : List (List ℕ)) → now (src .entry) ≡ flatten t ++ rest → Gives (within (length (now (out .entry))) (distributed (ensured s (factsBy b (now (facts .entry)) (take n (now (rows .entry))) (now (masks .entry))) t))) r (now (out .entry)) (now (out .exit))) ⌝ }
-{
-    let mut mid = [[0u64; 11]; 14];
-    let mut dst = [[0u64; 11]; 48];
-    answer_plan(
-        s,
-        b,
-        masks,
-        facts,
-        index,
-        rows,
-        n,
-        src,
-        &mut mid,
-        &mut dst,
-        out,
-    )
-}
-
-// The same of up to 52 lines.
-fn answer_few(
-    s: Settings,
-    b: NodeRow,
-    masks: &[u64],
-    facts: &[ChildRow],
-    index: &[u64],
-    rows: &[FactRow],
-    n: usize,
-    src: &mut [Row],
-    out: &mut [u8],
-) -> u64
-    requires { ⌜ Known (now facts) (now rows) (now index) n ⌝ }
-    requires { ⌜ (length (now facts) ≤ 8) × (length (now src) ≤ 52) ⌝ }
-    requires { ⌜ Sheet (now src) (length (now facts)) ⌝ }
-    ensures { λ r. ⌜ ((t : Plan) (rest : List (List ℕ)) → now (src .entry) ≡ flatten t ++ rest → Gives (within (length (now (out .entry))) (distributed (ensured s (factsBy b (now (facts .entry)) (take n (now (rows .entry))) (now (masks .entry))) t))) r (now (out .entry)) (now (out .exit))) ⌝ }
-{
-    let mut mid = [[0u64; 11]; 54];
-    let mut dst = [[0u64; 11]; 128];
-    answer_plan(
-        s,
-        b,
-        masks,
-        facts,
-        index,
-        rows,
-        n,
-        src,
-        &mut mid,
-        &mut dst,
-        out,
-    )
-}
-
-// The same of up to 256 lines.
-fn answer_many(
-    s: Settings,
-    b: NodeRow,
-    masks: &[u64],
-    facts: &[ChildRow],
-    index: &[u64],
-    rows: &[FactRow],
-    n: usize,
-    src: &mut [Row],
-    out: &mut [u8],
-) -> u64
-    requires { ⌜ Known (now facts) (now rows) (now index) n ⌝ }
-    requires { ⌜ (length (now facts) ≤ 8) × (length (now src) ≤ 256) ⌝ }
-    requires { ⌜ Sheet (now src) (length (now facts)) ⌝ }
-    ensures { λ r. ⌜ ((t : Plan) (rest : List (List ℕ)) → now (src .entry) ≡ flatten t ++ rest → Gives (within (length (now (out .entry))) (distributed (ensured s (factsBy b (now (facts .entry)) (take n (now (rows .entry))) (now (masks .entry))) t))) r (now (out .entry)) (now (out .exit))) ⌝ }
-{
-    let mut mid = [[0u64; 11]; 258];
-    let mut dst = [[0u64; 11]; 536];
-    answer_plan(
-        s,
-        b,
-        masks,
-        facts,
-        index,
-        rows,
-        n,
-        src,
-        &mut mid,
-        &mut dst,
-        out,
-    )
-}
-
-// Decides on the tree in `src` and writes the answer: rooms for few lines are cleared in less time.
-fn answer_tree(
-    s: Settings,
-    b: NodeRow,
-    masks: &[u64],
-    facts: &[ChildRow],
-    index: &[u64],
-    rows: &[FactRow],
-    n: usize,
-    src: &mut [Row],
-    out: &mut [u8],
-) -> u64
-    requires { ⌜ Known (now facts) (now rows) (now index) n ⌝ }
-    requires { ⌜ (length (now facts) ≤ 8) × (length (now src) ≤ 256) ⌝ }
-    requires { ⌜ Sheet (now src) (length (now facts)) ⌝ }
-    ensures { λ r. ⌜ ((t : Plan) (rest : List (List ℕ)) → now (src .entry) ≡ flatten t ++ rest → Gives (within (length (now (out .entry))) (distributed (ensured s (factsBy b (now (facts .entry)) (take n (now (rows .entry))) (now (masks .entry))) t))) r (now (out .entry)) (now (out .exit))) ⌝ }
-{
-    if src.len() <= 12 {
-        return answer_least(s, b, masks, facts, index, rows, n, src, out);
-    }
-    if src.len() <= 52 {
-        return answer_few(s, b, masks, facts, index, rows, n, src, out);
-    }
-    answer_many(s, b, masks, facts, index, rows, n, src, out)
-}
-
 // Decides on the sheet that is held in the rooms, and writes the answer.
 pub(crate) fn answer_held(
     settings: Settings,
@@ -196,14 +68,17 @@ pub(crate) fn answer_held(
     xs: &[FactRow],
     masks: &[u64],
     index: &[u64],
+    mid: &mut [Row],
+    dst: &mut [Row],
     out: &mut [u8],
 ) -> u64
     requires { ⌜ Held settings lines children n (now rows) node (now facts) (now xs) (now masks) (now index) ⌝ }
+    requires { ⌜ (length (now rows) + 2 ≤ length (now mid)) × (2 * length (now rows) + 24 ≤ length (now dst)) × (length (now dst) ≤ 65536) ⌝ }
     ensures { λ r. ⌜ ((x : PlanSheet) → Holds x settings lines children n (now (rows .entry)) node (now (facts .entry)) (now (xs .entry)) (now (masks .entry)) (now (index .entry)) → Gives (within (length (now (out .entry))) (distributed (ensured (x .settings) (x .facts) (x .plan)))) r (now (out .entry)) (now (out .exit))) ⌝ }
 {
     let k = children as usize;
     let many = sets_of(children);
-    answer_tree(
+    answer_plan(
         settings,
         node,
         &masks[..many],
@@ -212,6 +87,8 @@ pub(crate) fn answer_held(
         xs,
         n,
         &mut rows[..lines],
+        mid,
+        dst,
         out,
     )
 }
