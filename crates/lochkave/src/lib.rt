@@ -2,21 +2,18 @@
 // The result is a refusal's number × 2^32 + its line, or how many bytes were written at the front of the output.
 mod again;
 mod distribution;
+mod kinds;
 mod plan;
 
 ghost use mathlib.Core.Path.{_≡_};
 ghost use lib.ListN.{length, getD};
 ghost use Rattle.sheet.specs.Outcomes.{answer, after};
 ghost use Rattle.lochkave.specs.Entry.{outcome, adjustOutcome, inputsOutcome, distributionOutcome, rewriteOutcome};
-use crate::again::refusal;
 use crate::distribution::SHORT;
 use crate::distribution::distribute_long;
 use crate::distribution::distribute_short;
-use answers::join::answer_join_sheet;
-use answers::key::answer_key_sheet;
-use sheet::sheets::Sheet;
-use sheet::sheets::read_join_sheet;
-use sheet::sheets::read_key_sheet;
+use crate::kinds::adjust_in;
+use crate::kinds::follow_in;
 
 // Decides a K sheet.
 #[no_mangle]
@@ -24,14 +21,9 @@ pub extern "C" fn lochkave_adjust_input_keys_ordering(sheet: &[u8], out: &mut [u
     ensures result { λ r. ⌜ r ≡ answer (adjustOutcome (now (sheet .entry)) (length (now (out .entry)))) ⌝ }
     ensures bytes { λ _. ⌜ now (out .exit) ≡ after (adjustOutcome (now (sheet .entry)) (length (now (out .entry)))) (now (out .entry)) ⌝ }
 {
-    let mut rows = [[0u64; 2]; 192];
+    let mut fields = [[0u64; 2]; 192];
     let mut lists = [[0u64; 64]; 17];
-    let mut counts = [0usize; 17];
-    let r = read_key_sheet(sheet, &mut rows, &mut lists, &mut counts);
-    if let Sheet::Refused { number, line } = r {
-        return refusal(number, line);
-    }
-    answer_key_sheet(&lists, &counts, &mut rows, out)
+    adjust_in(sheet, &mut fields, &mut lists, out)
 }
 
 // Decides an I sheet.
@@ -40,15 +32,10 @@ pub extern "C" fn lochkave_reorder_join_keys_to_inputs(sheet: &[u8], out: &mut [
     ensures result { λ r. ⌜ r ≡ answer (inputsOutcome (now (sheet .entry)) (length (now (out .entry)))) ⌝ }
     ensures bytes { λ _. ⌜ now (out .exit) ≡ after (inputsOutcome (now (sheet .entry)) (length (now (out .entry)))) (now (out .entry)) ⌝ }
 {
-    let mut rows = [[0u64; 2]; 192];
+    let mut fields = [[0u64; 2]; 192];
+    let mut rules = [[0u64; 2]; 32];
     let mut lists = [[0u64; 64]; 8];
-    let mut counts = [0usize; 8];
-    let r = read_join_sheet(sheet, &mut rows, &mut lists, &mut counts);
-    if let Sheet::Refused { number, line } = r {
-        return refusal(number, line);
-    }
-    let mut v = [[0u64; 2]; 32];
-    answer_join_sheet(&lists, &counts, &mut rows, &mut v, out)
+    follow_in(sheet, &mut fields, &mut rules, &mut lists, out)
 }
 
 // Decides a D sheet.
