@@ -6,3 +6,4 @@ pub mod PlanLent
 pub mod PlanEntries
 pub mod DecisionFits
 pub mod OtherSheets
+pub mod RoomTests

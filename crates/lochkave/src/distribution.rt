@@ -19,7 +19,7 @@ pub(crate) const SHORT: usize = 1088;
 const MIDDLE: usize = 2176;
 
 // A sheet, in the rooms lent.
-fn distribute_in(
+pub(crate) fn distribute_in(
     sheet: &[u8],
     fields: &mut [[u64; 2]],
     rows: &mut [Row],

@@ -4,16 +4,20 @@ mod again;
 mod distribution;
 mod kinds;
 mod plan;
+mod rooms;
 
 ghost use mathlib.Core.Path.{_≡_};
 ghost use lib.ListN.{length, getD};
 ghost use Rattle.sheet.specs.Outcomes.{answer, after};
 ghost use Rattle.lochkave.specs.Entry.{outcome, adjustOutcome, inputsOutcome, distributionOutcome, rewriteOutcome};
 use crate::distribution::SHORT;
+use crate::distribution::distribute_in;
 use crate::distribution::distribute_long;
 use crate::distribution::distribute_short;
 use crate::kinds::adjust_in;
 use crate::kinds::follow_in;
+use crate::rooms::keys_fit;
+use crate::rooms::trees_fit;
 
 // Decides a K sheet.
 #[no_mangle]
@@ -74,6 +78,50 @@ pub extern "C" fn lochkave_decide(sheet: &[u8], out: &mut [u8]) -> u64
         return lochkave_reorder_join_keys_to_inputs(sheet, out);
     }
     lochkave_ensure_distribution(sheet, out)
+}
+
+// The same in rooms that are lent and never cleared; in its own where one of them is too short. What they hold afterwards is of no account.
+#[no_mangle]
+pub extern "C" fn lochkave_decide_in(
+    sheet: &[u8],
+    fields: &mut [[u64; 2]],
+    rules: &mut [[u64; 2]],
+    lists: &mut [[u64; 64]],
+    rows: &mut [[u64; 11]],
+    xs: &mut [[u64; 13]],
+    mid: &mut [[u64; 11]],
+    dst: &mut [[u64; 11]],
+    masks: &mut [u64],
+    index: &mut [u64],
+    out: &mut [u8],
+) -> u64
+    ensures result { λ r. ⌜ r ≡ answer (outcome (now (sheet .entry)) (length (now (out .entry)))) ⌝ }
+    ensures bytes { λ _. ⌜ now (out .exit) ≡ after (outcome (now (sheet .entry)) (length (now (out .entry)))) (now (out .entry)) ⌝ }
+{
+    if !keys_fit(fields.len(), rules.len(), lists) {
+        return lochkave_decide(sheet, out);
+    }
+    if !trees_fit(
+        rows.len(),
+        xs.len(),
+        mid.len(),
+        dst.len(),
+        masks.len(),
+        index.len(),
+    ) {
+        return lochkave_decide(sheet, out);
+    }
+    let kind = first_byte(sheet);
+    if kind == 75 {
+        return adjust_in(sheet, fields, lists, out);
+    }
+    if kind == 73 {
+        return follow_in(sheet, fields, rules, lists, out);
+    }
+    let tree = &mut rows[..256];
+    let answer = &mut dst[..536];
+    let places = &mut index[..129];
+    distribute_in(sheet, fields, tree, xs, mid, answer, masks, places, out)
 }
 
 // Reads a sheet and writes it again from what was read.
