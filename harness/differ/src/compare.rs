@@ -53,7 +53,7 @@ impl Run {
         }
     }
 
-    /// Compares the library with plain Rust: result, and every byte of the output.
+    /// Compares the library with plain Rust: result, and every byte of the output. A decision is asked for in a lent room too.
     fn library(&mut self, question: Question, sheet: &[u8], length: usize) -> u64 {
         let plain = self.sides.plain(question, sheet, length);
         let Some(plain) = plain else {
@@ -70,6 +70,10 @@ impl Run {
                 String::from_utf8_lossy(&theirs)
             );
             self.differ("library and plain Rust", sheet, said);
+        }
+        if question == Question::Decide && self.sides.lent(sheet, length) != Some(library) {
+            let said = format!("with room {length}");
+            self.differ("library and library in a lent room", sheet, said);
         }
         plain
     }

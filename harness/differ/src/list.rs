@@ -26,7 +26,7 @@ fn agreed(sides: &mut Sides, sheet: &[u8], room: usize) -> Result<Vec<u8>, Strin
     let result = sides.plain(Question::Decide, sheet, room);
     let answer = printed(result.ok_or_else(name)?, &sides.theirs);
     let library = sides.library(Question::Decide, sheet, room);
-    if printed(library, &sides.ours) != answer {
+    if printed(library, &sides.ours) != answer || sides.lent(sheet, room) != Some(library) {
         return Err(name());
     }
     let work = answer[0] != b'e' || [&b"e,9,"[..], b"e,10", b"e,11"].contains(&&answer[..4]);

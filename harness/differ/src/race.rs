@@ -33,9 +33,11 @@ fn best(sheets: &[Vec<u8>], sides: &mut [(Decide, usize)]) -> Vec<f64> {
     best
 }
 
-/// ns a sheet: plain Rust, plain Rust with the exact length first, the library, the files.
-fn race_one(sheets: &[Vec<u8>]) -> [f64; 4] {
-    let (mut plain_out, mut exact_out, mut ours) = (vec![0; MOST], vec![0; MOST], vec![0; MOST]);
+/// ns a sheet: plain Rust, plain Rust with the exact length first, the library in a lent room and in its own, the files.
+fn race_one(sheets: &[Vec<u8>]) -> [f64; 5] {
+    let (mut plain_out, mut exact_out) = (vec![0; MOST], vec![0; MOST]);
+    let (mut lent_out, mut own_out) = (vec![0; MOST], vec![0; MOST]);
+    let mut lent_room = lochkave::Room::new();
     let (mut plain_room, mut exact_room) = (Room::new(), Room::new());
     let files = if oracle::AVAILABLE { FILE_ROUNDS } else { 0 };
     let mut sides: Vec<(Decide, usize)> = vec![
@@ -48,7 +50,14 @@ fn race_one(sheets: &[Vec<u8>]) -> [f64; 4] {
             ROUNDS,
         ),
         (
-            Box::new(|s| lochkave::decide_into(s, &mut ours).map_or(0, |n| n as u64)),
+            Box::new(|s| {
+                let result = lent_room.decide_into(s, &mut lent_out);
+                result.map_or(0, |n| n as u64)
+            }),
+            ROUNDS,
+        ),
+        (
+            Box::new(|s| lochkave::decide_into(s, &mut own_out).map_or(0, |n| n as u64)),
             ROUNDS,
         ),
         (Box::new(|s| oracle::decide(s).len() as u64), files),
@@ -77,9 +86,9 @@ fn row(name: &str, sheets: &[Vec<u8>]) {
 
 fn head(what: &str) {
     println!(
-        "\n| {what} | bytes | plain Rust | exact length first | proved library | three files |"
+        "\n| {what} | bytes | plain Rust | exact length first | proved library | proved, own rooms | three files |"
     );
-    println!("|---|---|---|---|---|---|");
+    println!("|---|---|---|---|---|---|---|");
 }
 
 fn columns(n: usize, from: u64) -> Vec<u64> {

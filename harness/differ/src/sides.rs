@@ -1,6 +1,6 @@
 //! The sides that are compared, each asked in the same way.
 
-use lochkave::{Question, ask_into};
+use lochkave::{Question, Refusal, ask_into};
 use plain::Room;
 use std::panic::{AssertUnwindSafe, catch_unwind};
 
@@ -12,13 +12,22 @@ pub const WRONG_LINE_1: u64 = 1 << 32 | 1;
 /// Buffers and room, lent once.
 pub struct Sides {
     room: Room,
+    lent_room: lochkave::Room,
     pub ours: Vec<u8>,
+    lent: Vec<u8>,
     pub theirs: Vec<u8>,
 }
 
 fn refusal(result: u64) -> Option<(u64, u64)> {
     let number = result >> 32;
     (number > 0).then_some((number, result & 0xffffffff))
+}
+
+fn number(result: Result<usize, Refusal>) -> u64 {
+    match result {
+        Ok(length) => length as u64,
+        Err(refusal) => (refusal.number as u64) << 32 | refusal.line as u64,
+    }
 }
 
 /// What the program prints for a result.
@@ -42,7 +51,9 @@ impl Sides {
     pub fn new() -> Sides {
         Sides {
             room: Room::new(),
+            lent_room: lochkave::Room::new(),
             ours: vec![FILL; MOST],
+            lent: vec![FILL; MOST],
             theirs: vec![FILL; MOST],
         }
     }
@@ -65,10 +76,14 @@ impl Sides {
     /// The library's result; its output stands in `ours`.
     pub fn library(&mut self, question: Question, sheet: &[u8], length: usize) -> u64 {
         self.ours[..length].fill(FILL);
-        match ask_into(question, sheet, &mut self.ours[..length]) {
-            Ok(length) => length as u64,
-            Err(refusal) => (refusal.number as u64) << 32 | refusal.line as u64,
-        }
+        number(ask_into(question, sheet, &mut self.ours[..length]))
+    }
+
+    /// The library's result on the same sheet in the room that is lent to it again and again; nothing where its output isn't `ours`.
+    pub fn lent(&mut self, sheet: &[u8], length: usize) -> Option<u64> {
+        self.lent[..length].fill(FILL);
+        let result = self.lent_room.decide_into(sheet, &mut self.lent[..length]);
+        (self.lent[..length] == self.ours[..length]).then_some(number(result))
     }
 
     /// Whether both outputs have the same bytes.

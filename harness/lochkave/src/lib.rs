@@ -88,6 +88,42 @@ unsafe extern "C" {
         out: *mut u8,
         out_len: usize,
     ) -> u64;
+    fn lochkave_decide_in(
+        sheet: *const u8,
+        sheet_len: usize,
+        fields: *mut [u64; 2],
+        fields_len: usize,
+        rules: *mut [u64; 2],
+        rules_len: usize,
+        lists: *mut [u64; 64],
+        lists_len: usize,
+        rows: *mut [u64; 11],
+        rows_len: usize,
+        xs: *mut [u64; 13],
+        xs_len: usize,
+        mid: *mut [u64; 11],
+        mid_len: usize,
+        dst: *mut [u64; 11],
+        dst_len: usize,
+        masks: *mut u64,
+        masks_len: usize,
+        index: *mut u64,
+        index_len: usize,
+        out: *mut u8,
+        out_len: usize,
+    ) -> u64;
+}
+
+/// A result's two halves.
+#[inline]
+fn told(result: u64) -> Result<usize, Refusal> {
+    match (result >> 32) as u32 {
+        0 => Ok(result as u32 as usize),
+        number => Err(Refusal {
+            number,
+            line: result as u32,
+        }),
+    }
 }
 
 /// What is asked of a sheet: one of the library's functions.
@@ -131,14 +167,7 @@ impl Question {
 pub fn ask_into(question: Question, sheet: &[u8], out: &mut [u8]) -> Result<usize, Refusal> {
     let entry = question.entry();
     // Sound for any two slices: the proved contracts ask nothing, a slice's pointer is never null, and a `&mut` slice overlaps no other.
-    let result = unsafe { entry(sheet.as_ptr(), sheet.len(), out.as_mut_ptr(), out.len()) };
-    match (result >> 32) as u32 {
-        0 => Ok(result as u32 as usize),
-        number => Err(Refusal {
-            number,
-            line: result as u32,
-        }),
-    }
+    told(unsafe { entry(sheet.as_ptr(), sheet.len(), out.as_mut_ptr(), out.len()) })
 }
 
 /// Decides a sheet into a buffer that the caller lends. Refusal 12 where the answer doesn't fit; [`ANSWER_MOST`] bytes always suffice.
@@ -153,4 +182,176 @@ pub fn decide(sheet: &[u8]) -> Result<Vec<u8>, Refusal> {
     let length = decide_into(sheet, &mut out)?;
     out.truncate(length);
     Ok(out)
+}
+
+/// The rooms of a decision, in the order in which the library takes them.
+struct Rooms {
+    fields: [[u64; 2]; 256],
+    rules: [[u64; 2]; 32],
+    lists: [[u64; 64]; 17],
+    rows: [[u64; 11]; 256],
+    xs: [[u64; 13]; 128],
+    mid: [[u64; 11]; 258],
+    dst: [[u64; 11]; 536],
+    masks: [u64; 256],
+    index: [u64; 129],
+}
+
+/// The rooms' lengths.
+const LENGTHS: [usize; 9] = [256, 32, 17, 256, 128, 258, 536, 256, 129];
+
+impl Rooms {
+    /// The library's result, with so much lent of each room. Sound for any slices where no length is above its array's, as in `ask_into`:
+    /// the rooms are arrays of their own, and any numbers may stand in them.
+    #[inline]
+    unsafe fn lend(&mut self, lengths: [usize; 9], sheet: &[u8], out: &mut [u8]) -> u64 {
+        unsafe {
+            lochkave_decide_in(
+                sheet.as_ptr(),
+                sheet.len(),
+                self.fields.as_mut_ptr(),
+                lengths[0],
+                self.rules.as_mut_ptr(),
+                lengths[1],
+                self.lists.as_mut_ptr(),
+                lengths[2],
+                self.rows.as_mut_ptr(),
+                lengths[3],
+                self.xs.as_mut_ptr(),
+                lengths[4],
+                self.mid.as_mut_ptr(),
+                lengths[5],
+                self.dst.as_mut_ptr(),
+                lengths[6],
+                self.masks.as_mut_ptr(),
+                lengths[7],
+                self.index.as_mut_ptr(),
+                lengths[8],
+                out.as_mut_ptr(),
+                out.len(),
+            )
+        }
+    }
+}
+
+/// Room for any decision, made once and lent to one after the other: [`decide_into`] clears its own on every call.
+///
+/// What a decision leaves in it has no part in the next one's answer. Threads that decide at once have a room each.
+///
+/// ```
+/// let (mut room, mut out) = (lochkave::Room::new(), [0; lochkave::ANSWER_MOST]);
+/// let sheet = b"K,6,0,0,0,0,0,1\nR,0,2,1\nL\nG\nS\nW\nO\nA\nM\nC\n";
+/// for _ in 0..2 {
+///     let length = room.decide_into(sheet, &mut out).unwrap();
+///     assert_eq!(&out[..length], b"k,1,0\nP\nR,0,2,1\nL\nG\nS\nJ\nC,0,2,1\n");
+/// }
+/// ```
+pub struct Room(Box<Rooms>);
+
+impl Room {
+    pub fn new() -> Room {
+        Room::filled(0)
+    }
+
+    fn filled(number: u64) -> Room {
+        Room(Box::new(Rooms {
+            fields: [[number; 2]; 256],
+            rules: [[number; 2]; 32],
+            lists: [[number; 64]; 17],
+            rows: [[number; 11]; 256],
+            xs: [[number; 13]; 128],
+            mid: [[number; 11]; 258],
+            dst: [[number; 11]; 536],
+            masks: [number; 256],
+            index: [number; 129],
+        }))
+    }
+
+    /// Decides a sheet as [`decide_into`] does, in this room.
+    #[inline]
+    pub fn decide_into(&mut self, sheet: &[u8], out: &mut [u8]) -> Result<usize, Refusal> {
+        // Sound: these are the arrays' lengths.
+        told(unsafe { self.0.lend(LENGTHS, sheet, out) })
+    }
+}
+
+impl Default for Room {
+    fn default() -> Room {
+        Room::new()
+    }
+}
+
+#[cfg(test)]
+mod tests {
+    use super::*;
+
+    /// The sheets of examples/: of all three kinds, accepted and refused.
+    fn sheets() -> Vec<Vec<u8>> {
+        let folder = concat!(env!("CARGO_MANIFEST_DIR"), "/../../examples");
+        let paths = std::fs::read_dir(folder)
+            .unwrap()
+            .map(|e| e.unwrap().path());
+        let mut paths: Vec<_> = paths
+            .filter(|path| path.extension().is_some_and(|e| e == "sheet"))
+            .collect();
+        paths.sort();
+        paths
+            .iter()
+            .map(|path| std::fs::read(path).unwrap())
+            .collect()
+    }
+
+    /// The same result, and every byte of the output the same, with much room for the answer and with little.
+    fn same(room: &mut Room, sheet: &[u8]) -> Result<usize, Refusal> {
+        for length in [20, ANSWER_MOST] {
+            let (mut own, mut lent) = (vec![126; length], vec![126; length]);
+            let result = decide_into(sheet, &mut own);
+            assert_eq!(room.decide_into(sheet, &mut lent), result);
+            assert!(own == lent, "{}", String::from_utf8_lossy(sheet));
+        }
+        decide_into(sheet, &mut vec![0; ANSWER_MOST])
+    }
+
+    #[test]
+    fn one_room_for_every_sheet() {
+        let mut room = Room::new();
+        let mut seen = std::collections::BTreeSet::new();
+        for sheet in sheets() {
+            let decided = same(&mut room, &sheet).is_ok();
+            seen.insert((sheet.first().copied(), decided));
+        }
+        for kind in *b"KID" {
+            assert!(seen.contains(&(Some(kind), true)) && seen.contains(&(Some(kind), false)));
+        }
+    }
+
+    #[test]
+    fn what_the_room_holds_changes_nothing() {
+        for sheet in sheets() {
+            let _ = same(&mut Room::filled(u64::MAX), &sheet);
+        }
+    }
+
+    /// Each room one short of what suffices, and none at all: the library then takes its own.
+    #[test]
+    fn rooms_that_are_too_short() {
+        let one_less = |short: usize| {
+            let mut lengths = LENGTHS;
+            lengths[short] -= 1;
+            lengths
+        };
+        let cases: Vec<_> = (0..9).map(one_less).chain([[0; 9]]).collect();
+        let mut room = Room::filled(7);
+        for sheet in sheets() {
+            let mut own = vec![126; ANSWER_MOST];
+            let result = decide_into(&sheet, &mut own);
+            for lengths in &cases {
+                let mut lent = vec![126; ANSWER_MOST];
+                // Sound: no length is above its array's.
+                let told = told(unsafe { room.0.lend(*lengths, &sheet, &mut lent) });
+                assert_eq!(told, result);
+                assert!(own == lent, "{}", String::from_utf8_lossy(&sheet));
+            }
+        }
+    }
 }
