@@ -7,14 +7,15 @@ use lib.ListN.{length, getD}
 use Rattle.keys.specs.Lists.{permute}
 use Rattle.keys.specs.Expressions.{goneNumber, expressions}
 use Rattle.keys.specs.Adjust.{movedDirections, placedNames, namesFrom}
-use Rattle.keys.specs.Answers.{projectedBy}
+use Rattle.keys.specs.Answers.{projectedBy, answerBy}
 use Rattle.keys.specs.InputValues.{OnlyFollowed}
 use Rattle.keys.specs.declared.answer.Handed.{Handed}
 use Rattle.keys.specs.declared.inputs.Attempt.{Attempt}
 use Rattle.keys.specs.declared.answer.Outcome.{Outcome}
 use Rattle.keys.specs.declared.answer.Outcome.the-variants.{Unchanged, Passed, Tried, Regrouped, NameNotFound}
-use Rattle.sheet.specs.KeyAnswers.{projectedNumbers}
-use Rattle.sheet.specs.Held.{heldAt}
+use Rattle.sheet.specs.KeyAnswers as A
+use Rattle.sheet.specs.KeyAnswers.{projectedNumbers, keyAnswerText}
+use Rattle.sheet.specs.Held.{heldAt, heldKeySheet}
 use Rattle.moves.specs.Chosen.{shiftedFor}
 
 -- refusal 10
@@ -24,6 +25,11 @@ refusedBy Passed = false
 refusedBy (Tried o) = false
 refusedBy Regrouped = false
 refusedBy NameNotFound = true
+
+-- what is written, if anything, has room
+abbrev pub FitsIn : ℕ → A.Outcome → Type 0
+FitsIn room (A.refused n l) = Unit {0}
+FitsIn room (A.wrote bs) = length bs ≤ room
 
 -- no list is longer than 32, and J than 128
 pub record KeyFew (p r l g s j f o : List ℕ) : Type 0 where
@@ -40,6 +46,12 @@ pub record KeyFew (p r l g s j f o : List ℕ) : Type 0 where
 abbrev pub heldProjection : List (List ℕ) → List ℕ → Outcome → List ℕ → List ℕ
 heldProjection lists counts o places =
     projectedNumbers (projectedBy o (placedNames (heldAt lists counts 6) places ++ namesFrom (length (heldAt lists counts 6)) (heldAt lists counts 7)))
+
+-- the answer, by the places that J was made of, has room
+pub record FitsKey (lists : List (List ℕ)) (counts : List ℕ) (o : Outcome) (cleared : Bool) (first others : Handed) (ps j : List ℕ) (room : ℕ) : Type 0 where
+  pub places : List ℕ
+  pub made : j ≡ heldProjection lists counts o places
+  pub fits : length (keyAnswerText (answerBy (heldKeySheet lists counts) o cleared first others ps places)) ≤ room
 
 -- k is R shifted, of a K sheet that is held, where a child is handed it
 pub record ShiftedKeys (lists : List (List ℕ)) (counts : List ℕ) (first others : Handed) (k : List ℕ) : Type 0 where

@@ -1,6 +1,8 @@
 // The answer of an I sheet that was read.
 ghost use mathlib.Core.Path.{_≡_};
+ghost use mathlib.Core.Bool.{true};
 ghost use Prim.Native.Nat.{_≤_};
+ghost use lib.Dec.{leb};
 ghost use lib.ListN.{length};
 ghost use Rattle.keys.specs.Expressions.{sameExpr};
 ghost use Rattle.keys.specs.Inputs.{reorderJoinKeysToInputs};
@@ -22,8 +24,29 @@ use moves::moved::moved_pairs;
 use moves::moved::wide_positions;
 use sheet::held::held;
 
+// Whether there is room for the lists; `roomy` says that there is for any answer, so that none is measured.
+fn text_fits(
+    roomy: bool,
+    room: usize,
+    report: u64,
+    followed: u64,
+    p: &[u64],
+    l: &[u64],
+    g: &[u64],
+    s: &[u64],
+) -> bool
+    requires { ⌜ JoinFew (now p) (now l) (now g) (now s) × (roomy ≡ true → length (joinListsText report followed (now p) (now l) (now g) (now s)) ≤ room) ⌝ }
+    ensures { λ x. ⌜ x ≡ leb (length (joinListsText report followed (now (p .entry)) (now (l .entry)) (now (g .entry)) (now (s .entry)))) room ⌝ }
+{
+    if roomy {
+        return true;
+    }
+    join_lists_length(report, followed, p, l, g, s) <= room
+}
+
 // The lists, where there is room for them; else refusal 12.
 fn write_join(
+    roomy: bool,
     report: u64,
     followed: u64,
     p: &[u64],
@@ -32,10 +55,10 @@ fn write_join(
     s: &[u64],
     out: &mut [u8],
 ) -> u64
-    requires { ⌜ JoinFew (now p) (now l) (now g) (now s) ⌝ }
+    requires { ⌜ JoinFew (now p) (now l) (now g) (now s) × (roomy ≡ true → length (joinListsText report followed (now p) (now l) (now g) (now s)) ≤ length (now out)) ⌝ }
     ensures { λ x. ⌜ (let t = within (length (now (out .entry))) (wrote (joinListsText report followed (now (p .entry)) (now (l .entry)) (now (g .entry)) (now (s .entry)))) in (x ≡ answer t) × (now (out .exit) ≡ after t (now (out .entry)))) ⌝ }
 {
-    if out.len() < join_lists_length(report, followed, p, l, g, s) {
+    if !text_fits(roomy, out.len(), report, followed, p, l, g, s) {
         return 51539607552;
     }
     put_join_lists(out, report, followed, p, l, g, s) as u64
@@ -43,6 +66,7 @@ fn write_join(
 
 // The lists of an answer, chosen and written; `left`, `right` and `turned` stand at the positions.
 fn answer_lists<'a>(
+    roomy: bool,
     lists: &'a [[u64; 64]],
     counts: &[usize],
     o: Attempt,
@@ -52,13 +76,14 @@ fn answer_lists<'a>(
     turned: &'a [u64],
     out: &mut [u8],
 ) -> u64
-    requires { ⌜ JoinHeld (now lists) (now counts) × ReadyJoin (now lists) (now counts) o (now at) (now left) (now right) (now turned) ⌝ }
+    requires { ⌜ JoinHeld (now lists) (now counts) × ReadyJoin (now lists) (now counts) o (now at) (now left) (now right) (now turned) × (roomy ≡ true → length (joinAnswerText (attemptOf (heldJoinSheet (now lists) (now counts)) (now at) o)) ≤ length (now out)) ⌝ }
     ensures { λ r. ⌜ (let t = within (length (now (out .entry))) (wrote (joinAnswerText (attemptOf (heldJoinSheet (now (lists .entry)) (now (counts .entry))) (now (at .entry)) o))) in (r ≡ answer t) × (now (out .exit) ≡ after t (now (out .entry)))) ⌝ }
 {
     let n = at.len();
     let mut positions = [0u64; 32];
     wide_positions(at, &mut positions);
     write_join(
+        roomy,
         report_number(o),
         side_number(side_followed(o)),
         &positions[0..n],
@@ -69,15 +94,16 @@ fn answer_lists<'a>(
     )
 }
 
-// The decision on an I sheet and its answer's bytes; `w` and `v` are room for the rewritings.
+// The decision on an I sheet and its answer's bytes; `w` and `v` are room for the rewritings, `roomy` says that the answer fits.
 pub fn answer_join_sheet(
+    roomy: bool,
     lists: &[[u64; 64]],
     counts: &[usize],
     w: &mut [[u64; 2]],
     v: &mut [[u64; 2]],
     out: &mut [u8],
 ) -> u64
-    requires { ⌜ JoinHeld (now lists) (now counts) × (32 ≤ length (now w)) × (32 ≤ length (now v)) ⌝ }
+    requires { ⌜ JoinHeld (now lists) (now counts) × (32 ≤ length (now w)) × (32 ≤ length (now v)) × (roomy ≡ true → length (joinAnswerText (reorderJoinKeysToInputs (heldJoinSheet (now lists) (now counts)) sameExpr)) ≤ length (now out)) ⌝ }
     ensures { λ r. ⌜ (let t = within (length (now (out .entry))) (wrote (joinAnswerText (reorderJoinKeysToInputs (heldJoinSheet (now (lists .entry)) (now (counts .entry))) sameExpr))) in (r ≡ answer t) × (now (out .exit) ≡ after t (now (out .entry)))) ⌝ }
 {
     let c = follow(lists, counts, w, v);
@@ -98,6 +124,7 @@ pub fn answer_join_sheet(
         &mut turned,
     );
     answer_lists(
+        roomy,
         lists,
         counts,
         o,

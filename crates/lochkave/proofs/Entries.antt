@@ -1,6 +1,6 @@
 -- What an entry point returns and leaves, by what was read of the sheet.
 -- Assumes nothing.
-use Prim.Native.Nat.{ℕ, zero, suc, _+_, _*_}
+use Prim.Native.Nat.{ℕ, zero, suc, _+_, _*_, _≤_}
 use mathlib.Core.Path.{_≡_, refl, sym, ap, _∙_}
 use mathlib.Core.Bool.{cond}
 use mathlib.Core.List.{List, [], _∷_}
@@ -17,6 +17,8 @@ use Rattle.sheet.specs.KeyAnswers.{Outcome, refused, wrote, joinAnswerText, adj
 use Rattle.sheet.specs.Outcomes.{answer, after, within}
 use Rattle.sheet.specs.Held.{heldAt, childCount}
 use Rattle.sheet.specs.SheetLines.{Full}
+use Rattle.sheet.proofs.AnswersFit.{Fits}
+use Rattle.answers.specs.AnswerLists.{FitsIn}
 use Rattle.sheet.proofs.KeyAccepted.{key-written-again, join-written-again}
 use Rattle.lochkave.specs.Entry.{keyAgain, joinAgain}
 use Rattle.sheet.specs.ListFits.{sheetBy}
@@ -104,3 +106,8 @@ module _ (s : List ℕ) where
 pub seventh : (lists : List (List ℕ)) (counts : List ℕ) → length (heldAt lists counts 0) ≡ 7 → getD (getD lists 0 []) 6 0 ≡ childCount lists counts
 unfolding heldAt
 seventh lists counts h = sym (getD-take (getD counts 0 0) (getD lists 0 []) 6 0 (omega (arith, rw length-take at h)))
+
+-- where there is room for every answer there is for one
+pub has-room : (o : Outcome) (room : ℕ) → Fits o → 65536 ≤ room → FitsIn room o
+has-room (refused n l) room h k = tt
+has-room (wrote bs) room h k = omega (arith, h)

@@ -12,6 +12,9 @@ use sheet::sheets::Sheet;
 use sheet::sheets::read_join_sheet;
 use sheet::sheets::read_key_sheet;
 
+// So many bytes of output suffice for every answer.
+const ANSWER_MOST: usize = 65536;
+
 // A K sheet.
 pub(crate) fn adjust_in(
     sheet: &[u8],
@@ -28,7 +31,8 @@ pub(crate) fn adjust_in(
     if let Sheet::Refused { number, line } = r {
         return refusal(number, line);
     }
-    answer_key_sheet(&*lists, &counts, fields, out)
+    let roomy = out.len() >= ANSWER_MOST;
+    answer_key_sheet(roomy, &*lists, &counts, fields, out)
 }
 
 // An I sheet.
@@ -48,5 +52,6 @@ pub(crate) fn follow_in(
     if let Sheet::Refused { number, line } = r {
         return refusal(number, line);
     }
-    answer_join_sheet(&*lists, &counts, fields, rules, out)
+    let roomy = out.len() >= ANSWER_MOST;
+    answer_join_sheet(roomy, &*lists, &counts, fields, rules, out)
 }

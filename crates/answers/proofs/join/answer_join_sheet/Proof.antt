@@ -97,6 +97,9 @@ answer-lists-requires c κs =
         right = room-front n items _ h ∙ p .ensures .5 ∙ ap (λ (ks : List ℕ). permute goneNumber ks ps) (c .before .before .before .before .before .before .before .before .before .before .before .before .before .before .before .before .held2 .ensures);
         directions = from-start (p .result) _ ∙ p .ensures .6 ∙ ap (λ (ds : List ℕ). movedDirections ds ps) (c .before .before .before .before .before .before .before .before .before .before .before .before .before .before .before .held3 .ensures);
       },
+      λ e.
+          let x = heldJoinSheet (s .args .lists .now) (s .args .counts .now) in
+          rw (ap (λ (qs : List ℕ). attemptOf x qs (f .result .outcome)) (from-start n items) ∙ f .ensures .1) (s .pre .3 e),
     )
 
 same-length : tie.Need-same-length

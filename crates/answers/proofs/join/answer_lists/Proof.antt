@@ -73,7 +73,7 @@ followed-or-requires-3 c κs = search needs
 write-join-requires : tie.Need-write-join-requires
 write-join-requires c κs =
     let s = c .before .before .before .before .before .before .before .before .before .before .before .before .before .before .before .before .before .before .before .before in
-    rw (wide (c .before .before .before .before .before .before .before .before .before .before .before .before)) (join-short-lists (s .args .lists .now) (s .args .counts .now) (s .args .o) (s .args .at .now) (s .args .left .now) (s .args .right .now) (s .args .turned .now) (chosen (c .before)) (s .pre .1) (s .pre .0))
+    (rw (wide (c .before .before .before .before .before .before .before .before .before .before .before .before)) (join-short-lists (s .args .lists .now) (s .args .counts .now) (s .args .o) (s .args .at .now) (s .args .left .now) (s .args .right .now) (s .args .turned .now) (chosen (c .before)) (s .pre .1) (s .pre .0)), λ e. rw (wide (c .before .before .before .before .before .before .before .before .before .before .before .before), chosen-join-text (s .args .lists .now) (s .args .counts .now) (s .args .o) (s .args .at .now) (s .args .left .now) (s .args .right .now) (s .args .turned .now) (chosen (c .before)) (s .pre .1)) (s .pre .2 e))
 
 same-length : tie.Need-same-length
 same-length c = search needs

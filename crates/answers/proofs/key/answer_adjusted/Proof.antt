@@ -91,6 +91,16 @@ answer-moved-requires c κs =
         few = rw (from-start (k .result) (k .last .1 .1 .1 .1 .0), length-take) (omega (arith, k .ensures .1));
       },
       rw (from-start (j .result) (j .last .1 .1 .1 .1 .0), length-take) (omega (arith, j .ensures .0)),
+      λ e.
+          let o = c .before .before .before .before .before .before .before .before .before .before .before .before .held3 .ensures in
+          let a = c .before .before .before .before .before .before .before .before .before .before .before .held4 .ensures in
+          record {
+            places = take (x .places .count) (x .places .items);
+            made =
+                from-start (j .result) (j .last .1 .1 .1 .1 .0) ∙ j .ensures .2
+                ∙ (λ i. projectedNumbers (projectedBy (x .outcome) (placedNames (o i) (from-start (x .places .count) (x .places .items) i) ++ namesFrom (length (o i)) (a i))));
+            fits = rw (from-start (x .at .count) (x .at .items)) (s .pre .2 e);
+          },
     )
 
 same-length : tie.Need-same-length

@@ -100,8 +100,11 @@ handed-list-requires-2 c κs = search needs
 
 write-key-requires : tie.Need-write-key-requires
 write-key-requires c κs =
-    let s = c .before .before .before .before .before .before .before .before .before .before .before .before .before .before .before .before .before .before .before .before .before .before .before .before .before .before .before .before in
-    (s .pre .0, rw (wide (c .before .before .before .before .before .before .before .before .before .before .before .before .before .before .before .before .before .before)) (key-few (s .args .lists .now) (s .args .counts .now) (s .args .o) (s .args .cleared) (s .args .first) (s .args .others) (s .args .at .now) (s .args .left .now) (s .args .right .now) (s .args .turned .now) (s .args .shifted .now) (chosen (c .before)) (s .pre .1) (s .args .j .now) (s .pre .2) (s .pre .0)))
+    let s = c .before .before .before .before .before .before .before .before .before .before .before .before .before .before .before .before .before .before .before .before .before .before .before .before .before .before .before .before in (
+      s .pre .0,
+      rw (wide (c .before .before .before .before .before .before .before .before .before .before .before .before .before .before .before .before .before .before)) (key-few (s .args .lists .now) (s .args .counts .now) (s .args .o) (s .args .cleared) (s .args .first) (s .args .others) (s .args .at .now) (s .args .left .now) (s .args .right .now) (s .args .turned .now) (s .args .shifted .now) (chosen (c .before)) (s .pre .1) (s .args .j .now) (s .pre .2) (s .pre .0)),
+      λ e. let f = s .pre .3 e in rw (wide (c .before .before .before .before .before .before .before .before .before .before .before .before .before .before .before .before .before .before), chosen-text (s .args .lists .now) (s .args .counts .now) (s .args .o) (s .args .cleared) (s .args .first) (s .args .others) (s .args .at .now) (s .args .left .now) (s .args .right .now) (s .args .turned .now) (s .args .shifted .now) (chosen (c .before)) (s .pre .1) (s .args .j .now) (f .places) (f .made)) (f .fits),
+    )
 
 same-length : tie.Need-same-length
 same-length c = search needs

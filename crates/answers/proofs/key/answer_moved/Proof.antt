@@ -67,6 +67,7 @@ answer-lists-requires c κs =
         shifted = s .pre .2;
       },
       s .pre .3,
+      s .pre .4,
     )
 
 same-length : tie.Need-same-length

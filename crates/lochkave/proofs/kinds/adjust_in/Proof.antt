@@ -1,10 +1,15 @@
 -- `adjust_in` meets its contract: what was read, and what is answered of it (`Entries`).
 -- Assumes nothing.
+use mathlib.Core.Path.{subst}
 use native.Mathlib.Omega.{arith}
+use borrow.Author.Tests.{leb-true}
+use lib.ListN.{length}
 use Rattle.sheet.specs.KeySheets.{readKeySheet}
-use Rattle.sheet.specs.KeyAnswers.{adjustDecision}
+use Rattle.sheet.specs.KeyAnswers.{Outcome, adjustDecision}
+use Rattle.sheet.proofs.AnswersFit.{adjust-fits}
 use Rattle.sheet.proofs.Bounded.{key-turned-few}
-use Rattle.lochkave.proofs.Entries.{was-turned, was-read, leaves-refused, adjust-turned, adjust-held}
+use Rattle.answers.specs.AnswerLists.{FitsIn}
+use Rattle.lochkave.proofs.Entries.{was-turned, was-read, leaves-refused, adjust-turned, adjust-held, has-room}
 use borrow.Author.Needs.{needs}
 use Rattle.lochkave.proofs.kinds.adjust_in.Statement.{statement}
 use Rattle.lochkave.proofs.kinds.adjust_in.Tie as tie
@@ -51,7 +56,8 @@ answer-key-sheet-requires c κs =
     let a = c .before .before .before .before .before .before .before .before .before .before .before .before .before .before .before .args in
     let q = c .before .before .before .before .before .before .before .before .before .read-key-sheet in
     let w = was-read (readKeySheet (a .sheet .now)) (q .result) (q .ensures .answer) (c .before .before .before .before .enum-told .given .1) in
-    (q .ensures .held (w .x) (w .is) .0, omega (arith, c .before .before .before .before .before .before .before .before .before .before .before .before .before .before .before .pre .0, q .kept .1 .0))
+    (q .ensures .held (w .x) (w .is) .0, omega (arith, c .before .before .before .before .before .before .before .before .before .before .before .before .before .before .before .pre .0, q .kept .1 .0),
+    λ e. subst (λ (o : Outcome). FitsIn (length (a .out .now)) o) (adjust-held (a .sheet .now) (w .x) _ (w .is) (q .ensures .held (w .x) (w .is) .1)) (has-room (adjustDecision (a .sheet .now)) (length (a .out .now)) (adjust-fits (a .sheet .now)) (leb-true _ _ e)))
 
 same-length-3 : tie.Need-same-length-3
 same-length-3 c = search needs

@@ -1,10 +1,15 @@
 -- `follow_in` meets its contract: what was read, and what is answered of it (`Entries`).
 -- Assumes nothing.
+use mathlib.Core.Path.{subst}
 use native.Mathlib.Omega.{arith}
+use borrow.Author.Tests.{leb-true}
+use lib.ListN.{length}
 use Rattle.sheet.specs.KeySheets.{readJoinSheet}
-use Rattle.sheet.specs.KeyAnswers.{inputsDecision}
+use Rattle.sheet.specs.KeyAnswers.{Outcome, inputsDecision}
+use Rattle.sheet.proofs.AnswersFit.{inputs-fits}
 use Rattle.sheet.proofs.Bounded.{join-turned-few}
-use Rattle.lochkave.proofs.Entries.{was-turned, was-read, leaves-refused, inputs-turned, inputs-held}
+use Rattle.answers.specs.AnswerLists.{FitsIn}
+use Rattle.lochkave.proofs.Entries.{was-turned, was-read, leaves-refused, inputs-turned, inputs-held, has-room}
 use borrow.Author.Needs.{needs}
 use Rattle.lochkave.proofs.kinds.follow_in.Statement.{statement}
 use Rattle.lochkave.proofs.kinds.follow_in.Tie as tie
@@ -51,7 +56,8 @@ answer-join-sheet-requires c κs =
     let a = c .before .before .before .before .before .before .before .before .before .before .before .before .before .before .before .before .args in
     let q = c .before .before .before .before .before .before .before .before .before .before .read-join-sheet in
     let w = was-read (readJoinSheet (a .sheet .now)) (q .result) (q .ensures .answer) (c .before .before .before .before .before .enum-told .given .1) in
-    (q .ensures .held (w .x) (w .is) .0, omega (arith, c .before .before .before .before .before .before .before .before .before .before .before .before .before .before .before .before .pre .0, q .kept .1 .0), omega (arith, c .before .before .before .before .before .before .before .before .before .before .before .before .before .before .before .before .pre .1))
+    (q .ensures .held (w .x) (w .is) .0, omega (arith, c .before .before .before .before .before .before .before .before .before .before .before .before .before .before .before .before .pre .0, q .kept .1 .0), omega (arith, c .before .before .before .before .before .before .before .before .before .before .before .before .before .before .before .before .pre .1),
+    λ e. subst (λ (o : Outcome). FitsIn (length (a .out .now)) o) (inputs-held (a .sheet .now) (w .x) _ (w .is) (q .ensures .held (w .x) (w .is) .1)) (has-room (inputsDecision (a .sheet .now)) (length (a .out .now)) (inputs-fits (a .sheet .now)) (leb-true _ _ e)))
 
 same-length-3 : tie.Need-same-length-3
 same-length-3 c = search needs
