@@ -78,6 +78,7 @@ module _ (s : List ℕ) (at letter : ℕ) (ns : List ℕ) where
       list-at count list m e = record {
         zero = rw (line-is, after-is) line-zero;
         goes = sym after-is;
+        early = early;
         few = m;
         held = e ∙ rw (line-is, number-values ns);
       }
@@ -86,7 +87,7 @@ module _ (s : List ℕ) (at letter : ℕ) (ns : List ℕ) where
 
 pub marked-found : (s : List ℕ) (at mark end : ℕ) (list : List ℕ) → TextAt s at (fieldsOf (mark ∷ [])) end → mark ≤ 1 →
     (r : Entries) (list′ : List ℕ) → EntriesFound s end 1 33 (set list 0 mark) r list′ → InputFound s at list r list′
-marked-found s at mark end list t h (E.Packed count next) list′ e = record { mark = mark; end = end; text = t; small = h; entries = e }
+marked-found s at mark end list t h (E.Packed count last) list′ e = record { mark = mark; end = end; text = t; small = h; entries = e }
 marked-found s at mark end list t h E.Other list′ e = tt
 
 module _ (s : List ℕ) (at letter : ℕ) (other : letter ≡ 10 → ⊥) (h : StandsAt s at letter) (list : List ℕ) where
@@ -97,23 +98,23 @@ module _ (s : List ℕ) (at letter : ℕ) (other : letter ≡ 10 → ⊥) (h : S
       (omega arith) (eq-eqb ((length (o .ns) - 0) % 3) 0 (omega (arith, o .whole))) (omega (arith, o .whole, e .few)) (e .close .early) (rw (o .defined)) count list′ (omega (arith, e .few)) (o .packed)
 
   pub exprs-found : (r : Entries) (list′ : List ℕ) → EntriesFound s (at + 1) 0 32 list r list′ → ListFound Exprs letter s at r list′
-  exprs-found (E.Packed count next) list′ e = exprs-at 32 count next list′ (omega arith) e
+  exprs-found (E.Packed count last) list′ e = exprs-at 32 count (last + 1) list′ (omega arith) e
   exprs-found E.Other list′ e = tt
 
   pub rules-found : (r : Entries) (list′ : List ℕ) → RulesFound s (at + 1) list r list′ → ListFound Rules letter s at r list′
-  rules-found (E.Packed count next) list′ (e, even) =
+  rules-found (E.Packed count last) list′ (e, even) =
       let o = e .entries in
-      list-at s at letter (o .ns) next (rw (e .close .goes) (line-text s at letter (o .ns) (e .end) h (o .text) (e .close .ends))) (omega (arith, h .0)) other (o .small) Rules
+      list-at s at letter (o .ns) (last + 1) (rw (e .close .goes) (line-text s at letter (o .ns) (e .end) h (o .text) (e .close .ends))) (omega (arith, h .0)) other (o .small) Rules
       (omega arith) (eq-eqb ((length (o .ns) - 0) % 6) 0 (omega (arith, o .whole))) (omega (arith, o .whole, e .few)) (e .close .early) (rw (o .defined)) count list′ (e .few) (o .packed)
   rules-found E.Other list′ e = tt
 
   pub input-found : (r : Entries) (list′ : List ℕ) → 0 < length list → InputFound s (at + 1) list r list′ → ListFound Input letter s at r list′
-  input-found (E.Packed count next) list′ full e =
+  input-found (E.Packed count last) list′ full e =
       let l = e .entries in
       let o = l .entries in
       let ns : List ℕ = e .mark ∷ o .ns in
       let t = more-fields s (e .mark ∷ []) (o .ns) (at + 1) (e .end) (l .end) (e .text) (o .text) in
-      list-at s at letter ns next (rw (l .close .goes) (line-text s at letter ns (l .end) h t (l .close .ends))) (omega (arith, h .0)) other (omega (arith, e .small), o .small) Input
+      list-at s at letter ns (last + 1) (rw (l .close .goes) (line-text s at letter ns (l .end) h t (l .close .ends))) (omega (arith, h .0)) other (omega (arith, e .small), o .small) Input
       (omega arith) (eq-eqb ((length ns - 1) % 3) 0 (omega (arith, o .whole))) (omega (arith, o .whole, l .few)) (l .close .early) (rw (le-ltb 1 (e .mark) (e .small), o .defined)) count list′ (omega (arith, l .few))
       (o .packed ∙ ap (λ (r : List ℕ). r ++ packs (o .ns)) (first-put list (e .mark ∷ []) (e .mark) full (omega arith) refl))
   input-found E.Other list′ full e = tt
@@ -123,16 +124,16 @@ module _ (s : List ℕ) (at letter : ℕ) (other : letter ≡ 10 → ⊥) (h : S
   each n = eq-eqb (n % 1) 0 (omega arith)
 
   pub directions-found : (r : Entries) (list′ : List ℕ) → NumbersFound s (at + 1) 3 r list′ → ListFound Directions letter s at r list′
-  directions-found (E.Packed count next) list′ e =
+  directions-found (E.Packed count last) list′ e =
       let o = e .numbers in
-      list-at s at letter (o .ns) next (rw (e .close .goes) (line-text s at letter (o .ns) (e .end) h (o .text) (e .close .ends))) (omega (arith, h .0)) other (o .small) Directions
+      list-at s at letter (o .ns) (last + 1) (rw (e .close .goes) (line-text s at letter (o .ns) (e .end) h (o .text) (e .close .ends))) (omega (arith, h .0)) other (o .small) Directions
       (omega arith) (each (length (o .ns) - 0)) (omega (arith, o .long, e .few)) (e .close .early) (rw (o .within)) count list′ (omega (arith, e .few)) (o .held)
   directions-found E.Other list′ e = tt
 
   pub names-found : (r : Entries) (list′ : List ℕ) → NumbersFound s (at + 1) 65535 r list′ → ListFound Names letter s at r list′
-  names-found (E.Packed count next) list′ e =
+  names-found (E.Packed count last) list′ e =
       let o = e .numbers in
-      list-at s at letter (o .ns) next (rw (e .close .goes) (line-text s at letter (o .ns) (e .end) h (o .text) (e .close .ends))) (omega (arith, h .0)) other (o .small) Names
+      list-at s at letter (o .ns) (last + 1) (rw (e .close .goes) (line-text s at letter (o .ns) (e .end) h (o .text) (e .close .ends))) (omega (arith, h .0)) other (o .small) Names
       (omega arith) (each (length (o .ns) - 0)) (omega (arith, o .long, e .few)) (e .close .early) refl count list′ (omega (arith, e .few)) (o .held)
   names-found E.Other list′ e = tt
 

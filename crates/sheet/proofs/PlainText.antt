@@ -160,7 +160,7 @@ entry-goes s at x end e h = (omega (arith, e .text .place), text-within s at (fi
 -- the line's end after what was read
 pub entries-found : (s : List ℕ) (at from most n p : ℕ) (list list′ : List ℕ) → EntriesAt s at from n p list list′ → n ≤ most →
     (r : Entries) → EndFound s p n r → EntriesFound s at from most list r list′
-entries-found s at from most n p list list′ o h (E.Packed count next) e = record {
+entries-found s at from most n p list list′ o h (E.Packed count last) e = record {
   end = p;
   entries = subst (λ (m : ℕ). EntriesAt s at from m p list list′) (sym (e .0)) o;
   few = omega (arith, e .0);
@@ -170,7 +170,7 @@ entries-found s at from most n p list list′ o h E.Other e = tt
 
 pub numbers-found : (s : List ℕ) (at largest n p : ℕ) (list : List ℕ) → NumbersAt s at largest n p list → n ≤ 32 →
     (r : Entries) → EndFound s p n r → NumbersFound s at largest r list
-numbers-found s at largest n p list o h (E.Packed count next) e = record {
+numbers-found s at largest n p list o h (E.Packed count last) e = record {
   end = p;
   numbers = subst (λ (m : ℕ). NumbersAt s at largest m p list) (sym (e .0)) o;
   few = omega (arith, e .0);

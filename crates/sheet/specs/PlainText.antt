@@ -74,7 +74,7 @@ pub record LineEnd (s : List ℕ) (end next : ℕ) : Type 0 where
   pub early : next ≤ 65536
 
 abbrev pub EndFound : List ℕ → ℕ → ℕ → Entries → Type 0
-EndFound s end n (E.Packed count next) = (count ≡ n) × LineEnd s end next
+EndFound s end n (E.Packed count last) = (count ≡ n) × LineEnd s end (last + 1)
 EndFound s end n E.Other = Unit {0}
 
 -- such entries up to the line's end
@@ -85,7 +85,7 @@ pub record LineEntries (s : List ℕ) (at from most count next : ℕ) (list list
   pub close : LineEnd s end next
 
 abbrev pub EntriesFound : List ℕ → ℕ → ℕ → ℕ → List ℕ → Entries → List ℕ → Type 0
-EntriesFound s at from most list (E.Packed count next) list′ = LineEntries s at from most count next list list′
+EntriesFound s at from most list (E.Packed count last) list′ = LineEntries s at from most count (last + 1) list list′
 EntriesFound s at from most list E.Other list′ = Unit {0}
 
 -- numbers up to the largest, at the front of a list
@@ -105,11 +105,11 @@ pub record LineNumbers (s : List ℕ) (at largest count next : ℕ) (list : List
   pub close : LineEnd s end next
 
 abbrev pub NumbersFound : List ℕ → ℕ → ℕ → Entries → List ℕ → Type 0
-NumbersFound s at largest (E.Packed count next) list = LineNumbers s at largest count next list
+NumbersFound s at largest (E.Packed count last) list = LineNumbers s at largest count (last + 1) list
 NumbersFound s at largest E.Other list = Unit {0}
 
 abbrev pub RulesFound : List ℕ → ℕ → List ℕ → Entries → List ℕ → Type 0
-RulesFound s at list (E.Packed count next) list′ = LineEntries s at 0 64 count next list list′ × (count % 2 ≡ 0)
+RulesFound s at list (E.Packed count last) list′ = LineEntries s at 0 64 count (last + 1) list list′ × (count % 2 ≡ 0)
 RulesFound s at list E.Other list′ = Unit {0}
 
 -- a mark, kept as it stands, and entries behind it
@@ -121,16 +121,17 @@ pub record MarkedEntries (s : List ℕ) (at count next : ℕ) (list list′ : Li
   pub entries : LineEntries s end 1 33 count next (set list 0 mark) list′
 
 abbrev pub InputFound : List ℕ → ℕ → List ℕ → Entries → List ℕ → Type 0
-InputFound s at list (E.Packed count next) list′ = MarkedEntries s at count next list list′
+InputFound s at list (E.Packed count last) list′ = MarkedEntries s at count (last + 1) list list′
 InputFound s at list E.Other list′ = Unit {0}
 
 -- a line that is accepted, the place after it, and its list at the front of the room
 pub record ListAt (c : Codes) (letter : ℕ) (s : List ℕ) (at count next : ℕ) (list : List ℕ) : Type 0 where
   pub zero : lineNumber (kindOf c letter) 0 (after s at) (lineAt letter s at) ≡ 0
   pub goes : next ≡ after s at
+  pub early : next ≤ 65536
   pub few : count ≤ 64
   pub held : take count list ≡ packedList c (lineAt letter s at)
 
 abbrev pub ListFound : Codes → ℕ → List ℕ → ℕ → Entries → List ℕ → Type 0
-ListFound c letter s at (E.Packed count next) list = ListAt c letter s at count next list
+ListFound c letter s at (E.Packed count last) list = ListAt c letter s at count (last + 1) list
 ListFound c letter s at E.Other list = Unit {0}

@@ -146,8 +146,11 @@ pub fn read_list(
 {
     let c = line_codes(k, i);
     let letter = line_letter(k, i);
-    let Entries::Packed { count, next } = list_at(s, at, letter, c, &mut *list) else {
+    let Entries::Packed { count, end } = list_at(s, at, letter, c, &mut *list) else {
         return judged_list(s, at, k, i, rows, list);
     };
-    Listed::Packed { count, next }
+    Listed::Packed {
+        count,
+        next: end + 1,
+    }
 }

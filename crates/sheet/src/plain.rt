@@ -14,9 +14,9 @@ pub enum Found {
     Other,
 }
 
-// How many entries, and the place after the line; or something else.
+// How many entries, and the place of the LF; or something else.
 pub enum Entries {
-    Packed { count: usize, next: usize },
+    Packed { count: usize, end: usize },
     Other,
 }
 
@@ -119,10 +119,7 @@ fn line_end(s: &[u8], at: usize, n: usize) -> Entries
     if at >= 65536 {
         return Entries::Other;
     }
-    Entries::Packed {
-        count: n,
-        next: at + 1,
-    }
+    Entries::Packed { count: n, end: at }
 }
 
 // Expressions from a place on to the LF, up to `most` with those before `from`, packed behind these.
@@ -175,13 +172,13 @@ fn rules_at(s: &[u8], at: usize, list: &mut [u64; 64]) -> Entries
     requires { ⌜ length (now list) ≡ 64 ⌝ }
     ensures { λ r. ⌜ (length (now (list .exit)) ≡ 64) × RulesFound (now (s .entry)) at (now (list .entry)) r (now (list .exit)) ⌝ }
 {
-    let Entries::Packed { count, next } = entries_at(s, at, 0, 64, list) else {
+    let Entries::Packed { count, end } = entries_at(s, at, 0, 64, list) else {
         return Entries::Other;
     };
     if count % 2 != 0 {
         return Entries::Other;
     }
-    Entries::Packed { count, next }
+    Entries::Packed { count, end }
 }
 
 // A mark, and expressions behind it.

@@ -1,7 +1,8 @@
 -- `sheet::lists::read_list` meets its contract: what `list_at` found (`list-read`), or else what `judged_list` answers.
 -- Assumes nothing.
-use Prim.Native.Nat.{ℕ}
+use Prim.Native.Nat.{ℕ, _+_}
 use mathlib.Core.Path.{_∙_, sym, subst}
+use native.Mathlib.Omega.{arith}
 use Rattle.sheet.specs.ListLines.{lineLetter, lineCodes}
 use Rattle.sheet.specs.PlainText.{ListAt, ListFound}
 use Rattle.sheet.specs.declared.kind.Codes.{Codes}
@@ -14,7 +15,7 @@ use Rattle.sheet.proofs.lists.read_list.Tie as tie
 found : (c : tie.After-count) →
     let f = c .before .before in
     let s = f .before .before .before .before .before in
-    ListAt (lineCodes (s .args .k) (s .args .i)) (lineLetter (s .args .k) (s .args .i)) (s .args .s .now) (s .args .at) (c .count .given .0 .0) (c .count .given .0 .1 .0) (f .list-at .last .1 .1 .1 .1 .0)
+    ListAt (lineCodes (s .args .k) (s .args .i)) (lineLetter (s .args .k) (s .args .i)) (s .args .s .now) (s .args .at) (c .count .given .0 .0) (c .count .given .0 .1 .0 + 1) (f .list-at .last .1 .1 .1 .1 .0)
 found c =
     let f = c .before .before in
     let s = f .before .before .before .before .before in
@@ -48,6 +49,9 @@ same-length c = search needs
 returns : tie.Need-returns
 returns c = search needs
 
+add-t16 : tie.Need-add-t16
+add-t16 c = omega (arith, found (c .before) .early)
+
 returns-2 : tie.Need-returns-2
 returns-2 c =
     let n = c .before in
@@ -67,4 +71,5 @@ read-list-spec =
     judged-list-requires
     same-length
     returns
+    add-t16
     returns-2)

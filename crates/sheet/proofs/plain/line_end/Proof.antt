@@ -20,11 +20,8 @@ returns c = tt
 returns-2 : tie.Need-returns-2
 returns-2 c = tt
 
-add-t6 : tie.Need-add-t6
-add-t6 c = omega (arith, lf (c .before) .0)
-
 returns-3 : tie.Need-returns-3
 returns-3 c = (refl, record { ends = lf (c .before); goes = refl; early = omega arith })
 
 pub line-end-spec : {M : Type 1} → statement M
-line-end-spec = tie.close (tie.spec stands-requires returns returns-2 add-t6 returns-3)
+line-end-spec = tie.close (tie.spec stands-requires returns returns-2 returns-3)
