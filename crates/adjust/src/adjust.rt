@@ -2,43 +2,36 @@
 ghost use mathlib.Core.Path.{_≡_};
 ghost use mathlib.Core.List.{List};
 ghost use Prim.Native.Nat.{ℕ, _≤_};
-ghost use lib.ListN.{length};
+ghost use lib.ListN.{length, take};
 ghost use Rattle.keys.specs.Expressions.{Expression, sameExpr, expressions};
 ghost use Rattle.keys.specs.Adjust.{KeySheet, shiftRightRequired, reorderPartitionedJoinKeys};
 ghost use Rattle.keys.specs.Adjust.{collectLeft, hashJoin, crossJoin, projection, other, adjustInputKeysOrdering};
 ghost use Rattle.keys.specs.Arrange.{Below};
-ghost use Rattle.keys.specs.Values.{keys, Whole};
 ghost use Rattle.keys.specs.Answers.{keySheet, WholeAdjusted, adjustedOf};
 use keys::answer::Adjusted;
 use keys::answer::Handed;
 use keys::answer::Operator;
 use keys::answer::Outcome;
-use keys::expr::Expr;
-use keys::list::KeyList;
 use keys::reorder::Reordered;
 
-// The index less `columns` in every key; nothing where one is no column or its index too small.
-pub fn shift_right_required(required: &[u64], columns: u64) -> KeyList
-    requires { ⌜ length (now required) ≤ 32 ⌝ }
-    ensures { λ r. ⌜ Whole r × (keys r ≡ shiftRightRequired columns (expressions (now (required .entry)))) ⌝ }
+// The index less `columns` in every key, into the room lent, and how many there are; none where one is no column or its index too small.
+pub fn shift_right_required(required: &[u64], columns: u64, out: &mut [u64; 32]) -> usize
+    requires { ⌜ (length (now required) ≤ 32) × (length (now out) ≡ 32) ⌝ }
+    ensures { λ r. ⌜ (length (now (out .exit)) ≡ 32) × (r ≤ 32) × (expressions (take r (now (out .exit))) ≡ shiftRightRequired columns (expressions (now (required .entry)))) ⌝ }
 {
-    let mut out = keys::list::no_keys();
     let mut i: usize = 0;
     while i < required.len() {
         let e = required[i];
         if keys::expr::kind_of(e) != 0 {
-            return keys::list::no_keys();
+            return 0;
         }
         if keys::expr::index_of(e) < columns {
-            return keys::list::no_keys();
+            return 0;
         }
-        out.items[i] = Expr {
-            number: e - columns,
-        };
+        out[i] = e - columns;
         i += 1;
     }
-    out.count = i;
-    out
+    i
 }
 
 // The second child's list is R shifted.

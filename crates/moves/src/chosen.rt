@@ -7,7 +7,6 @@ ghost use lib.ListN.{length, take};
 ghost use Rattle.keys.specs.Expressions.{expressions};
 ghost use Rattle.keys.specs.Answers.{movedOr};
 ghost use Rattle.moves.specs.Chosen.{triedOr, followedOr, keepsBy, handedList, shiftsBy, shiftedFor};
-use crate::moved::unpack_keys;
 use adjust::adjust::shift_right_required;
 use keys::answer::Handed;
 use keys::answer::Outcome;
@@ -123,8 +122,7 @@ pub fn shifted_keys(
     ensures { λ r. ⌜ (length (now (out .exit)) ≡ 32) × (r ≤ 32) × (expressions (take r (now (out .exit))) ≡ shiftedFor first others columns (expressions (now (required .entry)))) ⌝ }
 {
     if either_shifts(first, others) {
-        let k = shift_right_required(required, columns);
-        return unpack_keys(k, out);
+        return shift_right_required(required, columns, out);
     }
     0
 }

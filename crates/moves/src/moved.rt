@@ -5,16 +5,15 @@ ghost use lib.ListN.{length, take};
 ghost use Rattle.keys.specs.Lists.{permute};
 ghost use Rattle.keys.specs.Expressions.{goneNumber};
 ghost use Rattle.keys.specs.Adjust.{movedDirections};
-ghost use Rattle.keys.specs.Values.{packedKeys, Whole};
-use keys::list::KeyList;
 use keys::list::moved_keys;
 use keys::list::permute;
 
-// The keys of a list, as numbers.
-pub(crate) fn unpack_keys(k: KeyList, out: &mut [u64; 32]) -> usize
-    requires { ⌜ Whole k × (length (now out) ≡ 32) ⌝ }
-    ensures { λ r. ⌜ (r ≡ k .count) × (r ≤ 32) × (take r (now (out .exit)) ≡ packedKeys k) × (length (now (out .exit)) ≡ 32) ⌝ }
+// A side's keys at the positions: built in a key list, and laid as numbers in the front of the room lent.
+fn moved_side(keys: &[u64], at: &[u8], out: &mut [u64; 32])
+    requires { ⌜ (length (now at) ≤ 32) × (length (now out) ≡ 32) ⌝ }
+    ensures { λ _. ⌜ (length (now (out .exit)) ≡ 32) × (take (length (now (at .entry))) (now (out .exit)) ≡ permute goneNumber (now (keys .entry)) (now (at .entry))) ⌝ }
 {
+    let k = moved_keys(keys, at);
     let n = k.count;
     let mut i: usize = 0;
     while i < n {
@@ -22,7 +21,6 @@ pub(crate) fn unpack_keys(k: KeyList, out: &mut [u64; 32]) -> usize
         out[i] = e.number;
         i += 1;
     }
-    i
 }
 
 pub(crate) fn widened(p: u8) -> u64
@@ -76,7 +74,7 @@ pub fn moved_pairs(
     requires { ⌜ (length (now at) ≤ 32) × (length (now left) ≡ 32) × (length (now right) ≡ 32) × (length (now turned) ≡ 32) ⌝ }
     ensures { λ r. ⌜ (length (now (left .exit)) ≡ 32) × (length (now (right .exit)) ≡ 32) × (length (now (turned .exit)) ≡ 32) × (r ≤ 32) × (take (length (now (at .entry))) (now (left .exit)) ≡ permute goneNumber (now (l .entry)) (now (at .entry))) × (take (length (now (at .entry))) (now (right .exit)) ≡ permute goneNumber (now (g .entry)) (now (at .entry))) × (take r (now (turned .exit)) ≡ movedDirections (now (s .entry)) (now (at .entry))) ⌝ }
 {
-    unpack_keys(moved_keys(l, at), left);
-    unpack_keys(moved_keys(g, at), right);
+    moved_side(l, at, left);
+    moved_side(g, at, right);
     moved_directions(s, at, turned)
 }

@@ -13,13 +13,10 @@ either-shifts-requires c κs = tt
 shift-right-required-requires : tie.Need-shift-right-required-requires
 shift-right-required-requires c κs = search needs
 
-unpack-keys-requires : tie.Need-unpack-keys-requires
-unpack-keys-requires c κs = search needs
-
 returns : tie.Need-returns
 returns c =
-    let u = c .unpack-keys .ensures in
-    (u .3, u .1, rw (sym (c .before .before .before .before .either-shifts .ensures) ∙ c .before .before .before .if1 .taken) (ap expressions (u .2) ∙ c .before .before .shift-right-required .ensures .1))
+    let u = c .shift-right-required .ensures in
+    (u .0, u .1, rw (sym (c .before .before .before .either-shifts .ensures) ∙ c .before .before .if1 .taken) (u .2))
 
 returns-2 : tie.Need-returns-2
 returns-2 c = (c .before .before .before .pre .1, omega arith, rw (sym (c .before .either-shifts .ensures) ∙ c .if1 .left))
@@ -30,6 +27,5 @@ shifted-keys-spec =
     (tie.spec
     either-shifts-requires
     shift-right-required-requires
-    unpack-keys-requires
     returns
     returns-2)
