@@ -75,12 +75,36 @@ fn put_digits(out: &mut [u8], end: usize, n: u64)
     out[i] = digit(m);
 }
 
+// A number of two digits.
+fn put_two(out: &mut [u8], at: usize, n: u64) -> usize
+    requires { ⌜ (10 ≤ n) × (n < 100) × (at + length (decimal n) ≤ length (now out)) ⌝ }
+    ensures { λ r. ⌜ Wrote (now (out .entry)) at (decimal n) (now (out .exit)) r ⌝ }
+{
+    let p = put_byte(out, at, digit(n / 10));
+    put_byte(out, p, digit(n % 10))
+}
+
+// A number of three digits.
+fn put_three(out: &mut [u8], at: usize, n: u64) -> usize
+    requires { ⌜ (100 ≤ n) × (n < 1000) × (at + length (decimal n) ≤ length (now out)) ⌝ }
+    ensures { λ r. ⌜ Wrote (now (out .entry)) at (decimal n) (now (out .exit)) r ⌝ }
+{
+    let p = put_two(out, at, n / 10);
+    put_byte(out, p, digit(n % 10))
+}
+
 pub fn put_number(out: &mut [u8], at: usize, n: u64) -> usize
     requires { ⌜ at + length (decimal n) ≤ length (now out) ⌝ }
     ensures { λ r. ⌜ Wrote (now (out .entry)) at (decimal n) (now (out .exit)) r ⌝ }
 {
     if n < 10 {
         return put_byte(out, at, digit(n));
+    }
+    if n < 100 {
+        return put_two(out, at, n);
+    }
+    if n < 1000 {
+        return put_three(out, at, n);
     }
     let end = at + number_length(n);
     put_digits(out, end, n);
