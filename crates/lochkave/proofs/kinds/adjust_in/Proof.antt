@@ -55,9 +55,11 @@ answer-key-sheet-requires : tie.Need-answer-key-sheet-requires
 answer-key-sheet-requires c κs =
     let a = c .before .before .before .before .before .before .before .before .before .before .before .before .before .before .before .args in
     let q = c .before .before .before .before .before .before .before .before .before .read-key-sheet in
-    let w = was-read (readKeySheet (a .sheet .now)) (q .result) (q .ensures .answer) (c .before .before .before .before .enum-told .given .1) in
-    (q .ensures .held (w .x) (w .is) .0, omega (arith, c .before .before .before .before .before .before .before .before .before .before .before .before .before .before .before .pre .0, q .kept .1 .0),
-    λ e. subst (λ (o : Outcome). FitsIn (length (a .out .now)) o) (adjust-held (a .sheet .now) (w .x) _ (w .is) (q .ensures .held (w .x) (w .is) .1)) (has-room (adjustDecision (a .sheet .now)) (length (a .out .now)) (adjust-fits (a .sheet .now)) (leb-true _ _ e)))
+    let w = was-read (readKeySheet (a .sheet .now)) (q .result) (q .ensures .answer) (c .before .before .before .before .enum-told .given .1) in (
+      q .ensures .held (w .x) (w .is) .0,
+      omega (arith, c .before .before .before .before .before .before .before .before .before .before .before .before .before .before .before .pre .0, q .kept .1 .0),
+      λ e. subst (λ (o : Outcome). FitsIn (length (a .out .now)) o) (adjust-held (a .sheet .now) (w .x) _ (w .is) (q .ensures .held (w .x) (w .is) .1)) (has-room (adjustDecision (a .sheet .now)) (length (a .out .now)) (adjust-fits (a .sheet .now)) (leb-true _ _ e)),
+    )
 
 same-length-3 : tie.Need-same-length-3
 same-length-3 c = search needs
