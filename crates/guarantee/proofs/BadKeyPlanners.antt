@@ -19,8 +19,8 @@ use Rattle.keys.specs.Adjust.{KeySheet, joinedBy}
 use Rattle.keys.specs.Kept.{sheetPairs, FitsPairs, NothingFits}
 use Rattle.keys.proofs.Truths.{true-false}
 use Rattle.keys.proofs.Marked.{sortMerge}
-use Rattle.sheet.specs.Lines.{lineNumber, rowsOf, chain}
-use Rattle.sheet.specs.KeyLines.{undefinedExprs, over}
+use Rattle.linekinds.specs.Lines.{lineNumber, rowsOf, chain}
+use Rattle.linekinds.specs.KeyLines.{undefinedExprs, over}
 use Rattle.sheet.specs.KeySheets.{sheet, exprs, rulesOf, keyListsFit, readKeySheet}
 use Rattle.sheet.specs.KeyAnswers.{wrote, keyAnswerText}
 use Rattle.lochkave.specs.Decision.{decision}

@@ -14,7 +14,7 @@ use Rattle.text.specs.Lines.{firstOf}
 use Rattle.text.specs.Bounds.{fits, allowsAll}
 use Rattle.text.proofs.Examples.{bytes}
 use Rattle.keys.proofs.Truths.{true-false}
-use Rattle.sheet.specs.Lines.{lineNumber, rowsOf, chain}
+use Rattle.linekinds.specs.Lines.{lineNumber, rowsOf, chain}
 use Rattle.sheet.specs.KeySheets.{sheet}
 use Rattle.sheet.specs.KeyAnswers.{refused, wrote}
 use Rattle.exchange.specs.Rows.{rowOf as packedRow, flatten, grow}

@@ -9,7 +9,7 @@ use Rattle.text.specs.Text.{onto, parts, run, field, fields, lineFields}
 use Rattle.text.specs.Lines.{firstOf}
 use Rattle.text.specs.Bounds.{fits, allowsAll}
 use Rattle.text.proofs.Examples.{bytes}
-use Rattle.sheet.specs.Lines.{lineNumber, rowsOf, chain}
+use Rattle.linekinds.specs.Lines.{lineNumber, rowsOf, chain}
 use Rattle.sheet.specs.KeySheets.{sheet}
 use Rattle.sheet.specs.KeyAnswers.{wrote}
 use Rattle.exchange.specs.Trees.{node, none, _∷ᶠ_}

@@ -13,8 +13,8 @@ use Rattle.keys.specs.Reorder.{tryReorder}
 use Rattle.keys.specs.Expressions.{Expression, column, placeholder}
 use Rattle.keys.specs.Adjust.{KeySheet, KeyAnswer, adjustInputKeysOrdering}
 use Rattle.keys.proofs.Marked.{ordered}
-use Rattle.sheet.specs.Lines.{lineNumber, rowsOf, chain}
-use Rattle.sheet.specs.KeyLines.{undefinedExprs, over}
+use Rattle.linekinds.specs.Lines.{lineNumber, rowsOf, chain}
+use Rattle.linekinds.specs.KeyLines.{undefinedExprs, over}
 use Rattle.sheet.specs.KeySheets.{sheet, exprs, rulesOf, keyListsFit, readKeySheet}
 use Rattle.sheet.specs.KeyAnswers.{wrote, keyAnswerText, adjustDecision}
 use Rattle.lochkave.specs.Decision.{decision}

@@ -10,7 +10,7 @@ use Rattle.text.specs.Bounds.{fits, allowsAll}
 use Rattle.text.specs.Write.{digits, decimal, fieldText, fieldsText, lineText}
 use Rattle.text.proofs.Examples.{bytes}
 use Rattle.keys.proofs.Truths.{true-false}
-use Rattle.sheet.specs.Lines.{lineNumber, rowsOf, chain}
+use Rattle.linekinds.specs.Lines.{lineNumber, rowsOf, chain}
 use Rattle.sheet.specs.KeySheets.{sheet}
 use Rattle.sheet.specs.KeyAnswers.{wrote}
 use Rattle.exchange.specs.Rows.{rowOf as packedRow, flatten, grow}

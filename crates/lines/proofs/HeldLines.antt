@@ -11,11 +11,11 @@ use Rattle.text.specs.Write.{fieldsText, lineText}
 use Rattle.text.proofs.Lengths.{fields-append}
 use Rattle.keys.specs.Expressions.{expressions}
 use Rattle.keys.proofs.Shifts.{map-append}
+use Rattle.linekinds.specs.ListLines.{lineLetter, lineCodes}
+use Rattle.linekinds.specs.declared.kind.Codes.the-variants as C
+use Rattle.linekinds.specs.declared.lists.SheetKind.{SheetKind}
 use Rattle.sheet.specs.KeyAnswers.{numbersLine, exprNumbers}
 use Rattle.sheet.specs.Held.{heldAt, fieldNumbers, heldText}
-use Rattle.sheet.specs.ListLines.{lineLetter, lineCodes}
-use Rattle.sheet.specs.declared.kind.Codes.the-variants as C
-use Rattle.sheet.specs.declared.lists.SheetKind.{SheetKind}
 use Rattle.lines.proofs.Pieces.{pieces, joined}
 
 -- the letter, the mark, the expressions, the LF

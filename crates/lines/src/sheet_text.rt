@@ -8,11 +8,11 @@ use crate::line::put_expr_fields;
 use crate::line::put_exprs;
 use crate::line::put_number_fields;
 use crate::line::put_numbers;
+use linekinds::kind::Codes;
+use linekinds::lists::SheetKind;
+use linekinds::lists::line_codes;
+use linekinds::lists::line_letter;
 use sheet::held::held;
-use sheet::kind::Codes;
-use sheet::lists::SheetKind;
-use sheet::lists::line_codes;
-use sheet::lists::line_letter;
 use text::write::put_byte;
 
 // A mark, and expressions behind it.

@@ -5,7 +5,7 @@ use mathlib.Core.List.{List}
 use lib.Dec.{eqb}
 use lib.ListN.{getD}
 use Rattle.keys.proofs.Truths.{by-test}
-use Rattle.sheet.specs.Lines.{mostBytes}
+use Rattle.linekinds.specs.Lines.{mostBytes}
 use Rattle.sheet.proofs.AnswersFit.{Fits, adjust-fits, inputs-fits}
 use Rattle.plananswer.proofs.PlanAnswersFit.{room-suffices}
 use Rattle.plantheorems.proofs.PlanDecided.{plan-fits}

@@ -9,8 +9,8 @@ use Rattle.text.proofs.Examples.{bytes}
 use Rattle.text.specs.Write.{digits, decimal, fieldText, fieldsText, lineText}
 use Rattle.keys.specs.Reorder.{tryReorder}
 use Rattle.keys.specs.Adjust.{adjustInputKeysOrdering}
-use Rattle.sheet.specs.Lines.{lineNumber, rowsOf, chain}
-use Rattle.sheet.specs.KeyLines.{undefinedExprs, over}
+use Rattle.linekinds.specs.Lines.{lineNumber, rowsOf, chain}
+use Rattle.linekinds.specs.KeyLines.{undefinedExprs, over}
 use Rattle.sheet.specs.KeySheets.{exprs, rulesOf, keyListsFit, readKeySheet}
 use Rattle.sheet.specs.KeyAnswers.{wrote, keyAnswerText, adjustDecision}
 use Rattle.exchange.specs.Rows.{rowOf as packedRow, flatten, grow}

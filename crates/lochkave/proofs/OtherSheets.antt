@@ -10,7 +10,7 @@ use lib.ListN.{getD}
 use borrow.Author.Tests.{ne-eqb}
 use Rattle.text.specs.Text.{onto, parts, lineFields}
 use Rattle.text.specs.Lines.{firstOf}
-use Rattle.sheet.specs.Lines.{refused as turnedBack, lineNumber, rowsOf}
+use Rattle.linekinds.specs.Lines.{refused as turnedBack, lineNumber, rowsOf}
 use Rattle.sheet.specs.KeyAnswers.{refused}
 use Rattle.plansheet.specs.PlanLines.{settingsLine}
 use Rattle.plansheet.specs.PlanSheets.{readPlan}

@@ -10,8 +10,8 @@ use lib.Dec.{eqb, ltb}
 use borrow.Author.Tests.{eqb-true, ltb-false}
 use Rattle.text.specs.Text.{Field, parts}
 use Rattle.text.specs.Lines.{firstOf, nextOf}
-use Rattle.sheet.specs.Lines.{Kind, Run, read, refused, mostBytes, fieldsFit, tooManyEntries, lineNumber, before, fieldsOf, rowsOf, atEnd}
-use Rattle.sheet.specs.KeyLines.{values}
+use Rattle.linekinds.specs.Lines.{Kind, Run, read, refused, mostBytes, fieldsFit, tooManyEntries, lineNumber, before, fieldsOf, rowsOf, atEnd}
+use Rattle.linekinds.specs.KeyLines.{values}
 use Rattle.sheet.specs.KeySheets.{Reading, sheet, turned, headOf}
 use Rattle.sheet.proofs.Bounded.{number-few}
 use Rattle.exchange.specs.Trees.{Plan}

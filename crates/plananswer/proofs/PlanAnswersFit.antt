@@ -6,7 +6,7 @@ use native.Mathlib.Nat.{mul-le-mul-right}
 use native.Mathlib.Omega.{arith}
 use lib.ListN.{length}
 use borrow.Author.Tests.{le-ltb}
-use Rattle.sheet.specs.Lines.{mostBytes}
+use Rattle.linekinds.specs.Lines.{mostBytes}
 use Rattle.sheet.specs.KeyAnswers.{Outcome, refused, wrote}
 use Rattle.sheet.specs.Outcomes.{within}
 use Rattle.sheet.proofs.AnswersFit.{Fits}

@@ -11,7 +11,7 @@ use lib.ListN.{length}
 use borrow.Author.Tests.{eqb-true, eqb-false}
 use Rattle.text.specs.Text.{Field}
 use Rattle.text.specs.Lines.{firstOf, nextOf}
-use Rattle.sheet.specs.Lines.{Run, read, refused, before, lineNumber, fieldsOf, rowsOf}
+use Rattle.linekinds.specs.Lines.{Run, read, refused, before, lineNumber, fieldsOf, rowsOf}
 use Rattle.plansheet.specs.Shapes.{Shape, fixedLine}
 
 line·at :

@@ -15,7 +15,7 @@ use Rattle.exchange.specs.Rows.{rowOf as packedRow, flatten, grow}
 use Rattle.exchange.specs.Fit.{withinBits, allWithinBits, isRepeated, noneRepeated, childNumbered, rowsFit, factsFit}
 use Rattle.exchange.specs.Children.{removeDistChangingOperators}
 use Rattle.exchange.specs.States.{childrenFrom}
-use Rattle.sheet.specs.Lines.{lineNumber, rowsOf}
+use Rattle.linekinds.specs.Lines.{lineNumber, rowsOf}
 use Rattle.sheet.specs.KeySheets.{Reading, sheet, turned}
 use Rattle.plansheet.specs.Shapes.{overAny}
 use Rattle.plansheet.specs.PlanLines.{twoTo}

@@ -14,8 +14,8 @@ use Rattle.text.specs.Text.{Field, lineAt, line, lineFields, row, valueOf}
 use Rattle.text.specs.Read.{storedIn}
 use Rattle.text.proofs.Answers.{rows-held}
 use Rattle.text.proofs.Limits.{fits-length}
-use Rattle.sheet.specs.Lines.{Kind, mostBytes, fieldsFit, tooManyEntries, lineNumber}
-use Rattle.sheet.specs.KeyLines.{at, values}
+use Rattle.linekinds.specs.Lines.{Kind, mostBytes, fieldsFit, tooManyEntries, lineNumber}
+use Rattle.linekinds.specs.KeyLines.{at, values}
 use Rattle.sheet.proofs.KeyRows.{either-false}
 use Rattle.sheet.proofs.RowsAgain.{number·at}
 use Rattle.plansheet.specs.Shapes.{Shape, overAny, isNone, treeLine, childrenAt, mostChildren}

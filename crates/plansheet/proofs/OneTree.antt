@@ -10,7 +10,7 @@ use Rattle.text.specs.Text.{Field, number, empty, malformed}
 use Rattle.exchange.specs.Trees.{none, _∷ᶠ_, _++ᶠ_, trees, Plans}
 use Rattle.exchange.specs.Rows.{unpacked, childrenOf, operatorOf, rowOf, flatten, flattens, firsts, others, grow}
 use Rattle.exchange.proofs.TreeRows.{flattens-none, flattens-one, first-row}
-use Rattle.sheet.specs.Lines.{read, rowsOf}
+use Rattle.linekinds.specs.Lines.{read, rowsOf}
 use Rattle.plansheet.specs.Shapes.{Shape, treeLine, limitAt, childrenAt, mostChildren}
 use Rattle.plansheet.specs.PlanSheets.{operatorRow, operatorRows, firstPlan, planOf}
 use Rattle.plansheet.proofs.RunCases.{by-lines}

@@ -8,7 +8,7 @@ use mathlib.Core.Bool.{true, false}
 use lib.ListN.{length, getD, drop, set, length-map, List·getD-map, drop-of-length-le}
 use lib.Seq.{drop-cons, sets}
 use borrow.Author.Tests.{lt-ltb, le-ltb}
-use Rattle.sheet.specs.Reading.{rowValue, rowValues}
+use Rattle.linekinds.specs.Reading.{rowValue, rowValues}
 use Rattle.plansheet.specs.Shapes.{overAny}
 
 none-over : (ms : List ℕ) → overAny ms [] ≡ false

@@ -21,7 +21,7 @@ use Rattle.exchange.proofs.Stored.{past, first-at}
 use Rattle.exchange.proofs.TreeRows.{flatten-node, row-children}
 use Rattle.exchange.proofs.WorkedNode.{worked-at}
 use Rattle.text.specs.Text.{Field}
-use Rattle.sheet.specs.KeyLines.{values}
+use Rattle.linekinds.specs.KeyLines.{values}
 use Rattle.plansheet.specs.PlanLines.{twoTo}
 use Rattle.plansheet.specs.PlanSheets.{FactLines, childrenRows, factRows, factsOf, childCount, beneath}
 use Rattle.plansheet.specs.ReadRows.{numberRows}

@@ -20,8 +20,8 @@ use Rattle.exchange.specs.Fit.{factsFit}
 use Rattle.exchange.specs.Rows.{childrenOf, flatten}
 use Rattle.exchange.specs.Worked.{removed}
 use Rattle.exchange.specs.Found.{indexOf}
-use Rattle.sheet.specs.Lines.{Run, read, refused, before, lineNumber, fieldsOf, rowsOf}
-use Rattle.sheet.specs.KeyLines.{values}
+use Rattle.linekinds.specs.Lines.{Run, read, refused, before, lineNumber, fieldsOf, rowsOf}
+use Rattle.linekinds.specs.KeyLines.{values}
 use Rattle.sheet.specs.KeySheets.{Reading, sheet, turned, headOf}
 use Rattle.plansheet.specs.Shapes.{Shape, fixedLine}
 use Rattle.plansheet.specs.PlanLines.{settingsShape, settingsLine, treeShape, childRules, mostLines, planLine, twoTo}

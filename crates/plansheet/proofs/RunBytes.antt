@@ -13,7 +13,7 @@ use Rattle.text.specs.Text.{Field, parts, onto, field, most, fields, lineFields
 use Rattle.text.specs.Bounds.{Bound, allows, fits}
 use Rattle.text.specs.Lines.{firstOf}
 use Rattle.text.proofs.Exact.{both}
-use Rattle.sheet.specs.Lines.{Kind, Run, read, refused, lineNumber, rowsOf}
+use Rattle.linekinds.specs.Lines.{Kind, Run, read, refused, lineNumber, rowsOf}
 use Rattle.sheet.specs.KeySheets.{sheet, headOf}
 use Rattle.plansheet.specs.PlanLines.{planLine, nodeLine, childLine, factLine, treeShape, factShape}
 use Rattle.plansheet.specs.PlanSheets.{FactLines, withRows, readMasks, readChildren, readFacts}

@@ -10,7 +10,7 @@ use lib.Dec.{eqb}
 use borrow.Author.Tests.{eqb-true}
 use Rattle.text.specs.Text.{Field}
 use Rattle.text.specs.Lines.{firstOf, nextOf}
-use Rattle.sheet.specs.Lines.{Kind, Run, read, refused, before, lineNumber, fieldsOf, rowsOf}
+use Rattle.linekinds.specs.Lines.{Kind, Run, read, refused, before, lineNumber, fieldsOf, rowsOf}
 
 -- one line: the run ends before it, or it is a row and the run goes on
 data Cases (a b : Bool) (fs : List Field) (r : Run) (ls : List (List ℕ)) (line at : ℕ) (rs : List (List Field)) (rest : List (List ℕ)) (l p : ℕ) : Type 0 where

@@ -22,11 +22,11 @@ use Rattle.text.specs.Read.{lineRead}
 use Rattle.text.specs.declared.line.Line.the-variants as LL
 use Rattle.text.proofs.Answers.{Opened, wrong-none, Passed, failed, judged-none}
 use Rattle.text.proofs.Limits.{fits-rows, fits-length, all-largest}
-use Rattle.sheet.specs.Lines.{Kind, plain, mostBytes, mostEntries, fieldsFit, tooManyEntries, lineNumber}
-use Rattle.sheet.specs.KeyLines.{at, values}
-use Rattle.sheet.specs.Reading.{rowValues, readBy}
-use Rattle.sheet.specs.declared.line.Read.the-variants.{Line, Refused}
-use Rattle.sheet.proofs.ReadLines.{row-values}
+use Rattle.linekinds.specs.Lines.{Kind, plain, mostBytes, mostEntries, fieldsFit, tooManyEntries, lineNumber}
+use Rattle.linekinds.specs.KeyLines.{at, values}
+use Rattle.linekinds.specs.Reading.{rowValues, readBy}
+use Rattle.linekinds.specs.declared.line.Read.the-variants.{Line, Refused}
+use Rattle.linekinds.proofs.ReadLines.{row-values}
 use Rattle.plansheet.specs.Shapes.{Shape, plainShape, overAny, fixedLine, comingLine, treeLine, exchangeLimited, ruleFits, mostChildren}
 use Rattle.plansheet.specs.ReadRows.{boundOf, Bounded, shapeOf, judgedNumber, shapeNumber, masksNumber, treeNumber, valueAt, stateAt, fieldsRow}
 use Rattle.plansheet.specs.PlanLines.{twoTo, maskLine}

@@ -14,11 +14,11 @@ use Rattle.text.specs.Bounds.{Bound, boundRow}
 use Rattle.text.specs.Lines.{firstOf}
 use Rattle.text.specs.Read.{storedIn}
 use Rattle.text.proofs.Places.{bridge, after-next, after-within, after-lines}
-use Rattle.sheet.specs.Lines.{Run, read, refused, lineNumber, atEnd}
-use Rattle.sheet.specs.KeyLines.{values}
-use Rattle.sheet.specs.Reading.{readBy, rowValues}
-use Rattle.sheet.specs.declared.line.Read.the-variants as L
-use Rattle.sheet.proofs.ReadLines.{row-values}
+use Rattle.linekinds.specs.Lines.{Run, read, refused, lineNumber, atEnd}
+use Rattle.linekinds.specs.KeyLines.{values}
+use Rattle.linekinds.specs.Reading.{readBy, rowValues}
+use Rattle.linekinds.specs.declared.line.Read.the-variants as L
+use Rattle.linekinds.proofs.ReadLines.{row-values}
 use Rattle.plansheet.specs.Shapes.{Shape, fixedLine}
 use Rattle.plansheet.specs.ReadRows.{boundOf, rowsBy, runFrom, Left, Leaves}
 use Rattle.plansheet.specs.declared.tree.Rows.the-variants as R

@@ -14,9 +14,9 @@ use borrow.Author.Tests.{eqb-true, eqb-false, ne-eqb}
 use Rattle.text.specs.Text.{Field, parts, lineAt, after}
 use Rattle.text.specs.Lines.{firstOf, nextOf}
 use Rattle.text.proofs.Places.{bridge, after-next, after-within, after-lines}
-use Rattle.sheet.specs.Lines.{Kind, Run, read, refused, before, behind, lineNumber, fieldsOf, rowsOf}
-use Rattle.sheet.specs.Reading.{readBy}
-use Rattle.sheet.specs.declared.line.Read.the-variants as L
+use Rattle.linekinds.specs.Lines.{Kind, Run, read, refused, before, behind, lineNumber, fieldsOf, rowsOf}
+use Rattle.linekinds.specs.Reading.{readBy}
+use Rattle.linekinds.specs.declared.line.Read.the-variants as L
 use Rattle.plansheet.specs.declared.tree.Rows.the-variants as R
 use Rattle.plansheet.specs.ReadRows.{rowsBy, Left}
 

@@ -10,11 +10,11 @@ use lib.ListN.{length, drop}
 use lib.Seq.{sets}
 use Rattle.text.specs.Text.{Field, parts, lineAt, after}
 use Rattle.text.proofs.Places.{bridge}
-use Rattle.sheet.specs.Lines.{Run, read, refused, lineNumber, fieldsOf, rowsOf, atEnd}
-use Rattle.sheet.specs.KeyLines.{values}
+use Rattle.linekinds.specs.Lines.{Run, read, refused, lineNumber, fieldsOf, rowsOf, atEnd}
+use Rattle.linekinds.specs.KeyLines.{values}
+use Rattle.linekinds.specs.Reading.{readBy}
+use Rattle.linekinds.specs.declared.line.Read.the-variants as L
 use Rattle.sheet.specs.KeySheets.{Reading, sheet, turned, headOf}
-use Rattle.sheet.specs.Reading.{readBy}
-use Rattle.sheet.specs.declared.line.Read.the-variants as L
 use Rattle.plansheet.specs.PlanLines.{settingsShape, settingsLine, nodeShape, nodeLine, childLine, factLine, maskShape, maskLine, planLine, twoTo}
 use Rattle.plansheet.specs.PlanSheets.{FactLines, operatorRows, withRows, readMasks, readChildren, readFacts}
 use Rattle.plansheet.specs.ReadRows.{numberRows, runFrom, Left}

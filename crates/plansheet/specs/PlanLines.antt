@@ -5,7 +5,7 @@ use mathlib.Core.List.{List, [], _∷_}
 use mathlib.Core.Bool.{true, false}
 use lib.ListN.{replicate}
 use Rattle.text.specs.Bounds.{Bound}
-use Rattle.sheet.specs.Lines.{Kind, plain}
+use Rattle.linekinds.specs.Lines.{Kind, plain}
 use Rattle.plansheet.specs.Shapes.{Shape, fixedLine, comingLine, treeLine}
 
 -- "row counts and limits are 0..4294967295"; "only limits may be empty"

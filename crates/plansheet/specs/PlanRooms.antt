@@ -9,7 +9,7 @@ use Rattle.exchange.specs.Rows.{flatten}
 use Rattle.exchange.specs.Worked.{removed}
 use Rattle.exchange.specs.FactRows.{nodeFacts, childFacts, factRow}
 use Rattle.exchange.specs.Found.{indexOf}
-use Rattle.sheet.specs.KeyLines.{values}
+use Rattle.linekinds.specs.KeyLines.{values}
 use Rattle.sheet.specs.KeySheets.{Reading, sheet, turned}
 use Rattle.plansheet.specs.PlanLines.{twoTo}
 use Rattle.plansheet.specs.PlanSheets.{PlanSheet, FactLines, childCount}

@@ -15,8 +15,8 @@ use Rattle.exchange.specs.Facts.{ChildFacts, Row, Facts}
 use Rattle.exchange.specs.FactRows.{nodeFacts, childFacts, factRow}
 use Rattle.exchange.specs.Children.{removeDistChangingOperators}
 use Rattle.exchange.specs.Fit.{factsFit}
-use Rattle.sheet.specs.Lines.{Run, read, refused, rowsOf, atEnd}
-use Rattle.sheet.specs.KeyLines.{at, values}
+use Rattle.linekinds.specs.Lines.{Run, read, refused, rowsOf, atEnd}
+use Rattle.linekinds.specs.KeyLines.{at, values}
 use Rattle.sheet.specs.KeySheets.{Reading, sheet, turned, headOf}
 use Rattle.plansheet.specs.Shapes.{limitAt}
 use Rattle.plansheet.specs.PlanLines.{settingsLine, planLine, nodeLine, childLine, factLine, maskLine}

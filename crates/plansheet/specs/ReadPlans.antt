@@ -6,8 +6,8 @@ use lib.ListN.{length}
 use lib.Seq.{sets}
 use Rattle.text.specs.Text.{Field, parts}
 use Rattle.text.specs.Lines.{firstOf}
-use Rattle.sheet.specs.Lines.{Run, read, refused, rowsOf, fieldsOf}
-use Rattle.sheet.specs.KeyLines.{values}
+use Rattle.linekinds.specs.Lines.{Run, read, refused, rowsOf, fieldsOf}
+use Rattle.linekinds.specs.KeyLines.{values}
 use Rattle.sheet.specs.KeySheets.{Reading, sheet, turned}
 use Rattle.plansheet.specs.PlanLines.{settingsLine, planLine, twoTo}
 use Rattle.plansheet.specs.PlanSheets.{FactLines, operatorRows}

@@ -10,9 +10,9 @@ use Rattle.text.specs.Text.{Field, parts}
 use Rattle.text.specs.Bounds.{Bound, boundRow}
 use Rattle.text.specs.declared.bounds.Judged.{Judged}
 use Rattle.text.specs.declared.bounds.Judged.the-variants as J
-use Rattle.sheet.specs.Lines.{Kind, Run, read, refused, mostBytes, rowsOf}
-use Rattle.sheet.specs.KeyLines.{values}
-use Rattle.sheet.specs.Reading.{rowValues}
+use Rattle.linekinds.specs.Lines.{Kind, Run, read, refused, mostBytes, rowsOf}
+use Rattle.linekinds.specs.KeyLines.{values}
+use Rattle.linekinds.specs.Reading.{rowValues}
 use Rattle.plansheet.specs.Shapes.{Shape, overAny, exchangeLimited, ruleFits, mostChildren}
 use Rattle.plansheet.specs.declared.tree.Rows.{Rows}
 use Rattle.plansheet.specs.declared.tree.Rows.the-variants as R

@@ -8,8 +8,8 @@ use lib.Dec.{eqb, leb, ltb}
 use lib.ListN.{length, getD, replicate}
 use Rattle.text.specs.Text.{Field, number, stateOf}
 use Rattle.text.specs.Bounds.{Bound}
-use Rattle.sheet.specs.Lines.{Kind, plain, counted, oneLess, never}
-use Rattle.sheet.specs.KeyLines.{at, values}
+use Rattle.linekinds.specs.Lines.{Kind, plain, counted, oneLess, never}
+use Rattle.linekinds.specs.KeyLines.{at, values}
 
 -- the letter; a bound for each field; the most of the first fields, and the last codes of the first fields
 pub record Shape : Type 0 where

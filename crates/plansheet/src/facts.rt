@@ -3,7 +3,7 @@ ghost use mathlib.Core.Path.{_≡_};
 ghost use Prim.Native.Nat.{_+_, _≤_};
 ghost use lib.ListN.{length, set};
 ghost use lib.Seq.{sets};
-ghost use Rattle.sheet.specs.Reading.{rowValues};
+ghost use Rattle.linekinds.specs.Reading.{rowValues};
 ghost use Rattle.plansheet.specs.PlanLines.{childLine, factLine};
 ghost use Rattle.plansheet.specs.ReadRows.{valuesFrom, numberRows, rowsBy, Left, runFrom};
 use crate::line::child_line;
@@ -12,7 +12,7 @@ use crate::shape::number_of;
 use crate::tree::Rows;
 use exchange::fact::FactRow;
 use exchange::status::ChildRow;
-use sheet::line::Read;
+use linekinds::line::Read;
 
 // An F line's numbers.
 fn child_row(fields: &[[u64; 2]]) -> ChildRow

@@ -4,14 +4,14 @@ ghost use Prim.Native.Nat.{ℕ, _≤_};
 ghost use lib.ListN.{length, drop};
 ghost use Rattle.text.specs.Text.{line, lineFields, lineAt, after};
 ghost use Rattle.text.specs.Read.{storedIn};
-ghost use Rattle.sheet.specs.Lines.{lineNumber};
-ghost use Rattle.sheet.specs.Reading.{readBy};
+ghost use Rattle.linekinds.specs.Lines.{lineNumber};
+ghost use Rattle.linekinds.specs.Reading.{readBy};
 ghost use Rattle.plansheet.specs.Shapes.{fixedLine, plainShape};
 ghost use Rattle.plansheet.specs.PlanLines.{settingsLine, nodeLine, childLine, factLine, maskLine, twoTo};
 ghost use Rattle.plansheet.specs.ReadRows.{masksNumber};
 use crate::shape::over_any;
 use crate::shape::shaped_line;
-use sheet::line::Read;
+use linekinds::line::Read;
 use text::line::Line;
 use text::line::line_at;
 

@@ -21,7 +21,7 @@ use crate::tree::read_tree;
 use exchange::fact::FactRow;
 use exchange::row::Row;
 use exchange::status::ChildRow;
-use sheet::line::Read;
+use linekinds::line::Read;
 
 const PLAIN: u64 = 65535;
 

@@ -4,12 +4,12 @@ ghost use Prim.Native.Nat.{ℕ, _≤_};
 ghost use lib.ListN.{length, drop};
 ghost use Rattle.text.specs.Text.{line, lineFields, lineAt, after};
 ghost use Rattle.text.specs.Read.{storedIn};
-ghost use Rattle.sheet.specs.Lines.{lineNumber};
-ghost use Rattle.sheet.specs.Reading.{rowValues, readBy};
-ghost use Rattle.sheet.specs.ListLines.{numberOf};
+ghost use Rattle.linekinds.specs.Lines.{lineNumber};
+ghost use Rattle.linekinds.specs.Reading.{rowValues, readBy};
+ghost use Rattle.linekinds.specs.ListLines.{numberOf};
 ghost use Rattle.plansheet.specs.Shapes.{overAny, fixedLine};
 ghost use Rattle.plansheet.specs.ReadRows.{Bounded, shapeOf, judgedNumber, shapeNumber};
-use sheet::line::Read;
+use linekinds::line::Read;
 use text::bounds::Judged;
 use text::bounds::fixed_at;
 

@@ -10,7 +10,7 @@ use lib.ListN.{length, length-append}
 use Rattle.text.specs.Text.{Field, parts}
 use Rattle.text.specs.Lines.{firstOf}
 use Rattle.text.specs.Write.{lineText}
-use Rattle.sheet.specs.Lines.{Run, read, refused, mostBytes, rowsOf, atEnd}
+use Rattle.linekinds.specs.Lines.{Run, read, refused, mostBytes, rowsOf, atEnd}
 use Rattle.sheet.specs.KeySheets.{Reading, sheet, turned, headOf}
 use Rattle.sheet.specs.Sizes.{Each}
 use Rattle.sheet.proofs.InTurn.{Fine}

@@ -12,12 +12,12 @@ use Rattle.text.specs.Text.{Field, number, empty, malformed, valueOf}
 use Rattle.text.specs.Bounds.{Bound, allows, fits}
 use Rattle.text.proofs.Exact.{both}
 use Rattle.text.proofs.Limits.{fits-length}
-use Rattle.sheet.specs.Lines.{Kind, tooManyEntries, mostEntries}
-use Rattle.sheet.specs.KeyLines.{at, values}
+use Rattle.linekinds.specs.Lines.{Kind, tooManyEntries, mostEntries}
+use Rattle.linekinds.specs.KeyLines.{at, values}
+use Rattle.linekinds.proofs.LineNumbers.{at-value}
 use Rattle.sheet.proofs.InTurn.{Fine}
 use Rattle.sheet.proofs.KeyRows.{either-false}
 use Rattle.sheet.proofs.Numbers.{filled, row-numbers}
-use Rattle.sheet.proofs.LineNumbers.{at-value}
 use Rattle.sheet.proofs.LegalRows.{values-numbers}
 use Rattle.plansheet.specs.Shapes.{Shape, overAny, fixedLine}
 use Rattle.plansheet.specs.PlanTexts.{numberFields}

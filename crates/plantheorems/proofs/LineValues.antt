@@ -15,8 +15,8 @@ use Rattle.exchange.specs.declared.settings.Settings.{Settings}
 use Rattle.exchange.specs.Settings.{leastTarget, mostTarget, leastBatch, settingsFit}
 use Rattle.exchange.specs.Facts.{NodeFacts, ChildFacts, Row}
 use Rattle.exchange.specs.FactRows.{nodeFacts, childFacts, factRow}
-use Rattle.sheet.specs.Lines.{plain}
-use Rattle.sheet.specs.KeyLines.{values}
+use Rattle.linekinds.specs.Lines.{plain}
+use Rattle.linekinds.specs.KeyLines.{values}
 use Rattle.sheet.specs.LegalSheets.{Small}
 use Rattle.sheet.specs.Sizes.{Each}
 use Rattle.sheet.proofs.InTurn.{Fine}

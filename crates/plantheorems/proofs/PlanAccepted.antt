@@ -12,11 +12,11 @@ use Rattle.text.specs.Write.{lineText}
 use Rattle.exchange.specs.Trees.{Plan}
 use Rattle.exchange.specs.Settings.{settingsFit}
 use Rattle.exchange.specs.Fit.{factsFit}
-use Rattle.sheet.specs.Lines.{mostBytes, rowsOf}
+use Rattle.linekinds.specs.Lines.{mostBytes, rowsOf}
 use Rattle.sheet.specs.KeySheets.{Reading, sheet, turned, headOf}
 use Rattle.sheet.proofs.InTurn.{Fine}
 use Rattle.plansheet.specs.PlanLines.{settingsShape, settingsLine, planLine}
-use Rattle.sheet.specs.KeyLines.{values}
+use Rattle.linekinds.specs.KeyLines.{values}
 use Rattle.plansheet.specs.PlanSheets.{PlanSheet, FactLines, planOf, childCount, withRows, readFacts, planSheet, judgedPlan, withFacts, readPlan, settingsOf}
 use Rattle.plansheet.specs.PlanTexts.{linesText}
 use Rattle.plantheorems.proofs.Runs.{Legal, Ran, run-written, run-read}

@@ -14,7 +14,7 @@ use Rattle.text.specs.Lines.{firstOf}
 use Rattle.text.specs.Write.{fieldsText, lineText}
 use Rattle.text.proofs.Places.{first-cons}
 use Rattle.text.proofs.RoundTrip.{parts-line}
-use Rattle.sheet.specs.Lines.{read, mostBytes, plain, rowsOf}
+use Rattle.linekinds.specs.Lines.{read, mostBytes, plain, rowsOf}
 use Rattle.sheet.specs.KeySheets.{headOf}
 use Rattle.sheet.specs.Sizes.{Each}
 use Rattle.sheet.proofs.InTurn.{readable, Fine}

@@ -9,7 +9,7 @@ use mathlib.Core.Option.{Option}
 use lib.ListN.{length, getD, drop}
 use Rattle.text.specs.Text.{Field, parts}
 use Rattle.text.specs.Lines.{firstOf}
-use Rattle.sheet.specs.Lines.{Kind, atEnd}
+use Rattle.linekinds.specs.Lines.{Kind, atEnd}
 use Rattle.sheet.specs.Refusals.{conditions, Lowest, NoCondition, placeAfter}
 use Rattle.sheet.proofs.Lowest.{number-exactly, no-number-exactly}
 use Rattle.sheet.proofs.Decided.{number-at, number-after}

@@ -11,13 +11,13 @@ use lib.ListN.{length, drop}
 use Rattle.text.specs.Text.{Field, parts}
 use Rattle.text.specs.Lines.{firstOf}
 use Rattle.exchange.specs.Trees.{Plan}
-use Rattle.sheet.specs.Lines.{Kind, Run, read, refused, rowsOf, fieldsOf, atEnd}
+use Rattle.linekinds.specs.Lines.{Kind, Run, read, refused, rowsOf, fieldsOf, atEnd}
 use Rattle.sheet.specs.KeySheets.{Reading, sheet, turned, headOf, ended}
 use Rattle.sheet.specs.SheetLines.{inTurn}
 use Rattle.sheet.specs.Refusals.{lineRows, NoLine, FirstLine, TurnedBack}
 use Rattle.sheet.proofs.Refused.{judged, turn-judged, refused-exactly, accepted-exactly}
 use Rattle.plansheet.specs.PlanLines.{settingsShape, settingsLine, planLine, nodeShape, nodeLine, childLine, factLine, maskShape, maskLine}
-use Rattle.sheet.specs.KeyLines.{values}
+use Rattle.linekinds.specs.KeyLines.{values}
 use Rattle.plansheet.specs.PlanSheets.{PlanSheet, FactLines, planOf, childCount, withRows, readMasks, readChildren, readFacts, planSheet, judgedPlan, withFacts, readPlan, settingsOf}
 use Rattle.plantheorems.specs.RunKinds.{runKinds}
 use Rattle.plantheorems.specs.PlanRefusals.{factKinds, factLinesIn, treeKinds, planIn, afterTree, planKinds, planNumbers, planSheetIn, planSettingsFit, planFactsFit, PlanTurned}

@@ -13,9 +13,9 @@ use Rattle.exchange.specs.Facts.{Facts}
 use Rattle.exchange.specs.Settings.{settingsFit}
 use Rattle.exchange.specs.Fit.{factsFit}
 use Rattle.exchange.specs.Sizes.{lines}
+use Rattle.linekinds.specs.KeyLines.{values}
 use Rattle.sheet.specs.KeySheets.{sheet}
 use Rattle.sheet.proofs.LegalRows.{values-numbers}
-use Rattle.sheet.specs.KeyLines.{values}
 use Rattle.plansheet.specs.PlanSheets.{PlanSheet, FactLines, planOf, childCount, factsOf, planSheet, judgedPlan, readPlan, settingsOf}
 use Rattle.plansheet.specs.PlanTexts.{numberFields, settingsNumbers, treeRows, nodeNumbers, childFields, factFields, linesText, factsText, planText}
 use Rattle.text.specs.Write.{lineText}

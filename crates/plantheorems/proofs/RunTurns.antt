@@ -9,7 +9,7 @@ use lib.Dec.{eqb}
 use lib.ListN.{length, drop}
 use Rattle.text.specs.Text.{Field}
 use Rattle.text.specs.Lines.{firstOf, nextOf}
-use Rattle.sheet.specs.Lines.{Kind, Run, read, refused, before, lineNumber, fieldsOf, rowsOf}
+use Rattle.linekinds.specs.Lines.{Kind, Run, read, refused, before, lineNumber, fieldsOf, rowsOf}
 use Rattle.sheet.specs.KeySheets.{Reading, ended}
 use Rattle.sheet.specs.SheetLines.{inTurn}
 use Rattle.sheet.specs.Refusals.{lineRows}

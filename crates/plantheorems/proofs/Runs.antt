@@ -12,7 +12,7 @@ use Rattle.text.specs.Text.{Field, parts, after}
 use Rattle.text.specs.Lines.{firstOf, nextOf}
 use Rattle.text.specs.Write.{fieldsText, lineText}
 use Rattle.text.proofs.RoundTrip.{first-back}
-use Rattle.sheet.specs.Lines.{Kind, read, before, mostBytes, lineNumber, rowsOf}
+use Rattle.linekinds.specs.Lines.{Kind, read, before, mostBytes, lineNumber, rowsOf}
 use Rattle.sheet.proofs.InTurn.{readable, Counted, Fine}
 use Rattle.sheet.proofs.RowsAgain.{fine-wide, not-turned, lines-of, next-of, text-of}
 use Rattle.plansheet.specs.PlanTexts.{linesText}

@@ -17,7 +17,7 @@ use Rattle.exchange.specs.Operators.{track}
 use Rattle.exchange.specs.Children.{isRemoved, updateEach, removeDistChangingOperators, removeAbove}
 use Rattle.exchange.specs.Partitioning.{workedOf}
 use Rattle.exchange.proofs.Grown.{one-tree as same-tree}
-use Rattle.sheet.specs.Lines.{read, rowsOf}
+use Rattle.linekinds.specs.Lines.{read, rowsOf}
 use Rattle.sheet.specs.Sizes.{Each}
 use Rattle.plansheet.specs.PlanLines.{treeShape, childRules, mostLines, planLine}
 use Rattle.plansheet.specs.PlanSheets.{operatorRows, planOf, childCount}

@@ -16,8 +16,8 @@ use Rattle.text.proofs.Limits.{fits-length}
 use Rattle.exchange.specs.Trees.{Operator}
 use Rattle.exchange.specs.Operators.{isPresent}
 use Rattle.exchange.specs.Rows.{limitMark, limitNumber, limitOf, rowOf}
-use Rattle.sheet.specs.Lines.{plain}
-use Rattle.sheet.specs.KeyLines.{at, values}
+use Rattle.linekinds.specs.Lines.{plain}
+use Rattle.linekinds.specs.KeyLines.{at, values}
 use Rattle.sheet.proofs.InTurn.{Fine}
 use Rattle.sheet.proofs.KeyRows.{either-false}
 use Rattle.sheet.proofs.Numbers.{spelled, spelled-out}

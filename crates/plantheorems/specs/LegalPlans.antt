@@ -12,7 +12,7 @@ use Rattle.exchange.specs.Operators.{hasLimit}
 use Rattle.exchange.specs.Facts.{NodeFacts, ChildFacts, Row, Facts}
 use Rattle.exchange.specs.Fit.{factsFit}
 use Rattle.exchange.specs.Sizes.{lines}
-use Rattle.sheet.specs.Lines.{mostBytes}
+use Rattle.linekinds.specs.Lines.{mostBytes}
 use Rattle.sheet.specs.LegalSheets.{Small}
 use Rattle.sheet.specs.Sizes.{Each}
 use Rattle.plansheet.specs.PlanLines.{twoTo}

@@ -11,10 +11,10 @@ use Rattle.text.specs.Lines.{firstOf}
 use Rattle.exchange.specs.Trees.{Plan}
 use Rattle.exchange.specs.Settings.{settingsFit}
 use Rattle.exchange.specs.Fit.{factsFit}
-use Rattle.sheet.specs.Lines.{Kind, fieldsOf}
+use Rattle.linekinds.specs.Lines.{Kind, fieldsOf}
 use Rattle.sheet.specs.Refusals.{lineNumbers, lineRows, NoLine, FirstLine}
 use Rattle.plansheet.specs.PlanLines.{settingsLine, planLine, nodeLine, childLine, factLine, maskLine}
-use Rattle.sheet.specs.KeyLines.{values}
+use Rattle.linekinds.specs.KeyLines.{values}
 use Rattle.plansheet.specs.PlanSheets.{PlanSheet, FactLines, planOf, childCount, planSheet, settingsOf}
 use Rattle.plantheorems.specs.RunKinds.{runKinds}
 

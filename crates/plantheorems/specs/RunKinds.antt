@@ -6,7 +6,7 @@ use mathlib.Core.Bool.{cond}
 use mathlib.Core.Option.{Option, none}
 use Rattle.text.specs.Text.{Field}
 use Rattle.text.specs.Lines.{firstOf}
-use Rattle.sheet.specs.Lines.{Kind, fieldsOf, counted, oneLess}
+use Rattle.linekinds.specs.Lines.{Kind, fieldsOf, counted, oneLess}
 
 -- a line of the kind that has `seen` others of its run before it, by itself
 abbrev pub placed : Kind → ℕ → Kind

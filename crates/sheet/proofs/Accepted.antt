@@ -9,7 +9,7 @@ use Rattle.text.specs.Text.{Field, parts}
 use Rattle.text.specs.Lines.{firstOf}
 use Rattle.text.proofs.RoundTrip.{first-back}
 use Rattle.text.proofs.WrittenBack.{led, led-parts}
-use Rattle.sheet.specs.Lines.{Kind, Stage, Run, read, refused, mostBytes, fieldsOf, rowsOf, atEnd}
+use Rattle.linekinds.specs.Lines.{Kind, Stage, Run, read, refused, mostBytes, fieldsOf, rowsOf, atEnd}
 use Rattle.sheet.specs.KeySheets.{Reading, sheet, turned, ended}
 use Rattle.sheet.specs.Sizes.{Each}
 use Rattle.sheet.specs.Refusals.{kindsOf}

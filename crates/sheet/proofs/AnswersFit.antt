@@ -14,7 +14,7 @@ use Rattle.text.proofs.Lengths.{line-bound, all-short}
 use Rattle.keys.specs.Expressions.{Expression, sameExpr}
 use Rattle.keys.specs.Adjust.{KeySheet, KeyAnswer, Projected, Adjustment, answered, nameNotFound, adjustInputKeysOrdering}
 use Rattle.keys.specs.Inputs.{JoinSheet, JoinAnswer, reorderJoinKeysToInputs}
-use Rattle.sheet.specs.Lines.{mostBytes}
+use Rattle.linekinds.specs.Lines.{mostBytes}
 use Rattle.sheet.specs.KeySheets.{Reading, sheet, turned, readKeySheet, readJoinSheet}
 use Rattle.sheet.specs.KeyAnswers.{Outcome, refused, wrote, numbersLine, exprNumbers, exprsLine, projectedNumbers, childLines, keyAnswerText, joinAnswerText, adjusted, keyOutcome, joinOutcome, adjustDecision, inputsDecision}
 use Rattle.sheet.specs.Sizes.{Each, Few, Within, PlacedWithin, NumberList, ExprList, InputList, SizedKeySheet, SizedKeyAnswer, SizedJoinSheet, SizedJoinAnswer, lineMost, keyAnswerMost, joinAnswerMost}

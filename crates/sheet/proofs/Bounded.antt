@@ -11,11 +11,11 @@ use lib.Dec.{eqb, ltb}
 use lib.ListN.{length, drop}
 use Rattle.text.specs.Text.{Field, parts}
 use Rattle.text.specs.Lines.{firstOf, nextOf}
-use Rattle.sheet.specs.Lines.{Kind, Run, read, refused, before, mostBytes, fieldsFit, tooManyEntries, lineNumber, fieldsOf, atEnd}
-use Rattle.sheet.specs.KeyLines.{at, keyLine}
+use Rattle.linekinds.specs.Lines.{Kind, Run, read, refused, before, mostBytes, fieldsFit, tooManyEntries, lineNumber, fieldsOf, atEnd}
+use Rattle.linekinds.specs.KeyLines.{at, keyLine}
+use Rattle.linekinds.specs.declared.lists.SheetKind.the-variants.{Key, Join}
 use Rattle.sheet.specs.KeySheets.{Reading, sheet, turned, ended, keyListsFit, keySheetOf, keyWhole, joinListsFit, joinSheetOf, joinWhole, headOf, readKeySheet, readJoinSheet}
 use Rattle.sheet.specs.SheetLines.{inTurn, lineKinds, wholeLines}
-use Rattle.sheet.specs.declared.lists.SheetKind.the-variants.{Key, Join}
 use Rattle.sheet.proofs.Chained.{wholeRows}
 use Rattle.sheet.proofs.KeyAccepted.{stagesOfKey, stagesOfInput}
 use Rattle.sheet.proofs.HeldRows.{kinds-long}

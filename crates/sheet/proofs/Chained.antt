@@ -10,7 +10,7 @@ use lib.ListN.{drop, replicate}
 use borrow.Author.Tests.{ne-eqb}
 use Rattle.text.specs.Text.{Field}
 use Rattle.text.specs.Lines.{firstOf, nextOf}
-use Rattle.sheet.specs.Lines.{Kind, Stage, Run, read, refused, before, behind, onward, lineNumber, fieldsOf, rowsOf, chain}
+use Rattle.linekinds.specs.Lines.{Kind, Stage, Run, read, refused, before, behind, onward, lineNumber, fieldsOf, rowsOf, chain}
 use Rattle.sheet.specs.KeySheets.{Reading, turned, ended, headOf}
 use Rattle.sheet.specs.Sizes.{Each}
 use Rattle.sheet.specs.Refusals.{kindsOf}

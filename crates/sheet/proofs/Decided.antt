@@ -10,7 +10,7 @@ use Rattle.text.specs.Lines.{firstOf, nextOf}
 use Rattle.keys.specs.Expressions.{sameExpr}
 use Rattle.keys.specs.Adjust.{KeySheet, Adjustment, answered, nameNotFound, adjustInputKeysOrdering}
 use Rattle.keys.specs.Inputs.{JoinSheet}
-use Rattle.sheet.specs.Lines.{Kind, lineNumber, atEnd}
+use Rattle.linekinds.specs.Lines.{Kind, lineNumber, atEnd}
 use Rattle.sheet.specs.KeySheets.{Reading, sheet, turned, keyListsFit, readKeySheet, readJoinSheet}
 use Rattle.sheet.specs.KeyAnswers.{refused, adjusted, keyOutcome, joinOutcome, adjustDecision, inputsDecision}
 use Rattle.sheet.specs.Refusals.{lineNumbers, placeAfter, TurnedBack, keyNumbers, keySheetIn, NameMissing, joinNumbers, joinFits}

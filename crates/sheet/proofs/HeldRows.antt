@@ -11,14 +11,14 @@ use lib.Dec.{eqb}
 use lib.ListN.{length, replicate}
 use Rattle.text.specs.Text.{Field, parts}
 use Rattle.text.specs.Lines.{firstOf, nextOf}
-use Rattle.sheet.specs.Lines.{Kind, Run, read, refused, before, lineNumber, fieldsOf}
-use Rattle.sheet.specs.KeyLines.{at, exprLine}
+use Rattle.linekinds.specs.Lines.{Kind, Run, read, refused, before, lineNumber, fieldsOf}
+use Rattle.linekinds.specs.KeyLines.{at, exprLine}
+use Rattle.linekinds.specs.ListLines.{lineKind}
+use Rattle.linekinds.specs.declared.lists.SheetKind.{SheetKind}
+use Rattle.linekinds.specs.declared.lists.SheetKind.the-variants.{Key, Join}
 use Rattle.sheet.specs.KeySheets.{headOf}
-use Rattle.sheet.specs.ListLines.{lineKind}
 use Rattle.sheet.specs.Refusals.{keyKinds, joinKinds}
 use Rattle.sheet.specs.SheetLines.{inTurn, lineKinds, lineCount, wholeLines}
-use Rattle.sheet.specs.declared.lists.SheetKind.{SheetKind}
-use Rattle.sheet.specs.declared.lists.SheetKind.the-variants.{Key, Join}
 
 -- ---- the kinds of a sheet's lines
 

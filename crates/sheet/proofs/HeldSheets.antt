@@ -14,18 +14,26 @@ use Rattle.text.specs.Text.{Field, valueOf}
 use Rattle.keys.specs.Expressions.{Expression, expression, expressions, rules}
 use Rattle.keys.specs.Reorder.{Rule}
 use Rattle.keys.specs.InputValues as K
-use Rattle.sheet.specs.KeyLines.{at, values}
+use Rattle.keys.proofs.Packed.{unpacked}
+use Rattle.linekinds.specs.KeyLines.{at, values}
+use Rattle.linekinds.specs.Reading.{packs, packedBy, Small, Fits}
+use Rattle.linekinds.specs.ListLines.{lineCodes}
+use Rattle.linekinds.specs.declared.kind.Codes.{Codes}
+use Rattle.linekinds.specs.declared.kind.Codes.the-variants as C
+use Rattle.linekinds.specs.declared.lists.SheetKind.{SheetKind}
+use Rattle.linekinds.specs.declared.lists.SheetKind.the-variants.{Key, Join}
+use Rattle.linekinds.proofs.LineNumbers.{at-value}
 use Rattle.sheet.specs.KeySheets.{exprs, rulesOf, mark, row, headOf, inputOf, keySheetOf, joinSheetOf}
-use Rattle.sheet.specs.Reading.{packedBy, Small, Fits}
-use Rattle.sheet.specs.ListLines.{lineCodes}
 use Rattle.sheet.specs.Held.{heldAt, pairRows, exprLists, childCount, heldKeySheet, heldJoinSheet}
 use Rattle.sheet.specs.SheetLines.{HeldLine}
-use Rattle.sheet.specs.declared.kind.Codes.{Codes}
-use Rattle.sheet.specs.declared.kind.Codes.the-variants as C
-use Rattle.sheet.specs.declared.lists.SheetKind.{SheetKind}
-use Rattle.sheet.specs.declared.lists.SheetKind.the-variants.{Key, Join}
-use Rattle.sheet.proofs.LineNumbers.{at-value}
-use Rattle.sheet.proofs.Packing.{packs-exprs}
+
+-- what is packed are the expressions
+pub packs-exprs : (ns : List ℕ) → Small ns → expressions (packs ns) ≡ exprs ns
+unfolding packs exprs
+packs-exprs [] h = refl
+packs-exprs (k ∷ []) h = refl
+packs-exprs (k ∷ n ∷ []) h = refl
+packs-exprs (k ∷ n ∷ i ∷ rest) h = λ j. unpacked k n i (h .1 .0) (h .1 .1 .0) j ∷ packs-exprs rest (h .1 .1 .1) j
 
 -- two packed numbers are a rule
 pair-rules : (ns : List ℕ) → rules (pairRows ns) ≡ rulesOf (expressions ns)

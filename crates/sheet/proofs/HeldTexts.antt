@@ -11,25 +11,25 @@ use lib.ListN.{length, getD, length-map}
 use Rattle.text.specs.Text.{Field, valueOf, parts}
 use Rattle.text.specs.Write.{lineText}
 use Rattle.keys.specs.Expressions.{expressions}
-use Rattle.sheet.specs.Lines.{read, atEnd, wholeEntries}
-use Rattle.sheet.specs.KeyLines.{values}
+use Rattle.linekinds.specs.Lines.{read, atEnd, wholeEntries}
+use Rattle.linekinds.specs.KeyLines.{values}
+use Rattle.linekinds.specs.Reading.{kindOf, headCount, entryWidth, packs, packedBy, Small}
+use Rattle.linekinds.specs.ListLines.{lineLetter, lineCodes, lineKind}
+use Rattle.linekinds.specs.declared.kind.Codes.{Codes}
+use Rattle.linekinds.specs.declared.kind.Codes.the-variants as C
+use Rattle.linekinds.specs.declared.lists.SheetKind.{SheetKind}
+use Rattle.linekinds.specs.declared.lists.SheetKind.the-variants.{Key, Join}
 use Rattle.sheet.specs.KeyAnswers.{numbersLine, exprNumbers}
-use Rattle.sheet.specs.Reading.{kindOf, headCount, entryWidth, packs, packedBy, Small}
 use Rattle.sheet.specs.Sizes.{Each}
-use Rattle.sheet.specs.ListLines.{lineLetter, lineCodes, lineKind}
 use Rattle.sheet.specs.Held.{heldAt, fieldNumbers, heldText}
 use Rattle.sheet.specs.SheetLines.{inTurn, lineKinds, HeldLine}
-use Rattle.sheet.specs.declared.kind.Codes.{Codes}
-use Rattle.sheet.specs.declared.kind.Codes.the-variants as C
-use Rattle.sheet.specs.declared.lists.SheetKind.{SheetKind}
-use Rattle.sheet.specs.declared.lists.SheetKind.the-variants.{Key, Join}
 use Rattle.sheet.proofs.InTurn.{Counted, rowsText, Fine, FineRows, more}
 use Rattle.sheet.proofs.Numbers.{filled, row-numbers, exprs-again}
-use Rattle.sheet.proofs.Packing.{packs-exprs}
 use Rattle.sheet.proofs.RowsAgain.{rows-written}
 use Rattle.sheet.proofs.Accepted.{nothing-follows}
 use Rattle.sheet.proofs.KeyAccepted.{list-counted, input-counted, key-counted, head-counted}
 use Rattle.sheet.proofs.SheetTurns.{kind-letter}
+use Rattle.sheet.proofs.HeldSheets.{packs-exprs}
 
 -- ---- every line's kind is read by itself
 

@@ -8,7 +8,7 @@ use lib.Dec.{eqb, leb}
 use Rattle.text.specs.Text.{Field, most}
 use Rattle.text.specs.Bounds.{Bound}
 use Rattle.text.specs.Write.{lineText}
-use Rattle.sheet.specs.Lines.{Kind, fieldsFit, tooManyEntries}
+use Rattle.linekinds.specs.Lines.{Kind, fieldsFit, tooManyEntries}
 
 -- bounds up to which fields are read
 unfoldable pub readable : List Bound → Bool

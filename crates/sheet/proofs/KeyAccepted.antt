@@ -12,8 +12,8 @@ use Rattle.text.specs.Text.{Field, parts}
 use Rattle.text.proofs.Exact.{both}
 use Rattle.keys.specs.Adjust.{KeySheet}
 use Rattle.keys.specs.Inputs.{JoinSheet}
-use Rattle.sheet.specs.Lines.{Stage, Run, read, refused, rowsOf}
-use Rattle.sheet.specs.KeyLines.{at, listLine, inputLine, keyLine, inputHead, keyStages, inputStages}
+use Rattle.linekinds.specs.Lines.{Stage, Run, read, refused, rowsOf}
+use Rattle.linekinds.specs.KeyLines.{at, listLine, inputLine, keyLine, inputHead, keyStages, inputStages}
 use Rattle.sheet.specs.KeySheets.{sheet, turned, ended, row, directionsFit, unusedKeys, keyListsFit, joinListsFit, keySheetOf, joinSheetOf, keyWhole, joinWhole, afterKey, afterInput, readKeySheet, readJoinSheet}
 use Rattle.sheet.specs.KeyTexts.{keySheetText, joinSheetText}
 use Rattle.sheet.specs.Sizes.{Each}

@@ -12,8 +12,8 @@ use Rattle.text.specs.Bounds.{fits}
 use Rattle.text.specs.Write.{lineText}
 use Rattle.text.proofs.Exact.{both}
 use Rattle.text.proofs.Limits.{fits-length}
-use Rattle.sheet.specs.Lines.{Kind, plain, wholeEntries}
-use Rattle.sheet.specs.KeyLines.{at, values, undefinedExprs, listLine, exprLine, ruleLine, inputLine, keyLine, inputHead, keyStages, inputStages, definedMode, definedJoin}
+use Rattle.linekinds.specs.Lines.{Kind, plain, wholeEntries}
+use Rattle.linekinds.specs.KeyLines.{at, values, undefinedExprs, listLine, exprLine, ruleLine, inputLine, keyLine, inputHead, keyStages, inputStages, definedMode, definedJoin}
 use Rattle.sheet.specs.KeySheets.{exprs, rulesOf, mark, inputOf, unusedKeys, keySheetOf, joinSheetOf, row}
 use Rattle.sheet.specs.KeyAnswers.{numbersLine, exprsLine, childLines}
 use Rattle.sheet.specs.KeyTexts.{markNumber, rulesLine, inputNumbers, keySheetText, joinSheetText}

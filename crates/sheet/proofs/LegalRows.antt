@@ -13,8 +13,8 @@ use Rattle.text.specs.Bounds.{allows, allowsAll, fits}
 use Rattle.text.proofs.Exact.{both}
 use Rattle.keys.specs.Reorder.{Rule}
 use Rattle.keys.specs.Expressions.{Expression}
-use Rattle.sheet.specs.Lines.{plain, wholeEntries, never, mostEntries}
-use Rattle.sheet.specs.KeyLines.{values, definedExpr, undefinedExprs, over, listLine, exprLine, ruleLine, directionLine, nameLine, inputLine}
+use Rattle.linekinds.specs.Lines.{plain, wholeEntries, never, mostEntries}
+use Rattle.linekinds.specs.KeyLines.{values, definedExpr, undefinedExprs, over, listLine, exprLine, ruleLine, directionLine, nameLine, inputLine}
 use Rattle.sheet.specs.KeySheets.{exprs, rulesOf, mark, inputOf, unusedKeys}
 use Rattle.sheet.specs.KeyAnswers.{exprNumbers}
 use Rattle.sheet.specs.KeyTexts.{markNumber, ruleExprs, inputNumbers}

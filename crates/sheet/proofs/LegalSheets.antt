@@ -17,8 +17,8 @@ use Rattle.keys.specs.Reorder.{Rule}
 use Rattle.keys.specs.Expressions.{Expression}
 use Rattle.keys.specs.Adjust.{KeySheet}
 use Rattle.keys.specs.Inputs.{JoinSheet}
-use Rattle.sheet.specs.Lines.{mostBytes}
-use Rattle.sheet.specs.KeyLines.{at, values, definedMode, fitChildren, exprLine, keyLine, inputHead, keyStages, inputStages}
+use Rattle.linekinds.specs.Lines.{mostBytes}
+use Rattle.linekinds.specs.KeyLines.{at, values, definedMode, fitChildren, exprLine, keyLine, inputHead, keyStages, inputStages}
 use Rattle.sheet.specs.KeySheets.{sheet, exprs, rulesOf, inputOf, unusedKeys, keySheetOf, joinSheetOf, keyListsFit, joinListsFit, readKeySheet, readJoinSheet}
 use Rattle.sheet.specs.KeyAnswers.{exprNumbers, exprsLine, childLines}
 use Rattle.sheet.specs.KeyTexts.{markNumber, ruleExprs, rulesLine, inputNumbers, keySheetText, joinSheetText}

@@ -1,10 +1,3 @@
-pub mod Defined
-pub mod Judges
-pub mod LineNumbers
-pub mod ReadLines
-pub mod Packing
-pub mod PlainText
-pub mod ReadLists
 pub mod Entries
 pub mod InTurn
 pub mod Chained
@@ -30,4 +23,3 @@ pub mod HeldSheets
 pub mod SheetsRead
 pub mod Bounded
 pub mod HeldTexts
-pub mod PlainLines

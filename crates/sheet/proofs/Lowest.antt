@@ -9,7 +9,7 @@ use mathlib.Core.Option.{Option, none, some}
 use lib.Dec.{ltb}
 use lib.ListN.{getD}
 use Rattle.text.specs.Text.{Field}
-use Rattle.sheet.specs.Lines.{Kind, mostBytes, fieldsFit, tooManyEntries, lineNumber}
+use Rattle.linekinds.specs.Lines.{Kind, mostBytes, fieldsFit, tooManyEntries, lineNumber}
 use Rattle.sheet.specs.Refusals.{conditions, Lowest, NoCondition}
 
 unfoldable lowestOf : ℕ → List Bool → ℕ

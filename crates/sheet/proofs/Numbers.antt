@@ -13,8 +13,8 @@ use Rattle.text.specs.Text.{Field, number, empty, malformed, valueOf}
 use Rattle.text.specs.Bounds.{Bound, allows, allowsAll, fits}
 use Rattle.text.proofs.Exact.{both}
 use Rattle.keys.specs.Expressions.{Expression}
-use Rattle.sheet.specs.Lines.{Kind, plain, wholeEntries}
-use Rattle.sheet.specs.KeyLines.{at, values}
+use Rattle.linekinds.specs.Lines.{Kind, plain, wholeEntries}
+use Rattle.linekinds.specs.KeyLines.{at, values}
 use Rattle.sheet.specs.KeySheets.{exprs, rulesOf, mark, inputOf, unusedKeys}
 use Rattle.sheet.specs.KeyAnswers.{exprNumbers}
 use Rattle.sheet.specs.KeyTexts.{markNumber, ruleExprs, inputNumbers}

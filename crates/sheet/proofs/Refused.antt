@@ -13,7 +13,7 @@ use Rattle.text.specs.Text.{Field, parts}
 use Rattle.text.specs.Lines.{firstOf, nextOf}
 use Rattle.keys.specs.Adjust.{KeySheet}
 use Rattle.keys.specs.Inputs.{JoinSheet}
-use Rattle.sheet.specs.Lines.{Kind, Run, refused, before, lineNumber, fieldsOf, atEnd}
+use Rattle.linekinds.specs.Lines.{Kind, Run, refused, before, lineNumber, fieldsOf, atEnd}
 use Rattle.sheet.specs.KeySheets.{Reading, sheet, turned, ended, keyListsFit, keyWhole, joinWhole, readKeySheet, readJoinSheet}
 use Rattle.sheet.specs.SheetLines.{inTurn}
 use Rattle.sheet.proofs.Chained.{wholeRows, ended-before}

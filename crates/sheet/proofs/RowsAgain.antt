@@ -19,7 +19,7 @@ use Rattle.text.proofs.Lengths.{line-length}
 use Rattle.text.proofs.Places.{bridge}
 use Rattle.text.proofs.RoundTrip.{parts-line, first-back}
 use Rattle.text.proofs.WrittenBack.{line-again}
-use Rattle.sheet.specs.Lines.{Kind, Run, read, refused, before, mostBytes, plain, wholeEntries, fieldsFit, tooManyEntries, lineNumber, fieldsOf}
+use Rattle.linekinds.specs.Lines.{Kind, Run, read, refused, before, mostBytes, plain, wholeEntries, fieldsFit, tooManyEntries, lineNumber, fieldsOf}
 use Rattle.sheet.specs.Sizes.{Each}
 use Rattle.sheet.specs.SheetLines.{inTurn}
 use Rattle.sheet.proofs.InTurn.{readable, Counted, rowsText, Fine, FineRows, empty as noRows, more}

@@ -13,19 +13,19 @@ use lib.Seq.{getD-append-seam, getD-set-same, getD-set-other}
 use Rattle.text.specs.Text.{Field, lineAt, after, parts}
 use Rattle.text.specs.Lines.{firstOf, nextOf}
 use Rattle.text.proofs.Places.{bridge, after-next, after-lines}
-use Rattle.sheet.specs.Lines.{Run, read, refused, before, behind, lineNumber}
-use Rattle.sheet.specs.KeyLines.{values}
-use Rattle.sheet.specs.Reading.{kindOf, packedBy}
-use Rattle.sheet.specs.ListLines.{lineLetter, lineCodes, lineKind, packedList, ListRead}
+use Rattle.linekinds.specs.Lines.{Run, read, refused, before, behind, lineNumber}
+use Rattle.linekinds.specs.KeyLines.{values}
+use Rattle.linekinds.specs.Reading.{kindOf, packedBy}
+use Rattle.linekinds.specs.ListLines.{lineLetter, lineCodes, lineKind, packedList, ListRead}
+use Rattle.linekinds.specs.declared.kind.Codes.the-variants as C
+use Rattle.linekinds.specs.declared.lists.SheetKind.{SheetKind}
+use Rattle.linekinds.specs.declared.lists.SheetKind.the-variants.{Key, Join}
+use Rattle.linekinds.specs.declared.lists.Listed.{Listed}
+use Rattle.linekinds.specs.declared.lists.Listed.the-variants.{Packed, Turned}
+use Rattle.linekinds.proofs.ReadLists.{good-small, good-fit, good-entries}
 use Rattle.sheet.specs.Held.{heldAt}
 use Rattle.sheet.specs.SheetLines.{inTurn, lineKinds, linesFrom, linesBy, HeldLine, HeldLines, Full, HeadKept}
-use Rattle.sheet.specs.declared.kind.Codes.the-variants as C
-use Rattle.sheet.specs.declared.lists.SheetKind.{SheetKind}
-use Rattle.sheet.specs.declared.lists.SheetKind.the-variants.{Key, Join}
-use Rattle.sheet.specs.declared.lists.Listed.{Listed}
-use Rattle.sheet.specs.declared.lists.Listed.the-variants.{Packed, Turned}
 use Rattle.sheet.specs.declared.read.Lines.the-variants as L
-use Rattle.sheet.proofs.ReadLists.{good-small, good-fit, good-entries}
 
 -- ---- the letter of a line's kind
 

@@ -13,18 +13,18 @@ use lib.Seq.{getD-take}
 use Rattle.text.specs.Text.{Field, parts, after, stateOf, valueOf, greatest}
 use Rattle.text.specs.Lines.{firstOf}
 use Rattle.text.proofs.Places.{bridge}
-use Rattle.sheet.specs.Lines.{Run, read, refused, before, lineNumber, fieldsOf, atEnd}
-use Rattle.sheet.specs.KeyLines.{at, values, keyLine}
-use Rattle.sheet.specs.Reading.{codesNumber, countsNumber}
+use Rattle.linekinds.specs.Lines.{Run, read, refused, before, lineNumber, fieldsOf, atEnd}
+use Rattle.linekinds.specs.KeyLines.{at, values, keyLine}
+use Rattle.linekinds.specs.Reading.{codesNumber, countsNumber}
+use Rattle.linekinds.specs.ListLines.{lineLetter}
+use Rattle.linekinds.specs.declared.kind.Codes.the-variants as C
+use Rattle.linekinds.specs.declared.lists.SheetKind.{SheetKind}
+use Rattle.linekinds.specs.declared.lists.SheetKind.the-variants.{Key, Join}
+use Rattle.linekinds.proofs.LineNumbers.{line-number, at-value}
+use Rattle.linekinds.proofs.ReadLists.{good-fit}
 use Rattle.sheet.specs.Held.{heldAt}
-use Rattle.sheet.specs.ListLines.{lineLetter}
 use Rattle.sheet.specs.SheetLines.{mostLists, inTurn, lineKinds, lineCount, countBy, FewChildren, linesFrom, linesBy, wholeLines, endedBy, HeldLine, HeldLines, HeadKept}
-use Rattle.sheet.specs.declared.kind.Codes.the-variants as C
-use Rattle.sheet.specs.declared.lists.SheetKind.{SheetKind}
-use Rattle.sheet.specs.declared.lists.SheetKind.the-variants.{Key, Join}
 use Rattle.sheet.specs.declared.read.Lines.the-variants as L
-use Rattle.sheet.proofs.LineNumbers.{line-number, at-value}
-use Rattle.sheet.proofs.ReadLists.{good-fit}
 use Rattle.sheet.proofs.Accepted.{nothing-follows}
 use Rattle.sheet.proofs.SheetTurns.{Taken, Refusal, line-read, line-refused}
 

@@ -12,18 +12,18 @@ use lib.Seq.{getD-take}
 use Rattle.text.specs.Text.{Field, parts, valueOf}
 use Rattle.text.specs.Lines.{firstOf}
 use Rattle.keys.specs.Expressions.{expression, expressions, rule, rules}
-use Rattle.sheet.specs.Lines.{Run, read, refused, fieldsOf, atEnd}
-use Rattle.sheet.specs.KeyLines.{at, values}
+use Rattle.linekinds.specs.Lines.{Run, read, refused, fieldsOf, atEnd}
+use Rattle.linekinds.specs.KeyLines.{at, values}
+use Rattle.linekinds.specs.Reading.{packs, packedBy, Fits}
+use Rattle.linekinds.specs.ListLines.{lineCodes}
+use Rattle.linekinds.specs.declared.kind.Codes.{Codes}
+use Rattle.linekinds.specs.declared.kind.Codes.the-variants as C
+use Rattle.linekinds.specs.declared.lists.SheetKind.{SheetKind}
+use Rattle.linekinds.specs.declared.lists.SheetKind.the-variants.{Key, Join}
 use Rattle.sheet.specs.KeySheets.{Reading, sheet, turned, ended, mark, row, headOf, pairsServe, serves, unusedKeys, keyListsFit, joinListsFit, keyWhole, joinWhole, readKeySheet, readJoinSheet}
-use Rattle.sheet.specs.Reading.{packs, packedBy, Fits}
-use Rattle.sheet.specs.ListLines.{lineCodes}
 use Rattle.sheet.specs.Held.{heldAt, pairRows, childCount, heldKeySheet, heldJoinSheet, KeyHeld, JoinHeld, heldText}
 use Rattle.sheet.specs.SheetLines.{wholeLines, endedBy, HeldLine, HeldLines}
 use Rattle.sheet.specs.ListFits.{directionCounts, keyCountsFit, inputCounts, joinCountsFit, sheetBy, KeyRead, JoinRead}
-use Rattle.sheet.specs.declared.kind.Codes.{Codes}
-use Rattle.sheet.specs.declared.kind.Codes.the-variants as C
-use Rattle.sheet.specs.declared.lists.SheetKind.{SheetKind}
-use Rattle.sheet.specs.declared.lists.SheetKind.the-variants.{Key, Join}
 use Rattle.sheet.specs.declared.read.Lines.the-variants as L
 use Rattle.sheet.specs.declared.sheets.Sheet.the-variants.{Held, Refused}
 use Rattle.sheet.proofs.Chained.{wholeRows}

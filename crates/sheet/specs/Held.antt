@@ -10,13 +10,13 @@ use Rattle.keys.specs.Inputs.{JoinSheet}
 use Rattle.keys.specs.Answers.{keySheet}
 use Rattle.keys.specs.InputValues.{joinSheet}
 use Rattle.keys.specs.declared.answer.Operator.{Operator}
+use Rattle.linekinds.specs.ListLines.{lineLetter, lineCodes}
+use Rattle.linekinds.specs.declared.kind.Codes.{Codes}
+use Rattle.linekinds.specs.declared.kind.Codes.the-variants as C
+use Rattle.linekinds.specs.declared.lists.SheetKind.{SheetKind}
 use Rattle.sheet.specs.KeySheets.{mark}
 use Rattle.sheet.specs.KeyAnswers.{numbersLine, exprNumbers}
 use Rattle.sheet.specs.LegalSheets.{LegalKeySheet, LegalJoinSheet}
-use Rattle.sheet.specs.ListLines.{lineLetter, lineCodes}
-use Rattle.sheet.specs.declared.kind.Codes.{Codes}
-use Rattle.sheet.specs.declared.kind.Codes.the-variants as C
-use Rattle.sheet.specs.declared.lists.SheetKind.{SheetKind}
 
 -- the numbers of line i
 unfoldable pub heldAt : List (List ℕ) → List ℕ → ℕ → List ℕ

@@ -11,8 +11,8 @@ use Rattle.keys.specs.Reorder.{Rule}
 use Rattle.keys.specs.Expressions.{Expression}
 use Rattle.keys.specs.Adjust.{KeySheet}
 use Rattle.keys.specs.Inputs.{JoinSheet}
-use Rattle.sheet.specs.Lines.{Run, read, refused, rowsOf, chain, atEnd}
-use Rattle.sheet.specs.KeyLines.{at, values, keyLine, inputHead, keyStages, inputStages}
+use Rattle.linekinds.specs.Lines.{Run, read, refused, rowsOf, chain, atEnd}
+use Rattle.linekinds.specs.KeyLines.{at, values, keyLine, inputHead, keyStages, inputStages}
 
 -- every three numbers an expression
 unfoldable pub exprs : List ℕ → List Expression

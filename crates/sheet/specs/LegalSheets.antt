@@ -10,8 +10,8 @@ use Rattle.keys.specs.Reorder.{Rule}
 use Rattle.keys.specs.Expressions.{Expression}
 use Rattle.keys.specs.Adjust.{KeySheet}
 use Rattle.keys.specs.Inputs.{JoinSheet}
-use Rattle.sheet.specs.Lines.{mostBytes, mostEntries}
-use Rattle.sheet.specs.KeyLines.{definedExpr, definedMode, definedJoin, fitChildren}
+use Rattle.linekinds.specs.Lines.{mostBytes, mostEntries}
+use Rattle.linekinds.specs.KeyLines.{definedExpr, definedMode, definedJoin, fitChildren}
 use Rattle.sheet.specs.KeySheets.{directionsFit, keyListsFit}
 use Rattle.sheet.specs.KeyTexts.{keySheetText, joinSheetText}
 use Rattle.sheet.specs.Sizes.{Each, Few}

@@ -1,13 +1,8 @@
-pub mod Lines
-pub mod KeyLines
 pub mod KeySheets
 pub mod KeyAnswers
 pub mod KeyTexts
-pub mod Reading
 pub mod Sizes
 pub mod LegalSheets
-pub mod ListLines
-pub mod PlainText
 pub mod Refusals
 pub mod Held
 pub mod Outcomes

@@ -8,9 +8,9 @@ use lib.Dec.{eqb, leb}
 use lib.ListN.{getD}
 use Rattle.keys.specs.Adjust.{KeySheet}
 use Rattle.keys.specs.Inputs.{JoinSheet}
+use Rattle.linekinds.specs.declared.lists.SheetKind.the-variants.{Key, Join}
 use Rattle.sheet.specs.KeySheets.{Reading, sheet, turned, mark, pairsServe, serves, readKeySheet, readJoinSheet}
 use Rattle.sheet.specs.Held.{childCount, heldKeySheet, heldJoinSheet, KeyHeld, JoinHeld, heldText}
-use Rattle.sheet.specs.declared.lists.SheetKind.the-variants.{Key, Join}
 use Rattle.sheet.specs.declared.sheets.Sheet.{Sheet}
 use Rattle.sheet.specs.declared.sheets.Sheet.the-variants.{Held, Refused}
 

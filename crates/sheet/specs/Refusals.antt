@@ -13,8 +13,8 @@ use Rattle.text.specs.Lines.{firstOf, nextOf}
 use Rattle.keys.specs.Expressions.{sameExpr}
 use Rattle.keys.specs.Adjust.{KeySheet, nameNotFound, adjustInputKeysOrdering}
 use Rattle.keys.specs.Inputs.{JoinSheet}
-use Rattle.sheet.specs.Lines.{Kind, Stage, mostBytes, fieldsFit, tooManyEntries, lineNumber, fieldsOf, atEnd}
-use Rattle.sheet.specs.KeyLines.{at, keyLine, inputHead, keyStages, inputStages}
+use Rattle.linekinds.specs.Lines.{Kind, Stage, mostBytes, fieldsFit, tooManyEntries, lineNumber, fieldsOf, atEnd}
+use Rattle.linekinds.specs.KeyLines.{at, keyLine, inputHead, keyStages, inputStages}
 use Rattle.sheet.specs.KeySheets.{sheet, readKeySheet, headOf, keySheetOf, joinSheetOf, joinListsFit}
 
 -- ---- a line

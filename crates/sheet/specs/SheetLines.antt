@@ -9,15 +9,15 @@ use lib.Dec.{eqb}
 use lib.ListN.{length, getD, drop}
 use Rattle.text.specs.Text.{Field, parts}
 use Rattle.text.specs.Lines.{firstOf, nextOf}
-use Rattle.sheet.specs.Lines.{Kind, Run, read, refused, before, wholeEntries, lineNumber, fieldsOf, atEnd}
-use Rattle.sheet.specs.KeyLines.{at, values}
-use Rattle.sheet.specs.Reading.{headCount, entryWidth, packedBy, Small, Fits}
-use Rattle.sheet.specs.ListLines.{lineCodes, lineKind, lineLetter}
+use Rattle.linekinds.specs.Lines.{Kind, Run, read, refused, before, wholeEntries, lineNumber, fieldsOf, atEnd}
+use Rattle.linekinds.specs.KeyLines.{at, values}
+use Rattle.linekinds.specs.Reading.{headCount, entryWidth, packedBy, Small, Fits}
+use Rattle.linekinds.specs.ListLines.{lineCodes, lineKind, lineLetter}
+use Rattle.linekinds.specs.declared.lists.SheetKind.{SheetKind}
+use Rattle.linekinds.specs.declared.lists.SheetKind.the-variants.{Key, Join}
+use Rattle.linekinds.specs.declared.lists.Listed.{Listed}
+use Rattle.linekinds.specs.declared.lists.Listed.the-variants.{Packed, Turned}
 use Rattle.sheet.specs.Held.{heldAt}
-use Rattle.sheet.specs.declared.lists.SheetKind.{SheetKind}
-use Rattle.sheet.specs.declared.lists.SheetKind.the-variants.{Key, Join}
-use Rattle.sheet.specs.declared.lists.Listed.{Listed}
-use Rattle.sheet.specs.declared.lists.Listed.the-variants.{Packed, Turned}
 use Rattle.sheet.specs.declared.read.Lines.{Lines}
 use Rattle.sheet.specs.declared.read.Lines.the-variants as L
 

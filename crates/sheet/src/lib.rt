@@ -1,10 +1,5 @@
 // Sheets: K and I sheets read with refusals 1 to 6, and the lines that are held of one.
 pub mod fits;
 pub mod held;
-pub mod kind;
-pub mod line;
-pub mod lists;
-pub mod pack;
-pub mod plain;
 pub mod read;
 pub mod sheets;

@@ -3,9 +3,9 @@ ghost use mathlib.Core.Path.{_≡_};
 ghost use Prim.Native.Nat.{_-_, _≤_};
 ghost use lib.ListN.{length};
 ghost use Rattle.sheet.specs.SheetLines.{mostLists, countBy, FewChildren, turnedNumber, linesFrom, linesBy, wholeLines, endedBy, HeldLines, Full, HeadKept};
-use crate::lists::Listed;
-use crate::lists::SheetKind;
-use crate::lists::read_list;
+use linekinds::lists::Listed;
+use linekinds::lists::SheetKind;
+use linekinds::lists::read_list;
 
 // All lines, with the place after them and the number of the next line; or a refusal and its line.
 pub enum Lines {

@@ -5,9 +5,9 @@ ghost use Rattle.sheet.specs.SheetLines.{Full};
 ghost use Rattle.sheet.specs.ListFits.{KeyRead, JoinRead};
 use crate::fits::join_lists_fit;
 use crate::fits::key_lists_fit;
-use crate::lists::SheetKind;
 use crate::read::Lines;
 use crate::read::read_whole;
+use linekinds::lists::SheetKind;
 
 // A sheet stands in the rooms lent; or a refusal and its line.
 pub enum Sheet {

@@ -6,9 +6,9 @@ use lib.ListN.{take, drop}
 use Rattle.text.specs.Text.{number}
 use Rattle.text.specs.Write.{fieldsText}
 use Rattle.keys.specs.Expressions.{expressions}
+use Rattle.linekinds.specs.declared.kind.Codes.the-variants as C
 use Rattle.sheet.specs.KeyAnswers.{numbersLine, exprNumbers}
 use Rattle.sheet.specs.Held.{fieldNumbers}
-use Rattle.sheet.specs.declared.kind.Codes.the-variants as C
 use Rattle.lines.proofs.Pieces.{Due, due-all, due-room, due-then, due-none}
 use Rattle.lines.proofs.HeldLines.{input-parts, input-none, behind-first}
 use borrow.Author.Needs.{needs}

@@ -6,7 +6,7 @@ use native.Mathlib.Omega.{arith}
 use borrow.Author.Needs.{needs}
 use lib.ListN.{length, drop, length-set}
 use lib.Seq.{sets}
-use Rattle.sheet.specs.Reading.{rowValues}
+use Rattle.linekinds.specs.Reading.{rowValues}
 use Rattle.plansheet.proofs.Overs.{copy-more, copy-done}
 use Rattle.plansheet.proofs.facts.copy_values.Statement.{statement}
 use Rattle.plansheet.proofs.facts.copy_values.Tie as tie

@@ -9,9 +9,9 @@ use borrow.Author.Tests.{eq-eqb, ne-eqb}
 use lib.ListN.{length, set, take, length-map}
 use Rattle.text.specs.Text.{lineAt, after, row}
 use Rattle.text.specs.Bounds.{boundRow}
-use Rattle.sheet.specs.KeyLines.{values}
-use Rattle.sheet.specs.ListLines.{numberOf}
-use Rattle.sheet.specs.declared.line.Read.the-variants as L
+use Rattle.linekinds.specs.KeyLines.{values}
+use Rattle.linekinds.specs.ListLines.{numberOf}
+use Rattle.linekinds.specs.declared.line.Read.the-variants as L
 use Rattle.plansheet.specs.PlanLines.{childShape, childLine}
 use Rattle.plansheet.specs.ReadRows.{valuesFrom, numberRows}
 use Rattle.plansheet.proofs.Turns.{Taken, taken, from, Head, head-first, head-long, head-done, head-refused, head-next, head-more}

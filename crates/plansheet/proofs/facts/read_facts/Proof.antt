@@ -8,11 +8,11 @@ use borrow.Author.Needs.{needs}
 use lib.ListN.{length, set, take, length-map}
 use Rattle.text.specs.Text.{lineAt, after, row}
 use Rattle.text.specs.Bounds.{boundRow}
-use Rattle.sheet.specs.KeyLines.{values}
-use Rattle.sheet.specs.Lines.{lineNumber}
-use Rattle.sheet.specs.Reading.{readBy}
-use Rattle.sheet.specs.ListLines.{numberOf}
-use Rattle.sheet.specs.declared.line.Read.the-variants as L
+use Rattle.linekinds.specs.KeyLines.{values}
+use Rattle.linekinds.specs.Lines.{lineNumber}
+use Rattle.linekinds.specs.Reading.{readBy}
+use Rattle.linekinds.specs.ListLines.{numberOf}
+use Rattle.linekinds.specs.declared.line.Read.the-variants as L
 use Rattle.plansheet.specs.PlanLines.{factShape, factLine}
 use Rattle.plansheet.specs.ReadRows.{valuesFrom, numberRows}
 use Rattle.plansheet.proofs.Turns.{Taken, taken, turned, from, Head, head-first, head-long, head-done, head-refused, head-next, head-more}

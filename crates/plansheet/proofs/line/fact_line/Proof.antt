@@ -3,7 +3,7 @@
 use mathlib.Core.Path.{ap, sym, _∙_}
 use Prim.Native.Nat.{ℕ}
 use Rattle.text.specs.Text.{lineAt, after}
-use Rattle.sheet.specs.Reading.{readBy}
+use Rattle.linekinds.specs.Reading.{readBy}
 use Rattle.plansheet.specs.PlanLines.{factShape}
 use Rattle.plansheet.proofs.Shaped.{coming-number}
 use borrow.Author.Needs.{needs}

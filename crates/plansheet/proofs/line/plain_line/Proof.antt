@@ -8,9 +8,9 @@ use native.Mathlib.Omega.{arith}
 use lib.ListN.{length, take}
 use Rattle.text.specs.Text.{Field, lineAt, after, row}
 use Rattle.text.proofs.Answers.{Opened, opened, rows-held}
-use Rattle.sheet.specs.KeyLines.{values}
-use Rattle.sheet.specs.Reading.{rowValues}
-use Rattle.sheet.proofs.ReadLines.{row-values}
+use Rattle.linekinds.specs.KeyLines.{values}
+use Rattle.linekinds.specs.Reading.{rowValues}
+use Rattle.linekinds.proofs.ReadLines.{row-values}
 use Rattle.plansheet.specs.Shapes.{overAny}
 use Rattle.plansheet.proofs.Shaped.{masks-counted, plain-wrong, plain-turned, plain-coded, plain-read}
 use borrow.Author.Needs.{needs}

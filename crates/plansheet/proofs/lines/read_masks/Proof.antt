@@ -8,11 +8,11 @@ use borrow.Author.Needs.{needs}
 use lib.ListN.{length, take, length-replicate}
 use lib.Seq.{sets}
 use Rattle.text.specs.Text.{lineAt, after}
-use Rattle.sheet.specs.KeyLines.{values}
-use Rattle.sheet.specs.Lines.{plain}
-use Rattle.sheet.specs.Reading.{rowValues}
-use Rattle.sheet.specs.ListLines.{numberOf}
-use Rattle.sheet.specs.declared.line.Read.the-variants as L
+use Rattle.linekinds.specs.KeyLines.{values}
+use Rattle.linekinds.specs.Lines.{plain}
+use Rattle.linekinds.specs.Reading.{rowValues}
+use Rattle.linekinds.specs.ListLines.{numberOf}
+use Rattle.linekinds.specs.declared.line.Read.the-variants as L
 use Rattle.plansheet.specs.PlanLines.{twoTo, maskShape, maskLine}
 use Rattle.plansheet.specs.ReadPlans.{factsBy}
 use Rattle.plansheet.proofs.Turns.{Taken, taken}

@@ -8,10 +8,10 @@ use borrow.Author.Needs.{needs}
 use lib.ListN.{length, take}
 use lib.Seq.{sets}
 use Rattle.text.specs.Text.{lineAt, after}
-use Rattle.sheet.specs.KeyLines.{values}
-use Rattle.sheet.specs.Reading.{rowValues}
-use Rattle.sheet.specs.ListLines.{numberOf}
-use Rattle.sheet.specs.declared.line.Read.the-variants as L
+use Rattle.linekinds.specs.KeyLines.{values}
+use Rattle.linekinds.specs.Reading.{rowValues}
+use Rattle.linekinds.specs.ListLines.{numberOf}
+use Rattle.linekinds.specs.declared.line.Read.the-variants as L
 use Rattle.plansheet.specs.PlanLines.{settingsShape, settingsLine, planLine}
 use Rattle.plansheet.specs.ReadRows.{runFrom}
 use Rattle.plansheet.proofs.Turns.{Taken, taken}

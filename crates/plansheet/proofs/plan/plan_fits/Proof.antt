@@ -5,7 +5,7 @@ use Prim.Native.Nat.{_-_}
 use native.Mathlib.Omega.{arith}
 use lib.ListN.{length, take}
 use lib.Seq.{length-take-le}
-use Rattle.sheet.specs.KeyLines.{values}
+use Rattle.linekinds.specs.KeyLines.{values}
 use Rattle.exchange.specs.FactRows.{nodeFacts}
 use Rattle.plansheet.proofs.FineLines.{two-small}
 use Rattle.plansheet.proofs.PlanFitted.{WorkedRooms, worked-rooms, rooms-fit, rooms-crowded, stand-all, fits-room}

@@ -5,7 +5,7 @@ use Prim.Native.Nat.{_≤_, _-_}
 use native.Mathlib.Omega.{arith}
 use borrow.Author.Needs.{needs}
 use lib.ListN.{length, drop}
-use Rattle.sheet.specs.Reading.{rowValues}
+use Rattle.linekinds.specs.Reading.{rowValues}
 use Rattle.plansheet.specs.Shapes.{overAny}
 use Rattle.plansheet.proofs.Overs.{over-short, over-done, over-here, over-later}
 use Rattle.plansheet.proofs.shape.over_any.Statement.{statement}

@@ -1,7 +1,7 @@
 -- `plansheet::shape::shape_number` meets its contract. One law for each way out (`Shaped`).
 -- Assumes nothing.
 use mathlib.Core.Path.{sym, _∙_}
-use Rattle.sheet.specs.Reading.{rowValues}
+use Rattle.linekinds.specs.Reading.{rowValues}
 use Rattle.plansheet.proofs.Shaped.{shape-long, shape-large, shape-undefined, shape-fine}
 use borrow.Author.Needs.{needs}
 use Rattle.plansheet.proofs.shape.shape_number.Statement.{statement}

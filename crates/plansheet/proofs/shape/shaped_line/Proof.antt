@@ -8,8 +8,8 @@ use native.Mathlib.Omega.{arith}
 use lib.ListN.{length, take}
 use Rattle.text.specs.Text.{Field, lineAt, after, row}
 use Rattle.text.proofs.Answers.{Passed, passed, rows-held}
-use Rattle.sheet.specs.Reading.{rowValues}
-use Rattle.sheet.specs.Lines.{Kind}
+use Rattle.linekinds.specs.Reading.{rowValues}
+use Rattle.linekinds.specs.Lines.{Kind}
 use Rattle.plansheet.specs.Shapes.{fixedLine}
 use Rattle.plansheet.specs.ReadRows.{shapeOf, shapeNumber}
 use Rattle.plansheet.proofs.Shaped.{codesNumber, passed-long, not-line, line-refused, line-turned, line-read, shape-codes}

@@ -8,9 +8,9 @@ use borrow.Author.Needs.{needs}
 use borrow.Author.Tests.{eq-eqb, ne-eqb}
 use lib.ListN.{length, getD, set, take, length-map}
 use Rattle.text.specs.Text.{lineAt, after, row}
-use Rattle.sheet.specs.Lines.{Kind}
-use Rattle.sheet.specs.ListLines.{numberOf}
-use Rattle.sheet.specs.declared.line.Read.the-variants as L
+use Rattle.linekinds.specs.Lines.{Kind}
+use Rattle.linekinds.specs.ListLines.{numberOf}
+use Rattle.linekinds.specs.declared.line.Read.the-variants as L
 use Rattle.plansheet.specs.Shapes.{treeLine, childrenAt}
 use Rattle.plansheet.specs.PlanSheets.{operatorRow, operatorRows}
 use Rattle.plansheet.specs.ReadRows.{shapeOf, fieldsRow}

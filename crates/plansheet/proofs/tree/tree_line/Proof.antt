@@ -8,7 +8,7 @@ use native.Mathlib.Omega.{arith}
 use lib.ListN.{length, take, length-map}
 use Rattle.text.specs.Text.{Field, lineAt, after, row}
 use Rattle.text.proofs.Answers.{Passed, passed, rows-held}
-use Rattle.sheet.specs.Lines.{Kind}
+use Rattle.linekinds.specs.Lines.{Kind}
 use Rattle.plansheet.specs.Shapes.{treeLine}
 use Rattle.plansheet.specs.ReadRows.{shapeOf, treeNumber}
 use Rattle.plansheet.proofs.Shaped.{codesNumber, passed-long, not-line, line-refused, line-turned, line-read, tree-codes}

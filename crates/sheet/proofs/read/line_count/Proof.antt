@@ -2,8 +2,8 @@
 -- Assumes nothing.
 use mathlib.Core.Path.{sym, ap, subst}
 use native.Mathlib.Omega.{arith}
+use Rattle.linekinds.specs.declared.lists.SheetKind.{SheetKind}
 use Rattle.sheet.specs.SheetLines.{countBy, FewChildren}
-use Rattle.sheet.specs.declared.lists.SheetKind.{SheetKind}
 use borrow.Author.Needs.{needs}
 use Rattle.sheet.proofs.read.line_count.Statement.{statement}
 use Rattle.sheet.proofs.read.line_count.Tie as tie

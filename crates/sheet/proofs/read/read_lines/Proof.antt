@@ -6,16 +6,16 @@ use Prim.Native.Nat.{ℕ, _-_}
 use native.Mathlib.Omega.{arith}
 use lib.ListN.{getD, set, length-set}
 use lib.Seq.{getD-set-same}
-use Rattle.sheet.specs.Lines.{Run}
+use Rattle.linekinds.specs.Lines.{Run}
 use Rattle.sheet.specs.SheetLines.{lineCount, countBy, turnedNumber, linesFrom, linesBy, HeldLines}
 use Rattle.sheet.proofs.SheetTurns.{Taken, taken, refusal, held-here, full-more}
 use Rattle.sheet.proofs.SheetWhole.{lists-some, whole-turned, whole-taken, children-few, counted, count-least, head-still, held-whole, whole-before}
 use borrow.Author.Needs.{needs}
+use Rattle.linekinds.proofs.lists.read_list.Reads as read-list-reads
 use Rattle.sheet.proofs.read.read_lines.Statement.{statement}
 use Rattle.sheet.proofs.read.read_lines.Tie as tie
 use Rattle.sheet.proofs.read.read_lines.Reads as reads
 use Rattle.sheet.proofs.read.read_lines.Lts as lts
-use Rattle.sheet.proofs.lists.read_list.Reads as read-list-reads
 use Rattle.sheet.proofs.read.line_count.Reads as line-count-reads
 use Rattle.sheet.proofs.read.read_lists.Reads as read-lists-reads
 use Rattle.sheet.proofs.read.turned_number.Reads as turned-number-reads

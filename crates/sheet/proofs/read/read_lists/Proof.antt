@@ -8,11 +8,11 @@ use lib.ListN.{length, length-set}
 use Rattle.sheet.specs.SheetLines.{turnedNumber, linesFrom, HeadKept}
 use Rattle.sheet.proofs.SheetTurns.{taken, refusal, kept-list, kept-count, Head, head-first, head-refused, held-refused, head-more, head-done, held-done}
 use borrow.Author.Needs.{needs}
+use Rattle.linekinds.proofs.lists.read_list.Reads as read-list-reads
 use Rattle.sheet.proofs.read.read_lists.Statement.{statement}
 use Rattle.sheet.proofs.read.read_lists.Tie as tie
 use Rattle.sheet.proofs.read.read_lists.Reads as reads
 use Rattle.sheet.proofs.read.read_lists.Lts as lts
-use Rattle.sheet.proofs.lists.read_list.Reads as read-list-reads
 use Rattle.sheet.proofs.read.turned_number.Reads as turned-number-reads
 
 abbrev Inv-loop : tie.InvT-loop

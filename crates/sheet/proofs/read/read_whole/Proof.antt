@@ -1,7 +1,7 @@
 -- `sheet::read::read_whole` meets its contract. What stands after the last line (`SheetWhole`).
 -- Assumes nothing.
 use mathlib.Core.Path.{sym, _∙_}
-use Rattle.sheet.specs.Lines.{Run}
+use Rattle.linekinds.specs.Lines.{Run}
 use Rattle.sheet.specs.SheetLines.{wholeLines}
 use Rattle.sheet.proofs.SheetWhole.{end-refused, end-extra, end-none}
 use borrow.Author.Needs.{needs}
