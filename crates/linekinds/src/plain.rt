@@ -1,5 +1,5 @@
 // Reads a list line entry by entry, in one pass, where nothing in it is unusual. What it finds stands on the line; where it finds
-// something else, `read_line` has the line.
+// something else, the line is left to be judged by its fields.
 ghost use mathlib.Core.Path.{_≡_};
 ghost use mathlib.Core.Bool.{true};
 ghost use Prim.Native.Nat.{_≤_};
@@ -7,6 +7,7 @@ ghost use lib.ListN.{length};
 ghost use Rattle.linekinds.specs.PlainText.{StandsAt, DigitAt, DigitsFound, FieldFound, EntryFound, EndFound, EntriesFound, NumbersFound, RulesFound, InputFound, ListFound};
 use crate::kind::Codes;
 use crate::kind::defined_expr;
+use text::field::widened;
 
 // A number and the place after it, or something else.
 pub enum Found {
@@ -18,12 +19,6 @@ pub enum Found {
 pub enum Entries {
     Packed { count: usize, end: usize },
     Other,
-}
-
-fn widened(b: u8) -> u64
-    ensures { λ r. ⌜ r ≡ b ⌝ }
-{
-    b as u64
 }
 
 fn stands(s: &[u8], at: usize, b: u8) -> bool

@@ -19,7 +19,7 @@ pub struct Scanned {
     pub value: u64,
 }
 
-pub(crate) fn widened(b: u8) -> u64
+pub fn widened(b: u8) -> u64
     ensures { λ r. ⌜ r ≡ b ⌝ }
 {
     b as u64
