@@ -13,7 +13,6 @@ use Rattle.keys.specs.declared.answer.Handed.{Handed}
 use Rattle.keys.specs.declared.inputs.Attempt.{Attempt}
 use Rattle.keys.specs.declared.answer.Outcome.{Outcome}
 use Rattle.keys.specs.declared.answer.Outcome.the-variants.{Unchanged, Passed, Tried, Regrouped, NameNotFound}
-use Rattle.sheet.specs.KeyAnswers as A
 use Rattle.sheet.specs.KeyAnswers.{projectedNumbers, keyAnswerText}
 use Rattle.sheet.specs.Held.{heldAt, heldKeySheet}
 use Rattle.moves.specs.Chosen.{shiftedFor}
@@ -25,11 +24,6 @@ refusedBy Passed = false
 refusedBy (Tried o) = false
 refusedBy Regrouped = false
 refusedBy NameNotFound = true
-
--- what is written, if anything, has room
-abbrev pub FitsIn : ℕ → A.Outcome → Type 0
-FitsIn room (A.refused n l) = Unit {0}
-FitsIn room (A.wrote bs) = length bs ≤ room
 
 -- no list is longer than 32, and J than 128
 pub record KeyFew (p r l g s j f o : List ℕ) : Type 0 where

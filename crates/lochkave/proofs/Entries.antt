@@ -14,11 +14,10 @@ use Rattle.keys.specs.Inputs.{JoinSheet, reorderJoinKeysToInputs}
 use Rattle.keys.specs.Expressions.{sameExpr}
 use Rattle.sheet.specs.KeySheets.{Reading, sheet, turned, readKeySheet, readJoinSheet}
 use Rattle.sheet.specs.KeyAnswers.{Outcome, refused, wrote, joinAnswerText, adjusted, adjustDecision, inputsDecision}
-use Rattle.sheet.specs.Outcomes.{answer, after, within}
+use Rattle.sheet.specs.Outcomes.{answer, after, within, FitsIn}
 use Rattle.sheet.specs.Held.{heldAt, childCount}
 use Rattle.sheet.specs.SheetLines.{Full}
 use Rattle.sheet.proofs.AnswersFit.{Fits}
-use Rattle.answers.specs.AnswerLists.{FitsIn}
 use Rattle.sheet.proofs.KeyAccepted.{key-written-again, join-written-again}
 use Rattle.lochkave.specs.Entry.{keyAgain, joinAgain}
 use Rattle.sheet.specs.ListFits.{sheetBy}

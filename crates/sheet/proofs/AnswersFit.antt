@@ -17,6 +17,7 @@ use Rattle.keys.specs.Inputs.{JoinSheet, JoinAnswer, reorderJoinKeysToInputs}
 use Rattle.linekinds.specs.Lines.{mostBytes}
 use Rattle.sheet.specs.KeySheets.{Reading, sheet, turned, readKeySheet, readJoinSheet}
 use Rattle.sheet.specs.KeyAnswers.{Outcome, refused, wrote, numbersLine, exprNumbers, exprsLine, projectedNumbers, childLines, keyAnswerText, joinAnswerText, adjusted, keyOutcome, joinOutcome, adjustDecision, inputsDecision}
+use Rattle.sheet.specs.Outcomes.{FitsIn}
 use Rattle.sheet.specs.Sizes.{Each, Few, Within, PlacedWithin, NumberList, ExprList, InputList, SizedKeySheet, SizedKeyAnswer, SizedJoinSheet, SizedJoinAnswer, lineMost, keyAnswerMost, joinAnswerMost}
 use Rattle.sheet.specs.LegalSheets.{LegalExpr, LegalExprs, LegalInput, LegalKeySheet, LegalJoinSheet}
 use Rattle.sheet.proofs.Entries.{each-weaker, few-weaker}
@@ -147,8 +148,7 @@ join-answer-fits s x r =
 
 -- what is written, if anything, has at most 65,536 bytes
 abbrev pub Fits : Outcome → Type 0
-Fits (refused n l) = Unit {0}
-Fits (wrote bs) = length bs ≤ mostBytes
+Fits o = FitsIn mostBytes o
 
 adjusted-fits : (s : List ℕ) (x : KeySheet) (o : Adjustment) → readKeySheet s ≡ sheet x → adjustInputKeysOrdering sameExpr x ≡ o → Fits (adjusted o)
 adjusted-fits s x (answered a) r e = key-answer-fits s x a r e

@@ -1,6 +1,6 @@
 -- What an entry point returns and leaves in the output lent, by the outcome.
 -- Renders document 01, "A refusal returns number and line; output keeps its bytes", and refusal 12.
-use Prim.Native.Nat.{ℕ, _+_, _*_}
+use Prim.Native.Nat.{ℕ, _+_, _*_, _≤_}
 use mathlib.Core.List.{List, _++_}
 use mathlib.Core.Bool.{cond}
 use lib.Dec.{ltb}
@@ -21,3 +21,8 @@ after (wrote bytes) out = bytes ++ drop (length bytes) out
 abbrev pub within : ℕ → Outcome → Outcome
 within room (refused n line) = refused n line
 within room (wrote bytes) = cond (ltb room (length bytes)) (refused 12 0) (wrote bytes)
+
+-- what is written, if anything, has room
+abbrev pub FitsIn : ℕ → Outcome → Type 0
+FitsIn room (refused n line) = Unit {0}
+FitsIn room (wrote bytes) = length bytes ≤ room

@@ -4,7 +4,7 @@ use mathlib.Core.Path.{refl, sym, subst, _∙_}
 use lib.ListN.{length}
 use Rattle.sheet.specs.KeyAnswers as A
 use Rattle.sheet.specs.Held.{heldKeySheet}
-use Rattle.answers.specs.AnswerLists.{FitsIn}
+use Rattle.sheet.specs.Outcomes.{FitsIn}
 use Rattle.answers.proofs.KeyLists.{key-refused, key-written}
 use borrow.Author.Needs.{needs}
 use Rattle.answers.proofs.key.answer_key_sheet.Statement.{statement}

@@ -8,7 +8,7 @@ use Rattle.sheet.specs.KeySheets.{readKeySheet}
 use Rattle.sheet.specs.KeyAnswers.{Outcome, adjustDecision}
 use Rattle.sheet.proofs.AnswersFit.{adjust-fits}
 use Rattle.sheet.proofs.Bounded.{key-turned-few}
-use Rattle.answers.specs.AnswerLists.{FitsIn}
+use Rattle.sheet.specs.Outcomes.{FitsIn}
 use Rattle.lochkave.proofs.Entries.{was-turned, was-read, leaves-refused, adjust-turned, adjust-held, has-room}
 use borrow.Author.Needs.{needs}
 use Rattle.lochkave.proofs.kinds.adjust_in.Statement.{statement}

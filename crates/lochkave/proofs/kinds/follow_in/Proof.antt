@@ -8,7 +8,7 @@ use Rattle.sheet.specs.KeySheets.{readJoinSheet}
 use Rattle.sheet.specs.KeyAnswers.{Outcome, inputsDecision}
 use Rattle.sheet.proofs.AnswersFit.{inputs-fits}
 use Rattle.sheet.proofs.Bounded.{join-turned-few}
-use Rattle.answers.specs.AnswerLists.{FitsIn}
+use Rattle.sheet.specs.Outcomes.{FitsIn}
 use Rattle.lochkave.proofs.Entries.{was-turned, was-read, leaves-refused, inputs-turned, inputs-held, has-room}
 use borrow.Author.Needs.{needs}
 use Rattle.lochkave.proofs.kinds.follow_in.Statement.{statement}
