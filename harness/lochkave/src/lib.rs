@@ -184,21 +184,21 @@ pub fn decide(sheet: &[u8]) -> Result<Vec<u8>, Refusal> {
     Ok(out)
 }
 
-/// The rooms of a decision, in the order in which the library takes them.
-struct Rooms {
-    fields: [[u64; 2]; 256],
-    rules: [[u64; 2]; 32],
-    lists: [[u64; 64]; 17],
-    rows: [[u64; 11]; 256],
-    xs: [[u64; 13]; 128],
-    mid: [[u64; 11]; 258],
-    dst: [[u64; 11]; 536],
-    masks: [u64; 256],
-    index: [u64; 129],
-}
-
-/// The rooms' lengths.
+/// The rooms' lengths, in the order in which the library takes them.
 const LENGTHS: [usize; 9] = [256, 32, 17, 256, 128, 258, 536, 256, 129];
+
+/// The rooms of a decision.
+struct Rooms {
+    fields: [[u64; 2]; LENGTHS[0]],
+    rules: [[u64; 2]; LENGTHS[1]],
+    lists: [[u64; 64]; LENGTHS[2]],
+    rows: [[u64; 11]; LENGTHS[3]],
+    xs: [[u64; 13]; LENGTHS[4]],
+    mid: [[u64; 11]; LENGTHS[5]],
+    dst: [[u64; 11]; LENGTHS[6]],
+    masks: [u64; LENGTHS[7]],
+    index: [u64; LENGTHS[8]],
+}
 
 impl Rooms {
     /// The library's result, with so much lent of each room. Sound for any slices where no length is above its array's, as in `ask_into`:
@@ -255,15 +255,15 @@ impl Room {
 
     fn filled(number: u64) -> Room {
         Room(Box::new(Rooms {
-            fields: [[number; 2]; 256],
-            rules: [[number; 2]; 32],
-            lists: [[number; 64]; 17],
-            rows: [[number; 11]; 256],
-            xs: [[number; 13]; 128],
-            mid: [[number; 11]; 258],
-            dst: [[number; 11]; 536],
-            masks: [number; 256],
-            index: [number; 129],
+            fields: [[number; 2]; LENGTHS[0]],
+            rules: [[number; 2]; LENGTHS[1]],
+            lists: [[number; 64]; LENGTHS[2]],
+            rows: [[number; 11]; LENGTHS[3]],
+            xs: [[number; 13]; LENGTHS[4]],
+            mid: [[number; 11]; LENGTHS[5]],
+            dst: [[number; 11]; LENGTHS[6]],
+            masks: [number; LENGTHS[7]],
+            index: [number; LENGTHS[8]],
         }))
     }
 
