@@ -16,7 +16,7 @@ use text::write::{line_length, put_line};
 
 // A line that was found, with the place after it; all 0 where there is none.
 #[repr(C)]
-#[derive(Drop)]
+#[derive(Clone, Copy)]
 pub struct Found {
     pub next: u64,
     pub count: u64,

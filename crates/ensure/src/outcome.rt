@@ -1,7 +1,7 @@
 // How ensure_distribution ends.
 
 // The numbers of the d line and how many rows the answer has; or a row is missing, or relationships can't be enforced.
-#[derive(Drop)]
+#[derive(Clone, Copy)]
 pub enum Ensured {
     Answered {
         changed: u64,

@@ -38,7 +38,7 @@ pub const PLACES: usize = 129;
 
 const NOWHERE: usize = 128;
 
-#[derive(Drop)]
+#[derive(Clone, Copy)]
 pub enum Fact {
     Row { place: usize },
     Missing,

@@ -15,7 +15,7 @@ use crate::row::Node;
 const NEW_MARK: u64 = 1;
 
 // What is said of a new operator. An absent limit has `limited` 0.
-#[derive(Drop)]
+#[derive(Clone, Copy)]
 pub struct New {
     pub kind: u64,
     pub count: u64,

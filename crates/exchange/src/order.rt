@@ -5,7 +5,7 @@ ghost use Rattle.exchange.specs.Order.{kept_entries};
 ghost use Rattle.exchange.specs.Handling.{enables_streaming, required_replaced, sorted_entries, free_replaced, streams as streamsBy, required_handling, free_handling, handling_of};
 
 // Whether order-preserving operators give way, the entries of the sort above (0: none), and whether the child's mark is cleared.
-#[derive(Drop)]
+#[derive(Clone, Copy)]
 pub struct Handling {
     pub replaced: bool,
     pub entries: u64,
@@ -107,7 +107,7 @@ fn free_replaced(need: u64, maintains: bool, streaming: bool, output: bool) -> b
 }
 
 // What is known of a child, and of the worked node over it.
-#[derive(Drop)]
+#[derive(Clone, Copy)]
 pub struct Known {
     pub sort: u64,
     pub friendly: u64,

@@ -13,14 +13,14 @@ pub const AGGSUBSET: usize = 3;
 pub type NodeRow = [u64; 4];
 
 // The worked node: its kind and its B row.
-#[derive(Drop)]
+#[derive(Clone, Copy)]
 pub struct Worked {
     pub kind: u64,
     pub facts: NodeRow,
 }
 
 // A child as it stands after its split: its form, its count, and the X row of that form.
-#[derive(Drop)]
+#[derive(Clone, Copy)]
 pub struct Standing {
     pub form: u64,
     pub count: u64,

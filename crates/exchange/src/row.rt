@@ -33,7 +33,7 @@ pub type Row = [u64; WIDTH];
 
 // An operator. An absent limit has `limited` 0 and `limit` 0.
 #[repr(C)]
-#[derive(Drop)]
+#[derive(Clone, Copy)]
 pub struct Node {
     pub id: u64,
     pub kind: u64,
@@ -48,7 +48,7 @@ pub struct Node {
 }
 
 // Past what was read, and past what was written.
-#[derive(Drop)]
+#[derive(Clone, Copy)]
 pub struct Step {
     pub at: usize,
     pub to: usize,

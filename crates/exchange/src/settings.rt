@@ -2,7 +2,7 @@
 ghost use Rattle.std.specs.Prelude.{◌≡◌};
 ghost use Rattle.exchange.specs.Settings.{checked};
 
-#[derive(Drop)]
+#[derive(Clone, Copy)]
 pub struct Settings {
     pub target: u64,
     pub roundrobin: u64,
@@ -16,7 +16,7 @@ pub struct Settings {
 }
 
 // Settings within their bounds, or none.
-#[derive(Drop)]
+#[derive(Clone, Copy)]
 pub enum Checked {
     Fine(Settings),
     OutOfRange,

@@ -19,7 +19,7 @@ pub const WIDTH: usize = 7;
 pub type ChildRow = [u64; WIDTH];
 
 // A child of the worked node: its number from 1, need and count of its root, and its F row.
-#[derive(Drop)]
+#[derive(Clone, Copy)]
 pub struct Asked {
     pub number: u64,
     pub need: u64,
@@ -28,7 +28,7 @@ pub struct Asked {
 }
 
 // What is known of a child before any child is changed: dealing out its rows may gain, it gains by their number, it must be hashed.
-#[derive(Drop)]
+#[derive(Clone, Copy)]
 pub struct RepartitionRequirementStatus {
     pub beneficial: bool,
     pub stats: bool,

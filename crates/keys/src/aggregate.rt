@@ -1,6 +1,6 @@
 // Where a name is found among an aggregate's.
 
-#[derive(Drop)]
+#[derive(Clone, Copy)]
 pub enum Found {
     At(usize),
     Nowhere,

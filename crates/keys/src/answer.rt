@@ -7,7 +7,7 @@ use crate::list::NumberList;
 use crate::reorder::Reordered;
 
 // The numbers of a K line; `columns` is its `left`.
-#[derive(Drop)]
+#[derive(Clone, Copy)]
 pub struct Operator {
     pub op: u64,
     pub mode: u64,
@@ -18,7 +18,7 @@ pub struct Operator {
 }
 
 // What a child's list becomes.
-#[derive(Drop)]
+#[derive(Clone, Copy)]
 pub enum Handed {
     Kept,
     Cleared,
@@ -28,7 +28,7 @@ pub enum Handed {
     Mapped,
 }
 
-#[derive(Drop)]
+#[derive(Clone, Copy)]
 pub enum Outcome {
     Unchanged,
     Passed,
@@ -38,7 +38,7 @@ pub enum Outcome {
 }
 
 // Positions of the pairs or groups that moved, and the group names' places: empty where an outcome doesn't speak of them.
-#[derive(Drop)]
+#[derive(Clone, Copy)]
 pub struct Adjusted {
     pub at: NumberList,
     pub places: NumberList,

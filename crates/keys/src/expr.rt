@@ -2,7 +2,7 @@
 ghost use Rattle.std.specs.Prelude.{◌≡◌, ◌<◌};
 ghost use Rattle.keys.specs.Expressions.{packed, expression};
 
-#[derive(Drop)]
+#[derive(Clone, Copy)]
 pub struct Expr {
     pub number: u64,
 }

@@ -5,7 +5,7 @@ ghost use Rattle.keys.specs.InputValues.{side_number, report_by, side_by};
 use crate::list::NumberList;
 use crate::reorder::Reordered;
 
-#[derive(Drop)]
+#[derive(Clone, Copy)]
 pub enum Side {
     Neither,
     Left,
@@ -13,7 +13,7 @@ pub enum Side {
 }
 
 // No side is hash partitioned, one was followed, or none could be.
-#[derive(Drop)]
+#[derive(Clone, Copy)]
 pub enum Attempt {
     Untried,
     Followed(Side, Reordered),
@@ -21,7 +21,7 @@ pub enum Attempt {
 }
 
 // There are positions only where the pairs are moved.
-#[derive(Drop)]
+#[derive(Clone, Copy)]
 pub struct Current {
     pub at: NumberList,
     pub outcome: Attempt,

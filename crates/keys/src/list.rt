@@ -7,14 +7,14 @@ ghost use Rattle.keys.specs.Values.{packed_keys, numbers, Whole, WholeNumbers};
 use crate::expr::Expr;
 use crate::reorder::GONE;
 
-#[derive(Drop)]
+#[derive(Clone, Copy)]
 pub struct KeyList {
     pub items: [Expr; 32],
     pub count: usize,
 }
 
 // A position takes a byte, so that a list of them is short enough to be handed over.
-#[derive(Drop)]
+#[derive(Clone, Copy)]
 pub struct NumberList {
     pub items: [u8; 32],
     pub count: usize,

@@ -13,13 +13,13 @@ use crate::list::NumberList;
 // The placeholder, packed.
 pub const GONE: u64 = 8589934592;
 
-#[derive(Drop)]
+#[derive(Clone, Copy)]
 pub enum Placed {
     All,
     Missing,
 }
 
-#[derive(Drop)]
+#[derive(Clone, Copy)]
 pub struct Positions {
     pub at: NumberList,
     pub outcome: Placed,
@@ -143,7 +143,7 @@ fn either_side(r: &[u64], l: &[u64], g: &[u64]) -> Positions
     expected_expr_positions(g, r)
 }
 
-#[derive(Drop)]
+#[derive(Clone, Copy)]
 pub enum Reordered {
     Met,
     Moved,
@@ -151,7 +151,7 @@ pub enum Reordered {
 }
 
 // There are positions only where the pairs are moved.
-#[derive(Drop)]
+#[derive(Clone, Copy)]
 pub struct Reorder {
     pub at: NumberList,
     pub outcome: Reordered,

@@ -5,7 +5,7 @@ ghost use Rattle.linekinds.specs.Reading.{head_count, entry_width, row_values, u
 ghost use Rattle.linekinds.specs.Lines.{whole_entries};
 
 // What is asked of a line's fields: the K line, the I line, expressions, rules, a mark and expressions, directions, names.
-#[derive(Drop)]
+#[derive(Clone, Copy)]
 pub enum Codes {
     Key,
     Join,

@@ -9,7 +9,7 @@ use crate::kind::{Codes, judge_codes, judge_counts};
 use text::line::{Line, line_at};
 
 // A line with its count of fields and the place after it, or the lowest number that turns it back.
-#[derive(Drop)]
+#[derive(Clone, Copy)]
 pub enum Read {
     Line { count: usize, next: usize },
     Refused(u64),

@@ -7,14 +7,14 @@ use crate::line::{Read, read_line};
 use crate::pack::pack_line;
 use crate::plain::{Entries, list_at};
 
-#[derive(Drop)]
+#[derive(Clone, Copy)]
 pub enum SheetKind {
     Key,
     Join,
 }
 
 // A line's list, packed, and the place after the line; or the lowest number that turns the line back.
-#[derive(Drop)]
+#[derive(Clone, Copy)]
 pub enum Listed {
     Packed { count: usize, next: usize },
     Turned(u64),

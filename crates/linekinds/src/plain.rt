@@ -7,14 +7,14 @@ use crate::kind::{Codes, defined_expr};
 use text::field::widened;
 
 // A number and the place after it, or something else.
-#[derive(Drop)]
+#[derive(Clone, Copy)]
 pub enum Found {
     Number { value: u64, end: usize },
     Other,
 }
 
 // How many entries, and the place of the LF; or something else.
-#[derive(Drop)]
+#[derive(Clone, Copy)]
 pub enum Entries {
     Packed { count: usize, end: usize },
     Other,

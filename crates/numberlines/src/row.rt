@@ -10,7 +10,7 @@ use linekinds::plain::Found;
 pub(crate) const PLAIN: u64 = 65535;
 
 // The place of the LF; or a line of the letter, in which something is unusual; or something else, and nothing was stored.
-#[derive(Drop)]
+#[derive(Clone, Copy)]
 pub enum Plain {
     Line { end: usize },
     Unusual,
@@ -18,7 +18,7 @@ pub enum Plain {
 }
 
 // The place of the comma after the numbers, or something else.
-#[derive(Drop)]
+#[derive(Clone, Copy)]
 pub enum Reached {
     At(usize),
     Other,

@@ -82,7 +82,7 @@ pub fn read_tree_lines(
 }
 
 // How many X rows there are; or a refusal and its line.
-#[derive(Drop)]
+#[derive(Clone, Copy)]
 pub enum Facts {
     Read(usize),
     Refused { number: u64, line: u64 },

@@ -22,7 +22,7 @@ use exchange::worked::remove_dist_changing_operators;
 use fits::fit::facts_fit;
 
 // A sheet stands in the rooms lent: its settings, the tree's lines, the place of the worked node, its children and the X rows; or a refusal and its line.
-#[derive(Drop)]
+#[derive(Clone, Copy)]
 pub enum Plan {
     Held {
         settings: Settings,

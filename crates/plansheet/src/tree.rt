@@ -135,7 +135,7 @@ fn put_row(rows: &mut [Row], i: usize, x: Row)
 }
 
 // How many children the row has, and the place after its line; or a refusal.
-#[derive(Drop)]
+#[derive(Clone, Copy)]
 pub enum TreeRow {
     Row { children: u64, next: usize },
     Refused(u64),
@@ -217,7 +217,7 @@ fn tree_row(
 }
 
 // How many rows were read, the place after them and the number of the line there; or a refusal and its line.
-#[derive(Drop)]
+#[derive(Clone, Copy)]
 pub enum Rows {
     Read {
         count: usize,

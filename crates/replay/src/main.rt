@@ -29,7 +29,7 @@ fn line_end(s: &[u8], at: usize) -> usize {
     i
 }
 
-#[derive(Drop)]
+#[derive(Clone, Copy)]
 struct Number {
     value: usize,
     next: usize,

@@ -5,7 +5,7 @@ ghost use Rattle.sheet.specs.SheetLines.{most_lists, count_by, FewChildren, turn
 use linekinds::lists::{Listed, SheetKind, judged_list, read_list};
 
 // All lines, with the place after them and the number of the next line; or a refusal and its line.
-#[derive(Drop)]
+#[derive(Clone, Copy)]
 pub enum Lines {
     Read { next: usize, line: u64 },
     Refused { number: u64, line: u64 },

@@ -8,7 +8,7 @@ use crate::read::{Lines, read_whole};
 use linekinds::lists::SheetKind;
 
 // A sheet stands in the rooms lent; or a refusal and its line.
-#[derive(Drop)]
+#[derive(Clone, Copy)]
 pub enum Sheet {
     Held,
     Refused { number: u64, line: u64 },

@@ -7,7 +7,7 @@ ghost use Rattle.text.specs.Bounds.{fits_rows, judged};
 use crate::line::{Line, line_at};
 
 // A line whose fields are within their bounds; one whose fields are not, or not as many; or no line of the letter.
-#[derive(Drop)]
+#[derive(Clone, Copy)]
 pub enum Judged {
     Line { count: usize, next: usize },
     Unfit,

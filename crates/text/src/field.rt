@@ -10,7 +10,7 @@ const MOST: u64 = 18446744073709551615;
 const TENTH: u64 = 1844674407370955161;
 
 // A field, with the place of the byte that ends it, or the text's length.
-#[derive(Drop)]
+#[derive(Clone, Copy)]
 pub struct Scanned {
     pub end: usize,
     pub state: u64,

@@ -1,4 +1,6 @@
 // Bytes into numbers and numbers into bytes: lines of decimal fields, read in one pass and written at their exact length.
+#![tactic(auto)]
+
 pub mod bounds;
 pub mod field;
 pub mod line;

@@ -34,7 +34,7 @@ fn line_ended(s: &[u8], at: usize) -> bool
 }
 
 // How many fields, the largest of their states, the largest of their values, and the place of the LF or the text's length.
-#[derive(Drop)]
+#[derive(Clone, Copy)]
 pub struct Tally {
     pub count: usize,
     pub worst: u64,
@@ -81,7 +81,7 @@ pub fn fields_at(s: &[u8], at: usize, out: &mut [[u64; 2]]) -> Tally
 }
 
 // A line that was read, with the place after it; or a line that lacks its LF, its letter or the comma after that.
-#[derive(Drop)]
+#[derive(Clone, Copy)]
 pub enum Line {
     Fields {
         count: usize,

@@ -1,0 +1,620 @@
+#!/usr/bin/env python3
+"""Turns proofs of the older form (Proof.antt with tie.spec) of a crate into Invariants.antt and Answers.antt.
+
+usage: tools/answers.py CRATE [FUNCTION..]      at the top of the repository
+
+It reads how goals and steps are called, of old and now, from 'rt check --generated DIR --old-names'.
+What the check's own search answers is left out. It prints each place that it could not turn.
+"""
+import json
+import os
+import re
+import subprocess
+import sys
+import tempfile
+
+ID = r"[A-Za-z_μ][\w'₀-₉·-]*"
+PATH = re.compile(r"(?<![\w.'·-])(" + ID + r")((?:\.[\w'₀-₉·-]+)*)")
+
+
+def norm(n):
+    n = n.replace("·", "_").replace("-", "_")
+    return n[:-4] if n.endswith("_lem") else n
+
+
+def names_of(crate):
+    d = tempfile.mkdtemp()
+    subprocess.run(["rt", "check", "--generated", d, "--old-names"], cwd="crates/" + crate, stdout=subprocess.DEVNULL, stderr=subprocess.DEVNULL)
+    with open(d + "/names.json") as f:
+        return json.load(f)
+
+
+def clauses():
+    """Per function the names of its requires and its ensures, where it has more than one."""
+    out = {}
+    for c in os.listdir("crates"):
+        src = f"crates/{c}/src"
+        for d, _, fs in os.walk(src):
+            for f in fs:
+                if not f.endswith(".rt"):
+                    continue
+                mod = os.path.relpath(os.path.join(d, f), src)[:-3].replace("/", "::")
+                mod = [] if mod in ("lib", "main") else mod.split("::")
+                text = open(os.path.join(d, f), encoding="utf-8").read()
+                for m in re.finditer(r"^\s*(?:pub(?:\(\w+\))? )?(?:extern \"C\" )?fn (\w+)", text, re.M):
+                    rest = text[m.end():]
+                    rest = rest[:re.search(r"\n\s*\{\n|\{\}\n|;\n|\{ [a-z_0-9]+ \}\n|\n\}", rest).start()] if re.search(r"\n\s*\{\n|\n\}", rest) else rest
+                    req = re.findall(r"^\s*requires(?: (\w+))? \{", rest, re.M)
+                    ens = re.findall(r"^\s*ensures(?: (\w+))? \{", rest, re.M)
+                    out["::".join([c] + mod + [m.group(1)])] = (req if req and req[0] else [], ens if ens and ens[0] else [])
+    return out
+
+
+def blocks(text):
+    """Comments before each declaration, its name, its type, its body lines."""
+    lines = text.split("\n")
+    head, uses, decls, i = [], [], [], 0
+    comment = []
+    while i < len(lines):
+        l = lines[i]
+        if l.startswith("--"):
+            comment.append(l)
+        elif l.startswith("use "):
+            uses.append(l)
+            if comment and not head and not decls:
+                head, comment = comment, []
+        elif l.strip() == "":
+            pass
+        else:
+            j = i
+            part = []
+            while j < len(lines) and (lines[j].strip() != "" and not (j > i and lines[j].startswith("--"))):
+                part.append(lines[j])
+                j += 1
+            decls.append((comment, part))
+            comment = []
+            i = j
+            continue
+        i += 1
+    return head, uses, decls
+
+
+def split_decl(part):
+    m = re.match(r"((?:abbrev |unfoldable |pub )*)(\S+)((?: \{[^}]*\})*) :", part[0])
+    if not m:
+        return None
+    name = m.group(2)
+    k = 1
+    while k < len(part) and not re.match(re.escape(name) + r"(\s|$)", part[k]) and not part[k].startswith("unfolding "):
+        k += 1
+    ty = "\n".join(part[:k])[m.end():].strip()
+    unf = []
+    while k < len(part) and part[k].startswith("unfolding "):
+        unf.append(part[k])
+        k += 1
+    body = "\n".join(part[k:])
+    clauses = re.findall(r"^" + re.escape(name) + r"(?=\s)", body, re.M)
+    m2 = re.match(re.escape(name) + r"([^=]*?) =(\s)", body)
+    if not m2:
+        m2 = re.match(re.escape(name) + r"([^=]*?) =()$", body, re.M)
+    if not m2:
+        return dict(name=name, mods=m.group(1), type=ty, args=None, body=body, unf=unf, many=len(clauses) > 1, whole="\n".join(part))
+    return dict(name=name, mods=m.group(1), type=ty, args=m2.group(1).split(), body=body[m2.end():].strip("\n"), unf=unf, many=len(clauses) > 1, whole="\n".join(part))
+
+
+class Left(Exception):
+    pass
+
+
+class Fn:
+    def __init__(self, crate, path, J, cl, said):
+        self.crate, self.path, self.J, self.cl, self.said = crate, path, J, cl, said
+        self.own = "::".join([crate] + path)
+        self.places = J["places"]
+        self.index = {}
+        for i, p in enumerate(self.places):
+            self.index.setdefault(p[0], i)
+        self.byname = {n: i for i, n in enumerate(J.get("places_by_name") or [])}
+        self.helpers = {}
+        self.goal = None
+
+    def parent(self, i):
+        p = self.places[i][1]
+        return None if p is None else self.index[p]
+
+    def place(self, name):
+        for n in (name, name.replace("_", "-")):
+            if n in self.index:
+                return self.index[n]
+        for n, i in self.index.items():
+            if norm(n) == norm(name):
+                return i
+        raise Left(f"no place {name}")
+
+    def up(self, i, n=1):
+        for _ in range(n):
+            i = self.parent(i) if self.parent(i) is not None else i
+        return i
+
+    def step(self, i, field):
+        j = i
+        while j is not None:
+            old = self.places[j][2][0]
+            if old and norm(old) == norm(field):
+                return j
+            j = self.parent(j)
+        return None
+
+    def arm(self, i, oldstep, rest):
+        """The field of an arm's step for an old step's path."""
+        j = i
+        while j is not None:
+            a = self.J["arms"][j] if j < len(self.J["arms"]) else None
+            if a:
+                for new, old, path in a[2]:
+                    if path and norm(old) == norm(oldstep) and rest[:len(path)] == path and not new.endswith("-ensures") and not new.endswith("-own"):
+                        return a[0], new, rest[len(path):]
+                    if path == ["ensures"] and norm(old) == norm(oldstep) and rest[:1] == ["ensures"]:
+                        return a[0], "ensures", rest[1:]
+            j = self.parent(j)
+        return None
+
+    def walk(self, at, fields):
+        """('place', i) or ('text', 'c.x.y', clause names)"""
+        fields = list(fields)
+        while fields and fields[0] == "before":
+            at = self.up(at)
+            fields.pop(0)
+        if not fields:
+            return ("place", at)
+        f = fields.pop(0)
+        if f in ("args", "ranges", "lifetimes", "well_formed", "well-formed"):
+            return ("text", ".".join(["c", f.replace("-", "_")] + fields), [])
+        if f == "requires":
+            names = self.cl.get(self.own, ([], []))[0]
+            if len(names) == 1:
+                fields, names = names + fields, []
+            elif fields and fields[0].isdigit() and names and int(fields[0]) < len(names):
+                fields[0] = names[int(fields[0])]
+                names = []
+            return ("text", ".".join(["c", "requires"] + fields), names if not fields else [])
+        j = self.step(at, f)
+        if j is None and self.goal is not None:
+            j, at = self.step(self.goal, f), self.goal
+        if j is None:
+            raise Left(f"no step {f} at {self.places[at][0]}")
+        if fields and fields[0] in ("given", "ensures"):
+            a = self.arm(at, f, fields)
+            if a:
+                ens = self.cl.get(self.places[j][3], ([], []))[1]
+                rest, names = list(a[2]), []
+                if a[1] == "ensures" and ens:
+                    if len(ens) == 1:
+                        rest = ens + rest
+                    elif rest and rest[0].isdigit() and int(rest[0]) < len(ens):
+                        rest[0] = ens[int(rest[0])]
+                    elif not rest:
+                        names = ens
+                return ("text", ".".join(["c", a[0], a[1]] + rest), names)
+        new, callee = self.places[j][2][1], self.places[j][3]
+        names = []
+        if callee:
+            ens = self.cl.get(callee, ([], []))[1]
+            if fields and fields[0] == "ensures":
+                if len(ens) == 1:
+                    fields = ["ensures"] + ens + fields[1:]
+                elif len(fields) > 1 and fields[1].isdigit() and ens and int(fields[1]) < len(ens):
+                    fields[1] = ens[int(fields[1])]
+                elif len(fields) == 1:
+                    names = ens
+            if fields and fields[0] == "new" and len(fields) > 1:
+                ps = self.J["params"].get(callee) or []
+                k = 1
+                while k < len(fields) and fields[k] == "1":
+                    k += 1
+                n = k - 1
+                if k < len(fields) and fields[k] == "0" and n < len(ps):
+                    fields = ["new", ps[n]] + fields[k + 1:]
+        return ("text", ".".join(["c", new] + fields), names)
+
+    def turn(self, text, alias):
+        """alias: a name to ('place', i) or ('text', text, clause names)."""
+        alias = dict(alias)
+        out, pos = [], 0
+        letre = re.compile(r"let (" + ID + r") =\s+((?:" + ID + r" )?\(?" + ID + r"(?:\.[\w'₀-₉·-]+)*\)?) in(?=\s)\s*")
+        while True:
+            m = letre.search(text, pos)
+            if not m:
+                break
+            v = self.value(m.group(2), alias)
+            if v is None:
+                out.append(self.plain(text[pos:m.end()], alias))
+                alias.pop(m.group(1), None)
+                pos = m.end()
+                continue
+            out.append(self.plain(text[pos:m.start()], alias))
+            if v[0] == "place":
+                alias[m.group(1)] = v
+            else:
+                out.append(f"let {m.group(1)} = {v[1]} in ")
+                alias[m.group(1)] = ("text", m.group(1), v[2], v)
+            pos = m.end()
+        out.append(self.plain(text[pos:], alias))
+        return "".join(out)
+
+    def value(self, text, alias):
+        text = text.strip()
+        m = re.fullmatch(r"(" + ID + r") \(?(" + ID + r")((?:\.[\w'₀-₉·-]+)*)\)?", text)
+        if m and m.group(1) in self.helpers and self.helpers[m.group(1)].get("to_place"):
+            v = self.value(m.group(2) + m.group(3), alias)
+            if v and v[0] == "place":
+                return self.through(self.helpers[m.group(1)], v[1])
+        m = re.fullmatch(PATH, text)
+        if not m or m.group(1) not in alias:
+            return None
+        a = alias[m.group(1)]
+        fields = m.group(2).split(".")[1:]
+        return self.follow(a, fields)
+
+    def follow(self, a, fields):
+        if a[0] == "place":
+            return self.walk(a[1], fields)
+        names = a[2]
+        if fields and fields[0].isdigit() and names and int(fields[0]) < len(names):
+            fields = [names[int(fields[0])]] + fields[1:]
+            names = []
+        if fields and len(a) > 3:
+            # a name bound to a whole step: its fields go by the step
+            pass
+        return ("text", ".".join([a[1]] + fields), names if not fields else [])
+
+    def through(self, h, place):
+        v = self.value(h["body"].strip(), {h["args"][0]: ("place", place)})
+        if not v or v[0] != "place":
+            raise Left("helper " + h["name"])
+        return v
+
+    def plain(self, text, alias):
+        # helpers applied to a place
+        for hn, h in self.helpers.items():
+            if h.get("to_place"):
+                # H PATH.field: as a place
+                def sub(m, h=h):
+                    v = self.value(m.group(1), alias)
+                    if not v or v[0] != "place":
+                        raise Left("helper " + h["name"] + " at " + m.group(1))
+                    w = self.through(h, v[1])
+                    r = self.follow(w, [x for x in m.group(2).split(".") if x])
+                    if r[0] == "place":
+                        raise Left("a place stands alone")
+                    return r[1]
+                text = re.sub(r"\(" + re.escape(hn) + r" (" + ID + r"(?:\.[\w'₀-₉·-]+)*)\)((?:\.[\w'₀-₉·-]+)+)", sub, text)
+        for hn, h in self.helpers.items():
+            if h.get("to_place"):
+                continue
+            pat = re.compile(r"(?<![\w.'·-])" + re.escape(hn) + r"(?![\w'·-])(?: (\(?)((?:\(?" + ID + r" )?" + ID + r"(?:\.[\w'₀-₉·-]+)*\)?(?:\.[\w'₀-₉·-]+)*))?")
+            def sub(m, h=h):
+                arg = m.group(2)
+                if not arg:
+                    raise Left("helper " + h["name"] + " with no place")
+                v = self.value(arg, alias)
+                if not v or v[0] != "place":
+                    raise Left("helper " + h["name"] + " at " + arg)
+                return self.inline(h, v[1]) + ""
+            if pat.search(text):
+                # only simple arguments: NAME PATH
+                pat = re.compile(r"(?<![\w.'·-])" + re.escape(hn) + r" (" + ID + r"(?:\.[\w'₀-₉·-]+)*)(?![\w'·-])")
+                def sub2(m, h=h):
+                    v = self.value(m.group(1), alias)
+                    if not v or v[0] != "place":
+                        raise Left("helper " + h["name"] + " at " + m.group(1))
+                    return "\x00" + self.inline(h, v[1]).replace("\n", " ") + "\x01"
+                text = pat.sub(sub2, text)
+        parts = re.split(r"(\x00[^\x01]*\x01)", text)
+        return "".join(p[1:-1] if p.startswith("\x00") else self.paths(p, alias) for p in parts)
+
+    def inline(self, h, place):
+        al = {h["args"][0]: ("place", place)}
+        body = self.turn(h["body"].strip(), al)
+        if "abbrev" in h["mods"]:
+            if len(h["args"]) > 1:
+                body = "(λ " + " ".join(h["args"][1:]) + ". " + body + ")"
+            return "(" + body + ")"
+        ty = h["type"]
+        ty = self.turn(ty, {h["param"]: ("place", place)} if h["param"] else {})
+        if len(h["args"]) > 1:
+            body = "λ " + " ".join(h["args"][1:]) + ". " + body
+        n = h["name"]
+        return f"(let {n} : {ty} = {body} in {n})"
+
+    def paths(self, text, alias):
+        def sub(m):
+            a = alias.get(m.group(1))
+            if a is None:
+                return m.group(0)
+            r = self.follow(a, m.group(2).split(".")[1:])
+            if r[0] == "place":
+                raise Left("a place stands alone: " + m.group(0))
+            return r[1]
+        return PATH.sub(sub, text)
+
+
+def top_tuple(text):
+    """The parts of a tuple that is the whole text, or None."""
+    t = text.strip()
+    if not t.startswith("(") or not t.endswith(")"):
+        return None
+    depth, parts, cur = 0, [], ""
+    for i, ch in enumerate(t):
+        if ch in "([{⟦":
+            depth += 1
+            if depth == 1:
+                continue
+        elif ch in ")]}⟧":
+            depth -= 1
+            if depth == 0:
+                if i != len(t) - 1:
+                    return None
+                continue
+        if ch == "," and depth == 1:
+            parts.append(cur)
+            cur = ""
+            continue
+        cur += ch
+    parts.append(cur)
+    return [p.strip() for p in parts] if len(parts) > 1 else None
+
+
+def split_lets(t):
+    """Leading lets and the rest."""
+    lets = ""
+    while True:
+        m = re.match(r"\s*let ", t)
+        if not m:
+            return lets, t
+        depth, i = 0, 0
+        n = 0
+        for k in re.finditer(r"[(\[{⟦]|[)\]}⟧]|\blet\b|\bin\b", t):
+            g = k.group(0)
+            if g in "([{⟦":
+                depth += 1
+            elif g in ")]}⟧":
+                depth -= 1
+            elif depth == 0 and g == "let":
+                n += 1
+            elif depth == 0 and g == "in":
+                n -= 1
+                if n == 0:
+                    i = k.end()
+                    break
+        if i == 0:
+            return lets, t
+        lets += t[:i].lstrip() + " "
+        t = t[i:].lstrip()
+
+
+def used(uses, text):
+    out = []
+    toks = set(re.findall(r"[^\s(){}\[\]⟦⟧.;,@\"«»`\\]+", text))
+    for u in uses:
+        m = re.match(r"use ([^{\s]+?)\.\{(.*)\}$", u)
+        if not m:
+            m2 = re.match(r"use (\S+) as (\S+)$", u)
+            if m2 and re.search(r"(?<![\w-])" + re.escape(m2.group(2)) + r"(?![\w-])", text):
+                out.append(u)
+            elif not m2 and re.search(r"(?<![\w-])" + re.escape(u.split(".")[-1]) + r"(?![\w-])", text):
+                out.append(u)
+            continue
+        keep = []
+        for n in m.group(2).split(", "):
+            plain = n.split(" as ")[-1]
+            sym = plain.replace("◌", " ").split()
+            if all(s in toks or any(c in text for c in [s]) and not re.match(r"[\w]", s) for s in sym) or plain in toks or plain == "arith" and "arith" in toks:
+                keep.append(n)
+        if keep:
+            out.append(f"use {m.group(1)}.{{{', '.join(keep)}}}")
+    return out
+
+
+def convert(crate, path, file, J, cl, said):
+    text = open(file, encoding="utf-8").read()
+    head, uses, decls = blocks(text)
+    F = Fn(crate, path, J, cl, said)
+    ds = []
+    for com, part in decls:
+        d = split_decl(part)
+        if d is None:
+            raise Left("no declaration: " + part[0][:60])
+        d["comment"] = com
+        ds.append(d)
+    spec = [d for d in ds if "tie.spec" in d["body"]]
+    if len(spec) != 1:
+        raise Left("no tie.spec")
+    spec = spec[0]
+    args = re.search(r"tie\.spec([^()]*)", spec["body"]).group(1).split()
+    by = {d["name"]: d for d in ds}
+    loops = J["loops"]
+    order = []
+    for a in args:
+        if a not in by:
+            raise Left("tie.spec has " + a)
+        order.append(by[a])
+    invs = [d for d in order if re.match(r"tie\.(invariant|decreases)", d["type"])]
+    needs = [d for d in order if d not in invs]
+    if len(needs) != len(J["needs"]):
+        said.append(f"look: {'/'.join(path)}: {len(needs)} goals of old, {len(J['needs'])} by the list")
+    helpers = [d for d in ds if d not in order and d is not spec]
+    keep = []
+    for h in helpers:
+        m = re.match(r"\(?(?:(" + ID + r") : )?tie\.([A-Z][\w'·-]*)((?: [\w'·-]+)*?)\)? →\s*", h["type"])
+        if not m:
+            if "tie." in h["type"] or "tie." in h["body"]:
+                raise Left("helper " + h["name"] + ": " + h["type"][:60])
+            keep.append(h)
+            continue
+        h["param"], h["type"] = m.group(1), h["type"][m.end():]
+        if h["args"] is None or h["many"] or not h["args"]:
+            raise Left("helper by cases: " + h["name"])
+        if re.match(r"tie\.[A-Z]", h["type"]):
+            h["to_place"] = True
+        F.helpers[h["name"]] = h
+    inv_text = []
+    li = 0
+    flat = J["changed"]
+    for d in invs:
+        m = re.match(r"tie\.(invariant|decreases)[_-](loop[\w-]*)", d["type"])
+        kind, old = m.group(1), m.group(2)
+        cand = [k for k, l in enumerate(loops) if norm(l[0][0]) == norm(old)]
+        if not cand:
+            raise Left("loop " + old)
+        new, vs = loops[cand[0]][0][1], loops[cand[0]][1]
+        ch = flat if flat and isinstance(flat[0], bool) else flat[cand[0]]
+        sub = {}
+        a = d["args"]
+        changed = [v for v, c in zip(vs, ch) if c]
+        if len(a) != len(vs) + len(changed):
+            raise Left(f"{d['name']}: {len(a)} arguments, variables {vs}, changed {changed}")
+        for n, v, c in zip(a, vs, ch):
+            sub[n] = f"l.initial.{v}" if c else f"l.{v}"
+        for n, v in zip(a[len(vs):], changed):
+            sub[n] = f"l.{v}"
+        body = re.sub(r"(?<![\w.'·-])(" + "|".join(sorted(map(re.escape, sub), key=len, reverse=True)) + r")(?![\w'₀-₉·-])", lambda m: sub[m.group(1)], d["body"]) if sub else d["body"]
+        for c in d["comment"]:
+            inv_text.append(c)
+        inv_text.append(f"abbrev pub {kind}-{new} : goal.{kind}-{new}")
+        for u in d["unf"]:
+            inv_text.append(u)
+        inv_text.append(f"{kind}-{new} l ={' ' if not body.startswith(chr(10)) else ''}{body}")
+        inv_text.append("")
+    ans = []
+    olds = J["needs"]
+    at = J["asked_at"]
+    used_new = set()
+    for k, d in enumerate(needs):
+        body = d["body"].strip()
+        # by name first, and by order where the names don't tell
+        decl = re.match(r"tie\.Need-([\w'·-]+)", d["type"]).group(1)
+        decl = re.sub(r"^(overflow|slice-bounds)-", "", decl)
+        pick = [i for i, o in enumerate(olds) if norm(o[0]) == norm(decl) or norm(o[0]) == norm(d["name"])]
+        i = pick[0] if len(pick) == 1 else (k if len(needs) == len(olds) else None)
+        if i is None:
+            said.append(f"left: {'/'.join(path)}: which goal is {d['name']} ({d['type'][:50]})?")
+            ans.append("-- LEFT " + d["whole"].replace("\n", "\n-- "))
+            continue
+        if len(needs) == len(olds) and i != k:
+            i = k
+        new = olds[i][1]
+        if body in ("search rules", "omega arith", "refl"):
+            continue
+        try:
+            a = d["args"]
+            if a is None:
+                raise Left("cases")
+            place = F.goal = F.place(at[i][0])
+            body = F.turn(body, {a[0]: ("place", place)})
+            if len(a) > 1 and a[1] == "κs":
+                if re.search(r"(?<![\w])κs", body):
+                    raise Left("κs is used")
+                a = a[:1]
+            extra = a[1:]
+            # an if on a negated test says what the test was
+            body = re.sub(r"\(not-(?:true|false) _ (c\.[\w'.-]+)\)", r"\1", body)
+            body = re.sub(r"(?<![\w-])not-(?:true|false) _ (c\.[\w'.-]+)", r"\1", body)
+        except Left as e:
+            said.append(f"left: {'/'.join(path)}: {d['name']}: {e}")
+            ans.append("-- LEFT " + d["whole"].replace("\n", "\n-- "))
+            continue
+        for c in d["comment"]:
+            ans.append(c)
+        cls = []
+        if new.startswith("returns"):
+            cls = cl.get(F.own, ([], []))[1]
+        elif "-requires" in new:
+            stem = new.split("-requires")[0]
+            callee = [p[3] for p in F.places if p[3] and (p[2][1] == stem or p[2][1].split("-")[0] == stem.split("-")[0])]
+            if callee:
+                cls = cl.get(callee[0], ([], []))[0]
+        done = False
+        if cls:
+            lets, rest = split_lets(body)
+            tup = top_tuple(rest)
+            flatt = tup
+            while flatt and len(flatt) < len(cls) and top_tuple(flatt[-1]):
+                flatt = flatt[:-1] + top_tuple(flatt[-1])
+            if flatt and len(flatt) == len(cls):
+                for cn, part in zip(cls, flatt):
+                    if part in ("search rules", "omega arith", "refl"):
+                        continue
+                    ans.append(f"pub {new}-clause-{cn} : goal.{new}-clause-{cn}")
+                    ans += d["unf"]
+                    ans.append(f"{new}-clause-{cn} c = {lets}{part}")
+                    ans.append("")
+                done = True
+            elif len(cls) == 1:
+                ans.append(f"pub {new} : goal.{new}")
+                ans += d["unf"]
+                lets, rest = split_lets(body)
+                ans.append(f"{new} c = {lets}record {{ {cls[0]} = {rest.strip()} }}")
+                ans.append("")
+                done = True
+            elif tup:
+                said.append(f"look: {'/'.join(path)}: {new}: a tuple of {len(tup)}, clauses {cls}")
+            else:
+                fields = "; ".join(f"{n} = both.{k}" for k, n in enumerate(cls))
+                ans.append(f"pub {new} : goal.{new}")
+                ans += d["unf"]
+                ans.append(f"{new} c = {lets}let both = {rest.strip()} in record {{ {fields} }}")
+                ans.append("")
+                done = True
+        if not done:
+            ans.append(f"pub {new} : goal.{new}")
+            ans += d["unf"]
+            ans.append(f"{new} {' '.join(['c'] + extra)} ={'' if body.startswith(chr(10)) else ' '}{body}")
+            ans.append("")
+    kept = []
+    for h in keep:
+        kept += h["comment"] + [h["whole"], ""]
+    full = "Rattle." + crate + ".proofs." + ".".join(path)
+    uses = [u for u in uses if not re.search(r"\.(Statement|Tie)\b", u)]
+    head = [h for h in head if h != "-- Assumes nothing."]
+    where = os.path.dirname(file)
+    if inv_text:
+        t = "\n".join(inv_text)
+        kb = "\n".join(kept) if any(re.search(r"(?<![\w-])" + re.escape(h["name"]) + r"(?![\w-])", t) for h in keep) else ""
+        with open(where + "/Invariants.antt", "w", encoding="utf-8") as f:
+            f.write("\n".join(head + used(uses, kb + t) + [f"use {full}.Given as goal", ""] + ([kb] if kb else []) + [t.rstrip("\n"), ""]))
+    if ans:
+        t = "\n".join(kept + ans)
+        with open(where + "/Answers.antt", "w", encoding="utf-8") as f:
+            f.write("\n".join(head + used(uses, t) + [f"use {full}.Goals as goal", "", t.rstrip("\n"), ""]))
+    os.remove(file)
+    if not os.listdir(where):
+        os.rmdir(where)
+
+
+def main():
+    crate, only = sys.argv[1], sys.argv[2:]
+    J, cl, said = names_of(crate), clauses(), []
+    n = 0
+    for d, _, fs in sorted(os.walk(f"crates/{crate}/proofs")):
+        if "Proof.antt" not in fs:
+            continue
+        path = os.path.relpath(d, f"crates/{crate}/proofs").split("/")
+        if only and path[-1] not in only:
+            continue
+        key = f"Rattle-{crate}-proofs." + ".".join(path) + ".Lts"
+        file = d + "/Proof.antt"
+        if key not in J:
+            said.append(f"left: {'/'.join(path)}: no names")
+            continue
+        try:
+            convert(crate, path, file, J[key], cl, said)
+            n += 1
+        except Left as e:
+            said.append(f"left: {'/'.join(path)}: {e}")
+    print("\n".join(said))
+    print(n, "functions")
+
+
+if __name__ == "__main__":
+    main()
