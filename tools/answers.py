@@ -102,6 +102,21 @@ def split_decl(part):
     return dict(name=name, mods=m.group(1), type=ty, args=m2.group(1).split(), body=body[m2.end():].strip("\n"), unf=unf, many=len(clauses) > 1, whole="\n".join(part))
 
 
+def clause_path(names, fields):
+    """The fields with the clause's name in place of its place in the pairs that the older form had."""
+    fields, i = list(fields), 0
+    while i < len(names) - 1:
+        if not fields or not fields[0].isdigit():
+            return None
+        k = int(fields.pop(0))
+        if k == 0:
+            return [names[i]] + fields
+        if k > 1:
+            return [names[i + k]] + fields if i + k < len(names) else None
+        i += 1
+    return [names[i]] + fields
+
+
 class Left(Exception):
     pass
 
@@ -169,15 +184,15 @@ class Fn:
         if not fields:
             return ("place", at)
         f = fields.pop(0)
+        f = "requires" if f == "pre" else f
         if f in ("args", "ranges", "lifetimes", "well_formed", "well-formed"):
             return ("text", ".".join(["c", f.replace("-", "_")] + fields), [])
         if f == "requires":
             names = self.cl.get(self.own, ([], []))[0]
             if len(names) == 1:
                 fields, names = names + fields, []
-            elif fields and fields[0].isdigit() and names and int(fields[0]) < len(names):
-                fields[0] = names[int(fields[0])]
-                names = []
+            elif fields and names and clause_path(names, fields):
+                fields, names = clause_path(names, fields), []
             return ("text", ".".join(["c", "requires"] + fields), names if not fields else [])
         j = self.step(at, f)
         if j is None and self.goal is not None:
@@ -200,8 +215,8 @@ class Fn:
                 if a[1] == "ensures" and ens:
                     if len(ens) == 1:
                         rest = ens + rest
-                    elif rest and rest[0].isdigit() and int(rest[0]) < len(ens):
-                        rest[0] = ens[int(rest[0])]
+                    elif rest and clause_path(ens, rest):
+                        rest = clause_path(ens, rest)
                     elif not rest:
                         names = ens
                 return ("text", ".".join(["c", a[0], a[1]] + rest), names)
@@ -226,8 +241,8 @@ class Fn:
             if fields and fields[0] == "ensures":
                 if len(ens) == 1:
                     fields = ["ensures"] + ens + fields[1:]
-                elif len(fields) > 1 and fields[1].isdigit() and ens and int(fields[1]) < len(ens):
-                    fields[1] = ens[int(fields[1])]
+                elif len(fields) > 1 and ens and clause_path(ens, fields[1:]):
+                    fields = ["ensures"] + clause_path(ens, fields[1:])
                 elif len(fields) == 1:
                     names = ens
             if fields and fields[0] in ("new", "auto") and len(fields) > 1:
@@ -297,9 +312,8 @@ class Fn:
                     return self.of_arm(r, a[1])
             return self.of_step(a[1], a[2], fields)
         names = a[2]
-        if fields and fields[0].isdigit() and names and int(fields[0]) < len(names):
-            fields = [names[int(fields[0])]] + fields[1:]
-            names = []
+        if fields and names and clause_path(names, fields):
+            fields, names = clause_path(names, fields), []
         if fields and len(a) > 3:
             # a name bound to a whole step: its fields go by the step
             pass
