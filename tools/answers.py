@@ -253,8 +253,8 @@ class Fn:
             return ("part", j, fields)
         if re.match(r"(keys\d+|rest)$", fields[0]):
             new = self.places[j][2][1]
-            if new == "in_default":
-                own = ".".join([text, "in_default-own"] + fields)
+            if new.startswith("in_default"):
+                own = ".".join([text, new + "-own"] + fields)
                 return ("text", own if fields[0] == "rest" else f"(opened {own})", [])
             if fields[0] != "rest":
                 return ("text", ".".join([text, "is"] + fields[1:]), [])
