@@ -4,6 +4,10 @@ use Rattle.text.proofs.Stores.{wrote_then, wrote_length}
 use Rattle.lines.specs.Fields.{number_field}
 use Rattle.lines.proofs.line.put_number_field.Goals as goal
 
+pub put_byte-p-requires : goal.put_byte-p-requires
+unfolding number_field
+put_byte-p-requires c = omega arith
+
 pub put_number-requires : goal.put_number-requires
 unfolding number_field
 put_number-requires c = omega (arith, c.put_byte-p.ensures.place, wrote_length c.put_byte-p.ensures)

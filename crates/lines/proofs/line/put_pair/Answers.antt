@@ -9,14 +9,34 @@ use Rattle.lines.proofs.line.put_pair.Goals as goal
 
 pub put_byte-p-requires : goal.put_byte-p-requires
 put_byte-p-requires c =
-    let start : (λ k out p. Due c.args.out.now c.args.at (numbers_line c.args.letter (c.args.a ∷ c.args.b ∷ [])) out p (drop k ((c.args.letter ∷ []) ∷ number_field c.args.a ∷ number_field c.args.b ∷ (10 ∷ []) ∷ []))) 0 c.args.out.now c.args.at = due_all c.args.out.now c.args.at (pair_parts c.args.letter c.args.a c.args.b) c.requires in
+    let start : (Due c.args.out.now c.args.at (numbers_line c.args.letter (c.args.a ∷ c.args.b ∷ [])) c.args.out.now c.args.at (drop 0 ((c.args.letter ∷ []) ∷ number_field c.args.a ∷ number_field c.args.b ∷ (10 ∷ []) ∷ []))) = due_all c.args.out.now c.args.at (pair_parts c.args.letter c.args.a c.args.b) c.requires in
     due_room (start)
 
--- LEFT put-number-field-requires : tie.Need-put-number-field-requires
--- put-number-field-requires c κs = due_room (after_1 c.before.before.before)
--- LEFT put-number-field-requires-2 : tie.Need-put-number-field-requires-2
--- put-number-field-requires-2 c κs = due_room (after_2 c.before.before.before)
--- LEFT put-byte-requires-2 : tie.Need-put-byte-requires-2
--- put-byte-requires-2 c κs = due_room (after_3 c.before.before.before)
--- LEFT returns : tie.Need-returns
--- returns c = due_none (due_then (after_3 c.before.before.before.before.before.before) c.before.before.put-byte2.ensures)
+pub put_number_field-q-requires : goal.put_number_field-q-requires
+put_number_field-q-requires c =
+    let start : (Due c.args.out.now c.args.at (numbers_line c.args.letter (c.args.a ∷ c.args.b ∷ [])) c.args.out.now c.args.at (drop 0 ((c.args.letter ∷ []) ∷ number_field c.args.a ∷ number_field c.args.b ∷ (10 ∷ []) ∷ []))) = due_all c.args.out.now c.args.at (pair_parts c.args.letter c.args.a c.args.b) c.requires in
+    let after_1 : (Due c.args.out.now c.args.at (numbers_line c.args.letter (c.args.a ∷ c.args.b ∷ [])) c.put_byte-p.new.out c.put_byte-p.result (drop 1 ((c.args.letter ∷ []) ∷ number_field c.args.a ∷ number_field c.args.b ∷ (10 ∷ []) ∷ []))) = due_then (start) c.put_byte-p.ensures in
+    due_room (after_1)
+
+pub put_number_field-e-requires : goal.put_number_field-e-requires
+put_number_field-e-requires c =
+    let start : (Due c.args.out.now c.args.at (numbers_line c.args.letter (c.args.a ∷ c.args.b ∷ [])) c.args.out.now c.args.at (drop 0 ((c.args.letter ∷ []) ∷ number_field c.args.a ∷ number_field c.args.b ∷ (10 ∷ []) ∷ []))) = due_all c.args.out.now c.args.at (pair_parts c.args.letter c.args.a c.args.b) c.requires in
+    let after_1 : (Due c.args.out.now c.args.at (numbers_line c.args.letter (c.args.a ∷ c.args.b ∷ [])) c.put_byte-p.new.out c.put_byte-p.result (drop 1 ((c.args.letter ∷ []) ∷ number_field c.args.a ∷ number_field c.args.b ∷ (10 ∷ []) ∷ []))) = due_then (start) c.put_byte-p.ensures in
+    let after_2 : (Due c.args.out.now c.args.at (numbers_line c.args.letter (c.args.a ∷ c.args.b ∷ [])) c.put_number_field-q.new.out c.put_number_field-q.result (drop 2 ((c.args.letter ∷ []) ∷ number_field c.args.a ∷ number_field c.args.b ∷ (10 ∷ []) ∷ []))) = due_then (after_1) c.put_number_field-q.ensures in
+    due_room (after_2)
+
+pub put_byte-requires : goal.put_byte-requires
+put_byte-requires c =
+    let start : (Due c.args.out.now c.args.at (numbers_line c.args.letter (c.args.a ∷ c.args.b ∷ [])) c.args.out.now c.args.at (drop 0 ((c.args.letter ∷ []) ∷ number_field c.args.a ∷ number_field c.args.b ∷ (10 ∷ []) ∷ []))) = due_all c.args.out.now c.args.at (pair_parts c.args.letter c.args.a c.args.b) c.requires in
+    let after_1 : (Due c.args.out.now c.args.at (numbers_line c.args.letter (c.args.a ∷ c.args.b ∷ [])) c.put_byte-p.new.out c.put_byte-p.result (drop 1 ((c.args.letter ∷ []) ∷ number_field c.args.a ∷ number_field c.args.b ∷ (10 ∷ []) ∷ []))) = due_then (start) c.put_byte-p.ensures in
+    let after_2 : (Due c.args.out.now c.args.at (numbers_line c.args.letter (c.args.a ∷ c.args.b ∷ [])) c.put_number_field-q.new.out c.put_number_field-q.result (drop 2 ((c.args.letter ∷ []) ∷ number_field c.args.a ∷ number_field c.args.b ∷ (10 ∷ []) ∷ []))) = due_then (after_1) c.put_number_field-q.ensures in
+    let after_3 : (Due c.args.out.now c.args.at (numbers_line c.args.letter (c.args.a ∷ c.args.b ∷ [])) c.put_number_field-e.new.out c.put_number_field-e.result (drop 3 ((c.args.letter ∷ []) ∷ number_field c.args.a ∷ number_field c.args.b ∷ (10 ∷ []) ∷ []))) = due_then (after_2) c.put_number_field-e.ensures in
+    due_room (after_3)
+
+pub returns : goal.returns
+returns c =
+    let start : (Due c.args.out.now c.args.at (numbers_line c.args.letter (c.args.a ∷ c.args.b ∷ [])) c.args.out.now c.args.at (drop 0 ((c.args.letter ∷ []) ∷ number_field c.args.a ∷ number_field c.args.b ∷ (10 ∷ []) ∷ []))) = due_all c.args.out.now c.args.at (pair_parts c.args.letter c.args.a c.args.b) c.requires in
+    let after_1 : (Due c.args.out.now c.args.at (numbers_line c.args.letter (c.args.a ∷ c.args.b ∷ [])) c.put_byte-p.new.out c.put_byte-p.result (drop 1 ((c.args.letter ∷ []) ∷ number_field c.args.a ∷ number_field c.args.b ∷ (10 ∷ []) ∷ []))) = due_then (start) c.put_byte-p.ensures in
+    let after_2 : (Due c.args.out.now c.args.at (numbers_line c.args.letter (c.args.a ∷ c.args.b ∷ [])) c.put_number_field-q.new.out c.put_number_field-q.result (drop 2 ((c.args.letter ∷ []) ∷ number_field c.args.a ∷ number_field c.args.b ∷ (10 ∷ []) ∷ []))) = due_then (after_1) c.put_number_field-q.ensures in
+    let after_3 : (Due c.args.out.now c.args.at (numbers_line c.args.letter (c.args.a ∷ c.args.b ∷ [])) c.put_number_field-e.new.out c.put_number_field-e.result (drop 3 ((c.args.letter ∷ []) ∷ number_field c.args.a ∷ number_field c.args.b ∷ (10 ∷ []) ∷ []))) = due_then (after_2) c.put_number_field-e.ensures in
+    due_none (due_then (after_3) c.put_byte.ensures)

@@ -19,14 +19,34 @@ returns-then-list-eq0 c = rw (input_none c.args.list.now c.if-list-eq0.true) c.p
 
 pub put_byte-p-requires : goal.put_byte-p-requires
 put_byte-p-requires c =
-    let start : (λ k out p. Due c.args.out.now c.args.at (numbers_line c.args.letter (field_numbers C.Input c.args.list.now)) out p (drop k (((c.args.letter ∷ []) ∷ fields_text (map number (take 1 c.args.list.now)) ∷ fields_text (map number (expr_numbers (expressions (drop 1 c.args.list.now)))) ∷ (10 ∷ []) ∷ [])))) 0 c.args.out.now c.args.at = due_all c.args.out.now c.args.at (input_parts c.args.letter c.args.list.now) c.requires in
+    let start : (Due c.args.out.now c.args.at (numbers_line c.args.letter (field_numbers C.Input c.args.list.now)) c.args.out.now c.args.at (drop 0 (((c.args.letter ∷ []) ∷ fields_text (map number (take 1 c.args.list.now)) ∷ fields_text (map number (expr_numbers (expressions (drop 1 c.args.list.now)))) ∷ (10 ∷ []) ∷ [])))) = due_all c.args.out.now c.args.at (input_parts c.args.letter c.args.list.now) c.requires in
     due_room (start)
 
--- LEFT put-number-fields-requires : tie.Need-put-number-fields-requires
--- put-number-fields-requires c κs = due_room (after_1 c.before.before.before.before)
--- LEFT put-expr-fields-requires : tie.Need-put-expr-fields-requires
--- put-expr-fields-requires c κs = let s = c.before.before.before.before.before.before.before.before.before.before.before.before.before.before in rw (behind_first s.args.list.now) (due_room (after_2 c.before.before.before.before))
--- LEFT put-byte-requires-2 : tie.Need-put-byte-requires-2
--- put-byte-requires-2 c κs = due_room (after_3 c.before.before.before)
--- LEFT returns_2 : tie.Need-returns-2
--- returns_2 c = due_none (due_then (after_3 c.before.before.before.before.before.before) c.before.before.put-byte2.ensures)
+pub put_number_fields-q-requires : goal.put_number_fields-q-requires
+put_number_fields-q-requires c =
+    let start : (Due c.args.out.now c.args.at (numbers_line c.args.letter (field_numbers C.Input c.args.list.now)) c.args.out.now c.args.at (drop 0 (((c.args.letter ∷ []) ∷ fields_text (map number (take 1 c.args.list.now)) ∷ fields_text (map number (expr_numbers (expressions (drop 1 c.args.list.now)))) ∷ (10 ∷ []) ∷ [])))) = due_all c.args.out.now c.args.at (input_parts c.args.letter c.args.list.now) c.requires in
+    let after_1 : (Due c.args.out.now c.args.at (numbers_line c.args.letter (field_numbers C.Input c.args.list.now)) c.put_byte-p.new.out c.put_byte-p.result (drop 1 (((c.args.letter ∷ []) ∷ fields_text (map number (take 1 c.args.list.now)) ∷ fields_text (map number (expr_numbers (expressions (drop 1 c.args.list.now)))) ∷ (10 ∷ []) ∷ [])))) = due_then (start) c.put_byte-p.ensures in
+    due_room (after_1)
+
+pub put_expr_fields-e-requires : goal.put_expr_fields-e-requires
+put_expr_fields-e-requires c =
+    let start : (Due c.args.out.now c.args.at (numbers_line c.args.letter (field_numbers C.Input c.args.list.now)) c.args.out.now c.args.at (drop 0 (((c.args.letter ∷ []) ∷ fields_text (map number (take 1 c.args.list.now)) ∷ fields_text (map number (expr_numbers (expressions (drop 1 c.args.list.now)))) ∷ (10 ∷ []) ∷ [])))) = due_all c.args.out.now c.args.at (input_parts c.args.letter c.args.list.now) c.requires in
+    let after_1 : (Due c.args.out.now c.args.at (numbers_line c.args.letter (field_numbers C.Input c.args.list.now)) c.put_byte-p.new.out c.put_byte-p.result (drop 1 (((c.args.letter ∷ []) ∷ fields_text (map number (take 1 c.args.list.now)) ∷ fields_text (map number (expr_numbers (expressions (drop 1 c.args.list.now)))) ∷ (10 ∷ []) ∷ [])))) = due_then (start) c.put_byte-p.ensures in
+    let after_2 : (Due c.args.out.now c.args.at (numbers_line c.args.letter (field_numbers C.Input c.args.list.now)) c.put_number_fields-q.new.out c.put_number_fields-q.result (drop 2 (((c.args.letter ∷ []) ∷ fields_text (map number (take 1 c.args.list.now)) ∷ fields_text (map number (expr_numbers (expressions (drop 1 c.args.list.now)))) ∷ (10 ∷ []) ∷ [])))) = due_then (after_1) c.put_number_fields-q.ensures in
+    rw (behind_first c.args.list.now) (due_room (after_2))
+
+pub put_byte-requires : goal.put_byte-requires
+put_byte-requires c =
+    let start : (Due c.args.out.now c.args.at (numbers_line c.args.letter (field_numbers C.Input c.args.list.now)) c.args.out.now c.args.at (drop 0 (((c.args.letter ∷ []) ∷ fields_text (map number (take 1 c.args.list.now)) ∷ fields_text (map number (expr_numbers (expressions (drop 1 c.args.list.now)))) ∷ (10 ∷ []) ∷ [])))) = due_all c.args.out.now c.args.at (input_parts c.args.letter c.args.list.now) c.requires in
+    let after_1 : (Due c.args.out.now c.args.at (numbers_line c.args.letter (field_numbers C.Input c.args.list.now)) c.put_byte-p.new.out c.put_byte-p.result (drop 1 (((c.args.letter ∷ []) ∷ fields_text (map number (take 1 c.args.list.now)) ∷ fields_text (map number (expr_numbers (expressions (drop 1 c.args.list.now)))) ∷ (10 ∷ []) ∷ [])))) = due_then (start) c.put_byte-p.ensures in
+    let after_2 : (Due c.args.out.now c.args.at (numbers_line c.args.letter (field_numbers C.Input c.args.list.now)) c.put_number_fields-q.new.out c.put_number_fields-q.result (drop 2 (((c.args.letter ∷ []) ∷ fields_text (map number (take 1 c.args.list.now)) ∷ fields_text (map number (expr_numbers (expressions (drop 1 c.args.list.now)))) ∷ (10 ∷ []) ∷ [])))) = due_then (after_1) c.put_number_fields-q.ensures in
+    let after_3 : (Due c.args.out.now c.args.at (numbers_line c.args.letter (field_numbers C.Input c.args.list.now)) c.put_expr_fields-e.new.out c.put_expr_fields-e.result (drop 3 (((c.args.letter ∷ []) ∷ fields_text (map number (take 1 c.args.list.now)) ∷ fields_text (map number (expr_numbers (expressions (drop 1 c.args.list.now)))) ∷ (10 ∷ []) ∷ [])))) = due_then (after_2) (rw (behind_first c.args.list.now) at c.put_expr_fields-e.ensures) in
+    due_room (after_3)
+
+pub returns : goal.returns
+returns c =
+    let start : (Due c.args.out.now c.args.at (numbers_line c.args.letter (field_numbers C.Input c.args.list.now)) c.args.out.now c.args.at (drop 0 (((c.args.letter ∷ []) ∷ fields_text (map number (take 1 c.args.list.now)) ∷ fields_text (map number (expr_numbers (expressions (drop 1 c.args.list.now)))) ∷ (10 ∷ []) ∷ [])))) = due_all c.args.out.now c.args.at (input_parts c.args.letter c.args.list.now) c.requires in
+    let after_1 : (Due c.args.out.now c.args.at (numbers_line c.args.letter (field_numbers C.Input c.args.list.now)) c.put_byte-p.new.out c.put_byte-p.result (drop 1 (((c.args.letter ∷ []) ∷ fields_text (map number (take 1 c.args.list.now)) ∷ fields_text (map number (expr_numbers (expressions (drop 1 c.args.list.now)))) ∷ (10 ∷ []) ∷ [])))) = due_then (start) c.put_byte-p.ensures in
+    let after_2 : (Due c.args.out.now c.args.at (numbers_line c.args.letter (field_numbers C.Input c.args.list.now)) c.put_number_fields-q.new.out c.put_number_fields-q.result (drop 2 (((c.args.letter ∷ []) ∷ fields_text (map number (take 1 c.args.list.now)) ∷ fields_text (map number (expr_numbers (expressions (drop 1 c.args.list.now)))) ∷ (10 ∷ []) ∷ [])))) = due_then (after_1) c.put_number_fields-q.ensures in
+    let after_3 : (Due c.args.out.now c.args.at (numbers_line c.args.letter (field_numbers C.Input c.args.list.now)) c.put_expr_fields-e.new.out c.put_expr_fields-e.result (drop 3 (((c.args.letter ∷ []) ∷ fields_text (map number (take 1 c.args.list.now)) ∷ fields_text (map number (expr_numbers (expressions (drop 1 c.args.list.now)))) ∷ (10 ∷ []) ∷ [])))) = due_then (after_2) (rw (behind_first c.args.list.now) at c.put_expr_fields-e.ensures) in
+    due_none (due_then (after_3) c.put_byte.ensures)
