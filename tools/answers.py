@@ -552,6 +552,15 @@ def pruned(t):
 
 
 def used(uses, text):
+    merged, rest = {}, []
+    for u in uses:
+        m = re.match(r"use ([^{\s]+?)\.\{(.*)\}$", u)
+        if m:
+            merged.setdefault(m.group(1), [])
+            merged[m.group(1)] += [n for n in m.group(2).split(", ") if n not in merged[m.group(1)]]
+        elif u not in rest:
+            rest.append(u)
+    uses = [f"use {k}.{{{', '.join(v)}}}" for k, v in merged.items()] + rest
     out = []
     toks = set(re.findall(r"[^\s(){}\[\]⟦⟧.;,@\"«»`\\]+", text))
     for u in uses:
@@ -613,13 +622,17 @@ def answers(F, path, needs, ans, said):
             extra = a[1:]
             # an if on a negated test says what the test was
             calls = {p[2][1] for p in F.places if p[3]}
-            def bare(m):
-                tail = m.group(2)
-                src = BODIES.get(F.own, "")
-                plain = tail in calls or (re.search(r"!" + re.escape(tail.split("-")[0]) + r"(?![\w.\[])", src) and not re.search(r"!" + re.escape(tail.split("-")[0]) + r"[.\[]", src))
-                return m.group(1) if plain else m.group(0)
-            body = re.sub(r"\(not-(?:true|false) [\w.]+ (c\.if-not-([\w'-]+)\.(?:true|false))\)", bare, body)
-            body = re.sub(r"(?<![\w-])not-(?:true|false) [\w.]+ (c\.if-not-([\w'-]+)\.(?:true|false))", bare, body)
+            src = BODIES.get(F.own, "")
+
+            def plain(tail):
+                first = re.escape(tail.split("-")[0])
+                return tail in calls or bool(re.search(r"!" + first + r"(?![\w.\[])", src)) and not re.search(r"!" + first + r"[.\[]", src)
+
+            step = r"c\.if-not-([\w'-]+)\.(?:true|false)(?![\w.])"
+            body = re.sub(r"\(not-(?:true|false) [\w.]+ (" + step + r")\)", lambda m: "\x02" + m.group(1) if plain(m.group(2)) else m.group(0), body)
+            body = re.sub(r"(?<![\w-])not-(?:true|false) [\w.]+ (" + step + ")", lambda m: "\x02" + m.group(1) if plain(m.group(2)) else m.group(0), body)
+            body = re.sub(r"(?<![\w.\x02])(" + step + ")", lambda m: f"(ap not {m.group(1)})" if plain(m.group(2)) else m.group(0), body)
+            body = body.replace("\x02", "")
         except Left as e:
             said.append(f"left: {'/'.join(path)}: {d['name']}: {e}")
             ans.append("-- LEFT " + d["whole"].replace("\n", "\n-- "))
@@ -835,6 +848,8 @@ def convert(crate, path, file, J, cl, said):
             f.write("\n".join(head + used(uses, kb + t) + [f"use {full}.Given as goal", ""] + ([kb] if kb else []) + [t.rstrip("\n"), ""]))
     if ans:
         t = "\n".join(kept + ans)
+        if "(ap not c." in t:
+            uses += ["use mathlib.Core.Path.{ap}", "use mathlib.Core.Bool.{not}"]
         if "(opened c" in t:
             uses.append("use borrow.Enum.Refused.{opened}")
         with open(where + "/Answers.antt", "w", encoding="utf-8") as f:
