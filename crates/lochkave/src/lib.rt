@@ -1,5 +1,7 @@
 // The entry points on byte slices, for C and Rust: a sheet's bytes and a lent output.
 // The result is a refusal's number × 2^32 + its line, or how many bytes were written at the front of the output.
+#![tactic(auto)]
+
 mod again;
 mod distribution;
 mod kinds;

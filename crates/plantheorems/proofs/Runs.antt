@@ -92,13 +92,13 @@ module _ (k : Kind) (c : Plain k) where
 
   -- ---- and back
 
-  pub run_read :
-      (owed seen : ℕ) (rs : List (List Field)) (post : List ℕ) → Legal k (first_of k.letter (parts 10 post)) owed seen rs →
+  run_read_lem :
+      (post : List ℕ) (owed seen : ℕ) (rs : List (List Field)) → Legal k (first_of k.letter (parts 10 post)) owed seen rs →
       (line at : ℕ) → at + length (lines_text k.letter rs) ≤ most_bytes →
       rows_of k owed seen line at (parts 10 (lines_text k.letter rs ++ post)) ≡ read rs (parts 10 post) (line + length rs) (at + length (lines_text k.letter rs))
   unfolding lines_text
-  run_read owed seen rs post (stop h) line at b = rw (add-zero line, add-zero at) (rows_done k owed seen line at (parts 10 post) (first_of k.letter (parts 10 post)) refl h)
-  run_read owed seen (fs ∷ rs) post (more st fine legal) line at b =
+  run_read_lem post owed seen rs (stop h) line at b = rw (add-zero line, add-zero at) (rows_done k owed seen line at (parts 10 post) (first_of k.letter (parts 10 post)) refl h)
+  run_read_lem post owed seen (fs ∷ rs) (more st fine legal) line at b =
       let d : Counted (placed k seen) = placed_counted k c seen in
       let one : List ℕ = line_text k.letter fs in
       let rest : List ℕ = lines_text k.letter rs ++ post in
@@ -112,5 +112,11 @@ module _ (k : Kind) (c : Plain k) where
       ap (λ (ys : List ℕ). rows_of k owed seen line at (parts 10 ys)) (append_assoc one (lines_text k.letter rs) post)
       ∙ rows_line k owed seen line at (parts 10 (one ++ rest)) (some fs) first st
       ∙ rw (next, none, lines)
-      (ap (before fs) (run_read (k.owes owed fs) (suc seen) rs post legal (suc line) (at + length one) (omega arith))
+      (ap (before fs) (run_read_lem post (k.owes owed fs) (suc seen) rs legal (suc line) (at + length one) (omega arith))
       ∙ (λ j. read (fs ∷ rs) (parts 10 post) (e j) (f j)))
+
+  pub run_read :
+      (owed seen : ℕ) (rs : List (List Field)) (post : List ℕ) → Legal k (first_of k.letter (parts 10 post)) owed seen rs →
+      (line at : ℕ) → at + length (lines_text k.letter rs) ≤ most_bytes →
+      rows_of k owed seen line at (parts 10 (lines_text k.letter rs ++ post)) ≡ read rs (parts 10 post) (line + length rs) (at + length (lines_text k.letter rs))
+  run_read owed seen rs post legal line at b = run_read_lem post owed seen rs legal line at b
