@@ -446,6 +446,9 @@ class Fn:
             r = self.follow(a, m.group(2).split(".")[1:])
             if r[0] in ("place", "part", "req", "auto"):
                 raise Left("a place stands alone: " + m.group(0))
+            if r[0] == "text" and len(r[2]) > 1:
+                # the pair that the clauses were
+                return "(" + ", ".join(f"{r[1]}.{n}" for n in r[2]) + ")"
             return r[2] if r[0] == "step" else r[1]
         return PATH.sub(sub, text)
 
@@ -516,6 +519,19 @@ def under_rw(t):
         return None
     got = top_tuple(rest)
     return [f"{head} {p}" if re.fullmatch(r"[\w'.-]+|\(.*\)", p, re.S) else f"{head} ({p})" for p in got] if got else None
+
+
+def projected(t, n):
+    """Where a rw goes before a pair that is no tuple: the rw before each part of it."""
+    m = re.match(r"rw (?:\(|\S+)", t)
+    if not m or n < 2:
+        return None
+    got = argument(t, 2)
+    rest = t[got[1]:].strip()
+    if not rest or not re.fullmatch(r"\(.*\)|[\w'.-]+", rest, re.S):
+        return None
+    where = ["1." * k + "0" for k in range(n - 1)] + [("1." * (n - 1))[:-1]]
+    return [f"{t[:got[1]]} {rest}.{w}" for w in where]
 
 
 def split_lets(t):
@@ -669,7 +685,8 @@ def answers(F, path, needs, ans, said):
         if cls:
             lets, rest = split_lets(body)
             tup = under_rw(rest.strip())
-            flatt = tup
+            flatt = tup or projected(rest.strip(), len(cls))
+            tup = flatt
             while flatt and len(flatt) < len(cls) and under_rw(flatt[-1]):
                 flatt = flatt[:-1] + under_rw(flatt[-1])
             if flatt and len(flatt) == len(cls):
@@ -692,7 +709,7 @@ def answers(F, path, needs, ans, said):
             elif tup:
                 said.append(f"look: {'/'.join(path)}: {new}: a tuple of {len(tup)}, clauses {cls}")
             else:
-                fields = "; ".join(f"{n} = both.{k}" for k, n in enumerate(cls))
+                fields = "; ".join(f"{n} = both." + ("1." * k + "0" if k < len(cls) - 1 else ("1." * k)[:-1]) for k, n in enumerate(cls))
                 ans.append(f"pub {new} : goal.{new}")
                 ans += d["unf"]
                 ans.append(f"{new} {tc} ={'' if lets.startswith(chr(10)) else ' '}{lets}let both = {rest.strip()} in record {{ {fields} }}")

@@ -1,0 +1,68 @@
+-- `lochkave_decide_in` meets its contract: by the first byte in rooms that suffice, else in its own.
+use mathlib.Core.Path.{sym}
+use mathlib.Core.Logic.{inl}
+use native.Mathlib.Omega.{arith}
+use lib.Seq.{length-take-le}
+use Rattle.lochkave.specs.Decision.{decision}
+use Rattle.lochkave.proofs.Entries.{first_key, first_join, first_plan_lem}
+use Rattle.lochkave.proofs.lochkave_decide_in.Goals as goal
+
+pub adjust_in-requires : goal.adjust_in-requires
+adjust_in-requires c = let k = c.keys_fit.ensures.0 c.if-not-keys_fit.false in
+    (omega (arith, k.wide), k.many, k.full)
+
+pub returns-then-kind-eq75 : goal.returns-then-kind-eq75
+unfolding decision
+returns-then-kind-eq75 c = let a = c.args in let both = first_key a.sheet.now a.out.now _ _ _ _ _ _ c.first_byte-kind.ensures c.if-kind-eq75.true (c.adjust_in.ensures.result, c.adjust_in.ensures.bytes) in record { result = both.0; bytes = both.1 }
+
+pub follow_in-requires : goal.follow_in-requires
+follow_in-requires c = let k = c.keys_fit.ensures.0 c.if-not-keys_fit.false in
+    (omega (arith, k.wide), k.ruled, omega (arith, k.many), k.full)
+
+pub returns-then-kind-eq73 : goal.returns-then-kind-eq73
+unfolding decision
+returns-then-kind-eq73 c = let a = c.args in let both = first_join a.sheet.now a.out.now _ _ _ _ _ _ c.first_byte-kind.ensures c.if-kind-eq73.true (c.follow_in.ensures.result, c.follow_in.ensures.bytes) in record { result = both.0; bytes = both.1 }
+
+pub slice_bounds-tree-end : goal.slice_bounds-tree-end
+slice_bounds-tree-end c = let t = c.trees_fit.ensures.0 c.if-not-trees_fit.false in
+    omega (arith, t.treed)
+
+pub slice_bounds-tree-end-2 : goal.slice_bounds-tree-end-2
+slice_bounds-tree-end-2 c = let t = c.trees_fit.ensures.0 c.if-not-trees_fit.false in
+    sym (length-take-le 256 c.args.rows.now t.treed)
+
+pub slice_bounds-answer-end : goal.slice_bounds-answer-end
+slice_bounds-answer-end c = let t = c.trees_fit.ensures.0 c.if-not-trees_fit.false in
+    omega (arith, t.answered)
+
+pub slice_bounds-answer-end-2 : goal.slice_bounds-answer-end-2
+slice_bounds-answer-end-2 c = let t = c.trees_fit.ensures.0 c.if-not-trees_fit.false in
+    sym (length-take-le 536 c.args.dst.now t.answered)
+
+pub slice_bounds-places-end : goal.slice_bounds-places-end
+slice_bounds-places-end c = let t = c.trees_fit.ensures.0 c.if-not-trees_fit.false in
+    omega (arith, t.indexed)
+
+pub slice_bounds-places-end-2 : goal.slice_bounds-places-end-2
+slice_bounds-places-end-2 c = let t = c.trees_fit.ensures.0 c.if-not-trees_fit.false in
+    sym (length-take-le 129 c.args.index.now t.indexed)
+
+pub distribute_in-requires : goal.distribute_in-requires
+distribute_in-requires c = let k = c.keys_fit.ensures.0 c.if-not-keys_fit.false in
+    let t = c.trees_fit.ensures.0 c.if-not-trees_fit.false in
+    let a = c.args in let tree = length-take-le 256 a.rows.now t.treed in
+    let answer = length-take-le 536 a.dst.now t.answered in
+    record {
+      wide = k.wide;
+      treed = inl (omega (arith, tree));
+      rowed = inl t.rowed;
+      between = omega (arith, tree, t.between);
+      answered = omega (arith, tree, answer);
+      bounded = omega (arith, answer);
+      masked = t.masked;
+      indexed = length-take-le 129 a.index.now t.indexed;
+    }
+
+pub returns : goal.returns
+unfolding decision
+returns c = let a = c.args in let both = first_plan_lem a.sheet.now a.out.now _ _ _ _ _ _ c.first_byte-kind.ensures c.if-kind-eq75.false c.if-kind-eq73.false (c.distribute_in.ensures.result, c.distribute_in.ensures.bytes) in record { result = both.0; bytes = both.1 }
