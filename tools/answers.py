@@ -68,7 +68,7 @@ def blocks(text):
         else:
             j = i
             part = []
-            while j < len(lines) and (lines[j].strip() != "" and not (j > i and lines[j].startswith("--"))):
+            while j < len(lines) and (lines[j].strip() != "" and not (j > i and lines[j].startswith("--")) or lines[j].strip() == "" and j + 1 < len(lines) and re.match(r"\s+\S", lines[j + 1])):
                 part.append(lines[j])
                 j += 1
             decls.append((comment, part))
@@ -102,6 +102,21 @@ def split_decl(part):
     return dict(name=name, mods=m.group(1), type=ty, args=m2.group(1).split(), body=body[m2.end():].strip("\n"), unf=unf, many=len(clauses) > 1, whole="\n".join(part))
 
 
+def clause_path(names, fields):
+    """The fields with the clause's name in place of its place in the pairs that the older form had."""
+    fields, i = list(fields), 0
+    while i < len(names) - 1:
+        if not fields or not fields[0].isdigit():
+            return None
+        k = int(fields.pop(0))
+        if k == 0:
+            return [names[i]] + fields
+        if k > 1:
+            return [names[i + k]] + fields if i + k < len(names) else None
+        i += 1
+    return [names[i]] + fields
+
+
 class Left(Exception):
     pass
 
@@ -117,6 +132,7 @@ class Fn:
         self.byname = {n: i for i, n in enumerate(J.get("places_by_name") or [])}
         self.helpers = {}
         self.goal = None
+        self.hoisted = {}
 
     def parent(self, i):
         p = self.places[i][1]
@@ -147,7 +163,7 @@ class Fn:
 
     def arm(self, i, oldstep, rest):
         """The field of an arm's step for an old step's path."""
-        j = i
+        j = self.goal if self.goal is not None else i
         while j is not None:
             a = self.J["arms"][j] if j < len(self.J["arms"]) else None
             if a:
@@ -168,15 +184,15 @@ class Fn:
         if not fields:
             return ("place", at)
         f = fields.pop(0)
+        f = "requires" if f == "pre" else f
         if f in ("args", "ranges", "lifetimes", "well_formed", "well-formed"):
             return ("text", ".".join(["c", f.replace("-", "_")] + fields), [])
         if f == "requires":
             names = self.cl.get(self.own, ([], []))[0]
             if len(names) == 1:
                 fields, names = names + fields, []
-            elif fields and fields[0].isdigit() and names and int(fields[0]) < len(names):
-                fields[0] = names[int(fields[0])]
-                names = []
+            elif fields and names and clause_path(names, fields):
+                fields, names = clause_path(names, fields), []
             return ("text", ".".join(["c", "requires"] + fields), names if not fields else [])
         j = self.step(at, f)
         if j is None and self.goal is not None:
@@ -186,36 +202,58 @@ class Fn:
         if fields and fields[0] in ("given", "ensures"):
             a = self.arm(at, f, fields)
             if a:
+                return self.of_arm(a, j)
+        return self.of_step(j, "c." + self.places[j][2][1], fields)
+
+    def inside_arm(self, j, fields):
+        old = self.places[j][2][0]
+        return any(a and any(norm(o) == norm(old) and path[:len(fields)] == fields and len(path) > len(fields) for _, o, path in a[2]) for a in self.J["arms"])
+
+    def of_arm(self, a, j):
                 ens = self.cl.get(self.places[j][3], ([], []))[1]
                 rest, names = list(a[2]), []
                 if a[1] == "ensures" and ens:
                     if len(ens) == 1:
                         rest = ens + rest
-                    elif rest and rest[0].isdigit() and int(rest[0]) < len(ens):
-                        rest[0] = ens[int(rest[0])]
+                    elif rest and clause_path(ens, rest):
+                        rest = clause_path(ens, rest)
                     elif not rest:
                         names = ens
                 return ("text", ".".join(["c", a[0], a[1]] + rest), names)
-        new, callee = self.places[j][2][1], self.places[j][3]
+
+    def of_step(self, j, text, fields):
+        fields = list(fields)
+        if not fields:
+            return ("step", j, text)
+        if fields[0] == "given" and self.inside_arm(j, fields):
+            return ("part", j, fields)
+        if re.match(r"(keys\d+|rest)$", fields[0]):
+            new = self.places[j][2][1]
+            if new == "in_default":
+                own = ".".join([text, "in_default-own"] + fields)
+                return ("text", own if fields[0] == "rest" else f"(opened {own})", [])
+            if fields[0] != "rest":
+                return ("text", ".".join([text, "is"] + fields[1:]), [])
+        callee = self.places[j][3]
         names = []
         if callee:
             ens = self.cl.get(callee, ([], []))[1]
             if fields and fields[0] == "ensures":
                 if len(ens) == 1:
                     fields = ["ensures"] + ens + fields[1:]
-                elif len(fields) > 1 and fields[1].isdigit() and ens and int(fields[1]) < len(ens):
-                    fields[1] = ens[int(fields[1])]
+                elif len(fields) > 1 and ens and clause_path(ens, fields[1:]):
+                    fields = ["ensures"] + clause_path(ens, fields[1:])
                 elif len(fields) == 1:
                     names = ens
-            if fields and fields[0] == "new" and len(fields) > 1:
+            if fields and fields[0] in ("new", "auto") and len(fields) > 1:
                 ps = self.J["params"].get(callee) or []
                 k = 1
                 while k < len(fields) and fields[k] == "1":
                     k += 1
                 n = k - 1
                 if k < len(fields) and fields[k] == "0" and n < len(ps):
-                    fields = ["new", ps[n]] + fields[k + 1:]
-        return ("text", ".".join(["c", new] + fields), names)
+                    fields = [fields[0], ps[n]] + fields[k + 1:]
+        return ("text", ".".join([text] + fields), names)
 
     def turn(self, text, alias):
         """alias: a name to ('place', i) or ('text', text, clause names)."""
@@ -233,8 +271,13 @@ class Fn:
                 pos = m.end()
                 continue
             out.append(self.plain(text[pos:m.start()], alias))
-            if v[0] == "place":
+            if v[0] in ("place", "part"):
                 alias[m.group(1)] = v
+            elif v[0] == "text" and v[1].startswith("(opened"):
+                alias[m.group(1)] = v
+            elif v[0] == "step":
+                out.append(f"let {m.group(1)} = {v[2]} in ")
+                alias[m.group(1)] = ("step", v[1], m.group(1))
             else:
                 out.append(f"let {m.group(1)} = {v[1]} in ")
                 alias[m.group(1)] = ("text", m.group(1), v[2], v)
@@ -259,10 +302,18 @@ class Fn:
     def follow(self, a, fields):
         if a[0] == "place":
             return self.walk(a[1], fields)
+        if a[0] == "part":
+            r = self.arm(self.goal, self.places[a[1]][2][0], a[2] + fields)
+            return self.of_arm(r, a[1]) if r else ("part", a[1], a[2] + fields)
+        if a[0] == "step":
+            if fields and fields[0] in ("given", "ensures"):
+                r = self.arm(self.goal, self.places[a[1]][2][0], fields)
+                if r:
+                    return self.of_arm(r, a[1])
+            return self.of_step(a[1], a[2], fields)
         names = a[2]
-        if fields and fields[0].isdigit() and names and int(fields[0]) < len(names):
-            fields = [names[int(fields[0])]] + fields[1:]
-            names = []
+        if fields and names and clause_path(names, fields):
+            fields, names = clause_path(names, fields), []
         if fields and len(a) > 3:
             # a name bound to a whole step: its fields go by the step
             pass
@@ -287,7 +338,7 @@ class Fn:
                     r = self.follow(w, [x for x in m.group(2).split(".") if x])
                     if r[0] == "place":
                         raise Left("a place stands alone")
-                    return r[1]
+                    return r[2] if r[0] == "step" else r[1]
                 text = re.sub(r"\(" + re.escape(hn) + r" (" + ID + r"(?:\.[\w'₀-₉·-]+)*)\)((?:\.[\w'₀-₉·-]+)+)", sub, text)
         for hn, h in self.helpers.items():
             if h.get("to_place"):
@@ -314,18 +365,23 @@ class Fn:
         return "".join(p[1:-1] if p.startswith("\x00") else self.paths(p, alias) for p in parts)
 
     def inline(self, h, place):
+        """What stands for a helper at a place: an abbreviation's text, or the name of a let that goes before the answer."""
         al = {h["args"][0]: ("place", place)}
         body = self.turn(h["body"].strip(), al)
         if "abbrev" in h["mods"]:
             if len(h["args"]) > 1:
-                body = "(λ " + " ".join(h["args"][1:]) + ". " + body + ")"
-            return "(" + body + ")"
-        ty = h["type"]
-        ty = self.turn(ty, {h["param"]: ("place", place)} if h["param"] else {})
+                body = "λ " + " ".join(h["args"][1:]) + ". " + body
+            return body if re.fullmatch(r"[\w'₀-₉.·-]+", body) else "(" + body + ")"
+        ty = self.turn(h["type"], {h["param"]: ("place", place)} if h["param"] else {})
         if len(h["args"]) > 1:
             body = "λ " + " ".join(h["args"][1:]) + ". " + body
         n = h["name"]
-        return f"(let {n} : {ty} = {body} in {n})"
+        k = 1
+        while n in self.hoisted and self.hoisted[n] != (ty, body):
+            k += 1
+            n = f"{h['name']}{k}"
+        self.hoisted[n] = (ty, body)
+        return n
 
     def paths(self, text, alias):
         def sub(m):
@@ -333,9 +389,9 @@ class Fn:
             if a is None:
                 return m.group(0)
             r = self.follow(a, m.group(2).split(".")[1:])
-            if r[0] == "place":
+            if r[0] in ("place", "part"):
                 raise Left("a place stands alone: " + m.group(0))
-            return r[1]
+            return r[2] if r[0] == "step" else r[1]
         return PATH.sub(sub, text)
 
 
@@ -361,7 +417,8 @@ def top_tuple(text):
             cur = ""
             continue
         cur += ch
-    parts.append(cur)
+    if cur.strip():
+        parts.append(cur)
     return [p.strip() for p in parts] if len(parts) > 1 else None
 
 
@@ -369,28 +426,45 @@ def split_lets(t):
     """Leading lets and the rest."""
     lets = ""
     while True:
-        m = re.match(r"\s*let ", t)
-        if not m:
-            return lets, t
-        depth, i = 0, 0
-        n = 0
-        for k in re.finditer(r"[(\[{⟦]|[)\]}⟧]|\blet\b|\bin\b", t):
-            g = k.group(0)
-            if g in "([{⟦":
-                depth += 1
-            elif g in ")]}⟧":
-                depth -= 1
-            elif depth == 0 and g == "let":
-                n += 1
-            elif depth == 0 and g == "in":
-                n -= 1
-                if n == 0:
-                    i = k.end()
-                    break
-        if i == 0:
-            return lets, t
-        lets += t[:i].lstrip() + " "
-        t = t[i:].lstrip()
+        got = one_let(t)
+        if not got:
+            return lets + (re.match(r"\s*", t).group(0) or " ") if lets else "", t.strip() if lets else t
+        lets += got[1]
+        t = got[2]
+
+
+def one_let(t):
+    """The name, the text of a leading let, and the rest."""
+    m = re.match(r"\s*let (\S+)", t)
+    if not m:
+        return None
+    depth, n = 0, 0
+    for k in re.finditer(r"[(\[{⟦]|[)\]}⟧]|(?<![\w.'-])let(?![\w'-])|(?<![\w.'-])in(?![\w'-])", t):
+        g = k.group(0)
+        if g in "([{⟦":
+            depth += 1
+        elif g in ")]}⟧":
+            depth -= 1
+        elif depth == 0 and g == "let":
+            n += 1
+        elif depth == 0 and g == "in":
+            n -= 1
+            if n == 0:
+                return m.group(1), t[:k.end()], t[k.end():]
+    return None
+
+
+def pruned(t):
+    """The text with no let at its head that nothing uses."""
+    got = one_let(t)
+    if not got:
+        return t
+    name, let, rest = got
+    rest = pruned(rest)
+    if re.search(r"(?<![\w.'-])" + re.escape(name) + r"(?![\w'-])", rest):
+        return let + rest
+    lead = re.match(r"\s*", let).group(0)
+    return lead + rest.lstrip()
 
 
 def used(uses, text):
@@ -423,8 +497,16 @@ def convert(crate, path, file, J, cl, said):
     ds = []
     for com, part in decls:
         d = split_decl(part)
-        if d is None:
-            raise Left("no declaration: " + part[0][:60])
+        if d is None or re.match(r"(pub )?(record|data|module) ", part[0]):
+            m = re.match(r"(?:pub )?(?:record|data|module) (\S+)", part[0])
+            if not m:
+                raise Left("no declaration: " + part[0][:60])
+            whole = "\n".join(part)
+            if "record" in part[0]:
+                whole = re.sub(r"^(\s+)(?=[\w' ]+ :)", r"\1pub ", whole, flags=re.M)
+            d = dict(name=m.group(1), mods="", type="", args=None, body="", unf=[], many=False, whole=whole if not re.match("record|data", whole) else "pub " + whole)
+            if "module" in part[0] and "tie." in whole:
+                raise Left("helpers in a module")
         d["comment"] = com
         ds.append(d)
     spec = [d for d in ds if "tie.spec" in d["body"]]
@@ -511,15 +593,22 @@ def convert(crate, path, file, J, cl, said):
             if a is None:
                 raise Left("cases")
             place = F.goal = F.place(at[i][0])
+            F.hoisted = {}
             body = F.turn(body, {a[0]: ("place", place)})
+            hoist = [f"let {n} : {ty} = {b} in" for n, (ty, b) in F.hoisted.items()]
+            if hoist:
+                body = "\n    " + "\n    ".join(hoist) + "\n    " + body.lstrip()
             if len(a) > 1 and a[1] == "κs":
                 if re.search(r"(?<![\w])κs", body):
                     raise Left("κs is used")
                 a = a[:1]
             extra = a[1:]
             # an if on a negated test says what the test was
-            body = re.sub(r"\(not-(?:true|false) _ (c\.[\w'.-]+)\)", r"\1", body)
-            body = re.sub(r"(?<![\w-])not-(?:true|false) _ (c\.[\w'.-]+)", r"\1", body)
+            calls = {p[2][1] for p in F.places if p[3]}
+            def bare(m):
+                return m.group(1) if m.group(2) in calls else m.group(0)
+            body = re.sub(r"\(not-(?:true|false) _ (c\.if-not-([\w'-]+)\.(?:true|false))\)", bare, body)
+            body = re.sub(r"(?<![\w-])not-(?:true|false) _ (c\.if-not-([\w'-]+)\.(?:true|false))", bare, body)
         except Left as e:
             said.append(f"left: {'/'.join(path)}: {d['name']}: {e}")
             ans.append("-- LEFT " + d["whole"].replace("\n", "\n-- "))
@@ -547,14 +636,15 @@ def convert(crate, path, file, J, cl, said):
                         continue
                     ans.append(f"pub {new}-clause-{cn} : goal.{new}-clause-{cn}")
                     ans += d["unf"]
-                    ans.append(f"{new}-clause-{cn} c = {lets}{part}")
+                    whole = pruned(lets + part)
+                    ans.append(f"{new}-clause-{cn} c ={'' if whole.startswith(chr(10)) else ' '}{whole}")
                     ans.append("")
                 done = True
             elif len(cls) == 1:
                 ans.append(f"pub {new} : goal.{new}")
                 ans += d["unf"]
                 lets, rest = split_lets(body)
-                ans.append(f"{new} c = {lets}record {{ {cls[0]} = {rest.strip()} }}")
+                ans.append(f"{new} c = {pruned(lets)}record {{ {cls[0]} = {rest.strip()} }}" if not lets.strip() else f"{new} c ={'' if lets.startswith(chr(10)) else ' '}{pruned(lets + 'record { ' + cls[0] + ' = ' + rest.strip() + ' }')}")
                 ans.append("")
                 done = True
             elif tup:
@@ -563,12 +653,13 @@ def convert(crate, path, file, J, cl, said):
                 fields = "; ".join(f"{n} = both.{k}" for k, n in enumerate(cls))
                 ans.append(f"pub {new} : goal.{new}")
                 ans += d["unf"]
-                ans.append(f"{new} c = {lets}let both = {rest.strip()} in record {{ {fields} }}")
+                ans.append(f"{new} c ={'' if lets.startswith(chr(10)) else ' '}{lets}let both = {rest.strip()} in record {{ {fields} }}")
                 ans.append("")
                 done = True
         if not done:
             ans.append(f"pub {new} : goal.{new}")
             ans += d["unf"]
+            body = pruned(body)
             ans.append(f"{new} {' '.join(['c'] + extra)} ={'' if body.startswith(chr(10)) else ' '}{body}")
             ans.append("")
     kept = []
@@ -585,6 +676,8 @@ def convert(crate, path, file, J, cl, said):
             f.write("\n".join(head + used(uses, kb + t) + [f"use {full}.Given as goal", ""] + ([kb] if kb else []) + [t.rstrip("\n"), ""]))
     if ans:
         t = "\n".join(kept + ans)
+        if "(opened c" in t:
+            uses.append("use borrow.Enum.Refused.{opened}")
         with open(where + "/Answers.antt", "w", encoding="utf-8") as f:
             f.write("\n".join(head + used(uses, t) + [f"use {full}.Goals as goal", "", t.rstrip("\n"), ""]))
     os.remove(file)

@@ -174,7 +174,7 @@ module _ (op mode : ℕ) (l g s : List ℕ) (h n : Bor (List ℕ)) (w v : List (
     keys_are Right r z b = rw (part_keys n r (b.right refl)) (sym (right_keys op mode l g s h.now n.now w v (sym z)))
 
     pub inputs_ordered :
-        (report number : ℕ) (side : Side) (r : MutBor (List ℕ)) → report ≡ report_by c.outcome → number ≡ side_number side → side ≡ side_by c.outcome →
+        (report number : ℕ) (side : Side) (r : Bor (List ℕ)) → report ≡ report_by c.outcome → number ≡ side_number side → side ≡ side_by c.outcome →
         HandedBack (side_number side) h n r → InputsOrdered the_sheet the_answer l report number c.at.items r.now
     inputs_ordered report number side r p q z b =
         let m = inputs_counted op mode l g s h.now n.now w v even in

@@ -1,4 +1,6 @@
 // A line of a sheet, read by its kind; the lines of K and I sheets.
+#![tactic(auto)]
+
 pub mod kind;
 pub mod line;
 pub mod lists;

@@ -86,6 +86,7 @@ module _ {A : Type 0} (k : Kind) (stages : List Field → List Stage) (whole : L
     accepted_by s x h (fs ∷ rs) e (more f fr) t l w =
         let z : h ≡ fs = sym e ∙ head_of s fs (kinds_of (stages h)) rs f t in
         record { head = fs; rows = rs; fine = rw z at (more {k = k} f fr); text = rw z at t; short = l; is = w }
+    accepted_by s x h [] e z t l w = elim z [ ]
 
     pub accepted : (s : List ℕ) (x : A) → after_head stages whole (rows_of k 1 0 1 0 (parts 10 s)) ≡ sheet x → Accepted s x
     accepted s x e =

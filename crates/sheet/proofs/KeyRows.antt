@@ -46,10 +46,12 @@ children_rows_lem :
     child_lines (map (λ fs. exprs (values fs)) cs) ≡ rows_text (replicate n (expr_line 67) ++ []) cs
 children_rows_lem zero cs empty = refl
 children_rows_lem (suc n) (fs ∷ cs) (more f r) = λ j. exprs_row 67 fs f j ++ children_rows_lem n cs r j
+children_rows_lem (suc n) [] z = elim z [ ]
 
 pub children_count : (n : ℕ) (cs : List (List Field)) → FineRows (replicate n (expr_line 67) ++ []) cs → length cs ≡ n
 children_count zero cs empty = refl
 children_count (suc n) (fs ∷ cs) (more f r) = ap suc (children_count n cs r)
+children_count (suc n) [] z = elim z [ ]
 
 -- what the K line's code test says
 pub record KeyCodes (fs : List Field) : Type 0 where

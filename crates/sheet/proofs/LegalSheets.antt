@@ -140,6 +140,7 @@ key_read_again x l =
 children_legal : (n : ℕ) (cs : List (List Field)) → FineRows (replicate n (expr_line 67) ++ []) cs → Each LegalExprs (map (λ fs. exprs (values fs)) cs)
 children_legal zero cs empty = tt
 children_legal (suc n) (fs ∷ cs) (more f r) = (fine_exprs 67 fs f, children_legal n cs r)
+children_legal (suc n) [] z = elim z [ ]
 
 key_legal :
     (k : List Field) (rs : List (List Field)) → FineRows (key_line ∷ kinds_of (key_stages (at k 6))) (k ∷ rs) → key_lists_fit (key_sheet_of k rs) ≡ true →

@@ -7,16 +7,26 @@ pub returns-then-s-at : goal.returns-then-s-at
 returns-then-s-at c = begin_end c.args.s.now c.args.at (omega arith) _ c.empty_to.ensures
 
 pub returns-then-b-eq44 : goal.returns-then-b-eq44
-returns-then-b-eq44 c = lead_comma ((let lead : Lead c.args.s.now c.args.at c.widened-b.result = record { inside = omega arith; is = c.widened-b.ensures } in lead)) (omega arith) _ c.empty_to-then-b-eq44.ensures
+returns-then-b-eq44 c =
+    let lead : Lead c.args.s.now c.args.at c.widened-b.result = record { inside = omega arith; is = c.widened-b.ensures } in
+    lead_comma (lead) (omega arith) _ c.empty_to-then-b-eq44.ensures
 
 pub returns-then-b-eq10 : goal.returns-then-b-eq10
-returns-then-b-eq10 c = lead_lf ((let lead : Lead c.args.s.now c.args.at c.widened-b.result = record { inside = omega arith; is = c.widened-b.ensures } in lead)) (omega arith) _ c.empty_to-then-b-eq10.ensures
+returns-then-b-eq10 c =
+    let lead : Lead c.args.s.now c.args.at c.widened-b.result = record { inside = omega arith; is = c.widened-b.ensures } in
+    lead_lf (lead) (omega arith) _ c.empty_to-then-b-eq10.ensures
 
 pub returns-then-b-lt48 : goal.returns-then-b-lt48
-returns-then-b-lt48 c = lead_low ((let lead : Lead c.args.s.now c.args.at c.widened-b.result = record { inside = omega arith; is = c.widened-b.ensures } in lead)) (λ e. omega arith) (λ e. omega arith) (omega arith) _ c.malformed_at.ensures
+returns-then-b-lt48 c =
+    let lead : Lead c.args.s.now c.args.at c.widened-b.result = record { inside = omega arith; is = c.widened-b.ensures } in
+    lead_low (lead) (λ e. omega arith) (λ e. omega arith) (omega arith) _ c.malformed_at.ensures
 
 pub returns-then-b-gt57 : goal.returns-then-b-gt57
-returns-then-b-gt57 c = lead_high ((let lead : Lead c.args.s.now c.args.at c.widened-b.result = record { inside = omega arith; is = c.widened-b.ensures } in lead)) (omega arith) _ c.malformed_at-then-b-gt57.ensures
+returns-then-b-gt57 c =
+    let lead : Lead c.args.s.now c.args.at c.widened-b.result = record { inside = omega arith; is = c.widened-b.ensures } in
+    lead_high (lead) (omega arith) _ c.malformed_at-then-b-gt57.ensures
 
 pub returns : goal.returns
-returns c = lead_digit ((let lead : Lead c.args.s.now c.args.at c.widened-b.result = record { inside = omega arith; is = c.widened-b.ensures } in lead)) (omega arith) (omega arith) _ _ (omega arith) c.more_digits.ensures
+returns c =
+    let lead : Lead c.args.s.now c.args.at c.widened-b.result = record { inside = omega arith; is = c.widened-b.ensures } in
+    lead_digit (lead) (omega arith) (omega arith) _ _ (omega arith) c.more_digits.ensures

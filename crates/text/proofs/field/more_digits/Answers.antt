@@ -8,28 +8,44 @@ pub loop-i-init : goal.loop-i-init
 loop-i-init c = going_first _ _ _
 
 pub returns-then-b-eq44 : goal.returns-then-b-eq44
-returns-then-b-eq44 c = byte_comma ((let byte : Byte c.args.s.now c.args.at c.args.begun c.loop-i.i c.loop-i.n c.widened-b.result = record { going = c.loop-i.invariant; inside = omega arith; is = c.widened-b.ensures } in byte)) (omega arith) _ c.number_to.ensures
+returns-then-b-eq44 c =
+    let byte : Byte c.args.s.now c.args.at c.args.begun c.loop-i.i c.loop-i.n c.widened-b.result = record { going = c.loop-i.invariant; inside = omega arith; is = c.widened-b.ensures } in
+    byte_comma (byte) (omega arith) _ c.number_to.ensures
 
 pub returns-then-b-eq10 : goal.returns-then-b-eq10
-returns-then-b-eq10 c = byte_lf ((let byte : Byte c.args.s.now c.args.at c.args.begun c.loop-i.i c.loop-i.n c.widened-b.result = record { going = c.loop-i.invariant; inside = omega arith; is = c.widened-b.ensures } in byte)) (omega arith) _ c.number_to-then-b-eq10.ensures
+returns-then-b-eq10 c =
+    let byte : Byte c.args.s.now c.args.at c.args.begun c.loop-i.i c.loop-i.n c.widened-b.result = record { going = c.loop-i.invariant; inside = omega arith; is = c.widened-b.ensures } in
+    byte_lf (byte) (omega arith) _ c.number_to-then-b-eq10.ensures
 
 pub returns-then-b-lt48 : goal.returns-then-b-lt48
-returns-then-b-lt48 c = byte_low ((let byte : Byte c.args.s.now c.args.at c.args.begun c.loop-i.i c.loop-i.n c.widened-b.result = record { going = c.loop-i.invariant; inside = omega arith; is = c.widened-b.ensures } in byte)) (λ e. omega arith) (λ e. omega arith) (omega arith) _ c.malformed_at.ensures
+returns-then-b-lt48 c =
+    let byte : Byte c.args.s.now c.args.at c.args.begun c.loop-i.i c.loop-i.n c.widened-b.result = record { going = c.loop-i.invariant; inside = omega arith; is = c.widened-b.ensures } in
+    byte_low (byte) (λ e. omega arith) (λ e. omega arith) (omega arith) _ c.malformed_at.ensures
 
 pub returns-then-b-gt57 : goal.returns-then-b-gt57
-returns-then-b-gt57 c = byte_high ((let byte : Byte c.args.s.now c.args.at c.args.begun c.loop-i.i c.loop-i.n c.widened-b.result = record { going = c.loop-i.invariant; inside = omega arith; is = c.widened-b.ensures } in byte)) (omega arith) _ c.malformed_at-then-b-gt57.ensures
+returns-then-b-gt57 c =
+    let byte : Byte c.args.s.now c.args.at c.args.begun c.loop-i.i c.loop-i.n c.widened-b.result = record { going = c.loop-i.invariant; inside = omega arith; is = c.widened-b.ensures } in
+    byte_high (byte) (omega arith) _ c.malformed_at-then-b-gt57.ensures
 
 pub returns-then-n-eq0 : goal.returns-then-n-eq0
-returns-then-n-eq0 c = byte_zero ((let byte : Byte c.args.s.now c.args.at c.args.begun c.loop-i.i c.loop-i.n c.widened-b.result = record { going = c.loop-i.invariant; inside = omega arith; is = c.widened-b.ensures } in byte)) (omega arith) (omega arith) (omega arith) _ c.malformed_at-then-n-eq0.ensures
+returns-then-n-eq0 c =
+    let byte : Byte c.args.s.now c.args.at c.args.begun c.loop-i.i c.loop-i.n c.widened-b.result = record { going = c.loop-i.invariant; inside = omega arith; is = c.widened-b.ensures } in
+    byte_zero (byte) (omega arith) (omega arith) (omega arith) _ c.malformed_at-then-n-eq0.ensures
 
 pub returns-then-n-gt-TENTH : goal.returns-then-n-gt-TENTH
-returns-then-n-gt-TENTH c = byte_over ((let byte : Byte c.args.s.now c.args.at c.args.begun c.loop-i.i c.loop-i.n c.widened-b.result = record { going = c.loop-i.invariant; inside = omega arith; is = c.widened-b.ensures } in byte)) (omega arith) (omega arith) (omega arith) (omega arith) _ c.malformed_at-then-n-gt-TENTH.ensures
+returns-then-n-gt-TENTH c =
+    let byte : Byte c.args.s.now c.args.at c.args.begun c.loop-i.i c.loop-i.n c.widened-b.result = record { going = c.loop-i.invariant; inside = omega arith; is = c.widened-b.ensures } in
+    byte_over (byte) (omega arith) (omega arith) (omega arith) (omega arith) _ c.malformed_at-then-n-gt-TENTH.ensures
 
 pub returns-then-m-d : goal.returns-then-m-d
-returns-then-m-d c = byte_over ((let byte : Byte c.args.s.now c.args.at c.args.begun c.loop-i.i c.loop-i.n c.widened-b.result = record { going = c.loop-i.invariant; inside = omega arith; is = c.widened-b.ensures } in byte)) (omega arith) (omega arith) (omega arith) (omega arith) _ c.malformed_at-then-m-d.ensures
+returns-then-m-d c =
+    let byte : Byte c.args.s.now c.args.at c.args.begun c.loop-i.i c.loop-i.n c.widened-b.result = record { going = c.loop-i.invariant; inside = omega arith; is = c.widened-b.ensures } in
+    byte_over (byte) (omega arith) (omega arith) (omega arith) (omega arith) _ c.malformed_at-then-m-d.ensures
 
 pub loop-i-preserved : goal.loop-i-preserved
-loop-i-preserved c = byte_digit ((let byte : Byte c.args.s.now c.args.at c.args.begun c.loop-i.i c.loop-i.n c.widened-b.result = record { going = c.loop-i.invariant; inside = omega arith; is = c.widened-b.ensures } in byte)) (omega arith) (omega arith) (omega arith) (omega arith) _ (omega arith)
+loop-i-preserved c =
+    let byte : Byte c.args.s.now c.args.at c.args.begun c.loop-i.i c.loop-i.n c.widened-b.result = record { going = c.loop-i.invariant; inside = omega arith; is = c.widened-b.ensures } in
+    byte_digit (byte) (omega arith) (omega arith) (omega arith) (omega arith) _ (omega arith)
 
 pub returns : goal.returns
 returns c = going_end c.loop-i.invariant (omega arith) _ c.number_to-2.ensures

@@ -1,0 +1,21 @@
+-- `linekinds::lists::key_codes` meets its contract. The codes of each number.
+use borrow.Author.Tests.{ne_eqb}
+use Rattle.linekinds.proofs.lists.key_codes.Goals as goal
+
+pub returns-in-0 : goal.returns-in-0
+returns-in-0 c = rw c.in-0.is
+
+pub returns-in-4 : goal.returns-in-4
+returns-in-4 c = rw c.in-4.is
+
+pub returns-in-5 : goal.returns-in-5
+returns-in-5 c = rw c.in-5.is
+
+pub returns-in-6 : goal.returns-in-6
+returns-in-6 c = rw c.in-6.is
+
+pub returns-in-7 : goal.returns-in-7
+returns-in-7 c = rw c.in-7.is
+
+pub returns-in_default : goal.returns-in_default
+returns-in_default c = rw (ne_eqb c.args.i 0 c.in_default.in_default-own.rest.0.0.0.0.1, ne_eqb c.args.i 4 c.in_default.in_default-own.rest.0.0.0.1, ne_eqb c.args.i 5 c.in_default.in_default-own.rest.0.0.1, ne_eqb c.args.i 6 c.in_default.in_default-own.rest.0.1, ne_eqb c.args.i 7 c.in_default.in_default-own.rest.1)

@@ -1,0 +1,33 @@
+-- `linekinds::lists::key_letter` meets its contract. The letter of each number.
+use borrow.Author.Tests.{ne_eqb}
+use Rattle.linekinds.proofs.lists.key_letter.Goals as goal
+
+pub returns-in-0 : goal.returns-in-0
+returns-in-0 c = rw c.in-0.is
+
+pub returns-in-1 : goal.returns-in-1
+returns-in-1 c = rw c.in-1.is
+
+pub returns-in-2 : goal.returns-in-2
+returns-in-2 c = rw c.in-2.is
+
+pub returns-in-3 : goal.returns-in-3
+returns-in-3 c = rw c.in-3.is
+
+pub returns-in-4 : goal.returns-in-4
+returns-in-4 c = rw c.in-4.is
+
+pub returns-in-5 : goal.returns-in-5
+returns-in-5 c = rw c.in-5.is
+
+pub returns-in-6 : goal.returns-in-6
+returns-in-6 c = rw c.in-6.is
+
+pub returns-in-7 : goal.returns-in-7
+returns-in-7 c = rw c.in-7.is
+
+pub returns-in-8 : goal.returns-in-8
+returns-in-8 c = rw c.in-8.is
+
+pub returns-in_default : goal.returns-in_default
+returns-in_default c = rw (ne_eqb c.args.i 0 c.in_default.in_default-own.rest.0.0.0.0.0.0.0.0.1, ne_eqb c.args.i 1 c.in_default.in_default-own.rest.0.0.0.0.0.0.0.1, ne_eqb c.args.i 2 c.in_default.in_default-own.rest.0.0.0.0.0.0.1, ne_eqb c.args.i 3 c.in_default.in_default-own.rest.0.0.0.0.0.1, ne_eqb c.args.i 4 c.in_default.in_default-own.rest.0.0.0.0.1, ne_eqb c.args.i 5 c.in_default.in_default-own.rest.0.0.0.1, ne_eqb c.args.i 6 c.in_default.in_default-own.rest.0.0.1, ne_eqb c.args.i 7 c.in_default.in_default-own.rest.0.1, ne_eqb c.args.i 8 c.in_default.in_default-own.rest.1)

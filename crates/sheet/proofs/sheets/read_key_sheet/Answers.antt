@@ -1,0 +1,20 @@
+-- `sheet::sheets::read_key_sheet` meets its contract. What the lines, and then the counts, make of the sheet (`SheetsRead`).
+use mathlib.Core.Path.{sym, ◌∙◌}
+use native.Mathlib.Omega.{arith}
+use Rattle.sheet.proofs.SheetsRead.{key_turned, key_decided, key_stands, key_refused, key_whole_read, key_again_lem}
+use Rattle.sheet.proofs.sheets.read_key_sheet.Goals as goal
+
+pub returns-in-Refused : goal.returns-in-Refused
+returns-in-Refused c = let a = c.args in let e = c.read_whole-t.ensures.answer in key_refused a.s.now _ _ _ _ (key_turned a.s.now _ _ (sym c.in-Refused.is ∙ e))
+
+pub returns-then-not-key_lists_fit : goal.returns-then-not-key_lists_fit
+returns-then-not-key_lists_fit c = let w = c.read_whole-t in let d = key_decided c.args.s.now _ _ _ _ (sym c.in_default.is ∙ w.ensures.answer) w.ensures.held in
+    let f = sym c.key_lists_fit.ensures ∙ c.if-not-key_lists_fit.true in
+    key_refused c.args.s.now _ _ 5 0 (rw f at d)
+
+pub returns : goal.returns
+returns c = let w = c.read_whole-t in let g = sym c.in_default.is ∙ w.ensures.answer in
+    let d = key_decided c.args.s.now _ _ _ _ g w.ensures.held in
+    let f = sym c.key_lists_fit.ensures ∙ c.if-not-key_lists_fit.false in
+    let r = rw f at d in
+    key_whole_read c.args.s.now _ _ r (key_stands c.args.s.now _ _ _ _ g w.ensures.held (omega (arith, c.requires.1, w.auto.lists)) (omega (arith, c.requires.2, w.auto.counts)) r) (key_again_lem c.args.s.now _ _ _ _ g w.ensures.held)
