@@ -17,8 +17,11 @@ ID = r"[A-Za-z_μ][\w'₀-₉·-]*"
 PATH = re.compile(r"(?<![\w.'·-])(" + ID + r")((?:\.[\w'₀-₉·-]+)*)")
 
 
+BODIES = {}
+
+
 def norm(n):
-    n = n.replace("·", "_").replace("-", "_")
+    n = n.replace("·", "_").replace("-", "_").lower()
     return n[:-4] if n.endswith("_lem") else n
 
 
@@ -43,6 +46,7 @@ def clauses():
                 text = open(os.path.join(d, f), encoding="utf-8").read()
                 for m in re.finditer(r"^\s*(?:pub(?:\(\w+\))? )?(?:extern \"C\" )?fn (\w+)", text, re.M):
                     rest = text[m.end():]
+                    BODIES["::".join([c] + mod + [m.group(1)])] = rest[:rest.find("\n}\n")]
                     rest = rest[:re.search(r"\n\s*\{\n|\{\}\n|;\n|\{ [a-z_0-9]+ \}\n|\n\}", rest).start()] if re.search(r"\n\s*\{\n|\n\}", rest) else rest
                     req = re.findall(r"^\s*requires(?: (\w+))? \{", rest, re.M)
                     ens = re.findall(r"^\s*ensures(?: (\w+))? \{", rest, re.M)
@@ -58,7 +62,8 @@ def blocks(text):
     while i < len(lines):
         l = lines[i]
         if l.startswith("--"):
-            comment.append(l)
+            if not l.startswith("-- src/"):
+                comment.append(l)
         elif l.startswith("use "):
             uses.append(l)
             if comment and not head and not decls:
@@ -133,6 +138,9 @@ class Fn:
         self.helpers = {}
         self.goal = None
         self.hoisted = {}
+        self.cycle = False
+        self.prefix = ""
+        self.members = []
 
     def parent(self, i):
         p = self.places[i][1]
@@ -187,6 +195,8 @@ class Fn:
         f = "requires" if f == "pre" else f
         if f in ("args", "ranges", "lifetimes", "well_formed", "well-formed"):
             return ("text", ".".join(["c", f.replace("-", "_")] + fields), [])
+        if f == "requires" and self.cycle:
+            return self.cycle_requires(fields)
         if f == "requires":
             names = self.cl.get(self.own, ([], []))[0]
             if len(names) == 1:
@@ -204,6 +214,20 @@ class Fn:
             if a:
                 return self.of_arm(a, j)
         return self.of_step(j, "c." + self.places[j][2][1], fields)
+
+    def cycle_requires(self, fields):
+        if not fields:
+            return ("req", fields)
+        if fields[0] == "0":
+            return ("text", ".".join(["c", "decreases"] + fields[1:]), [])
+        rest = fields[1:]
+        names = self.cl.get(self.own, ([], []))[0]
+        if len(names) == 1:
+            return ("text", ".".join(["c", "requires"] + names + rest), [])
+        if names and rest:
+            rest = clause_path(names, rest) or rest
+            names = []
+        return ("text", ".".join(["c", "requires"] + rest), names if not rest else [])
 
     def inside_arm(self, j, fields):
         old = self.places[j][2][0]
@@ -245,6 +269,8 @@ class Fn:
                     fields = ["ensures"] + clause_path(ens, fields[1:])
                 elif len(fields) == 1:
                     names = ens
+            if fields in (["new"], ["auto"]):
+                return ("auto", j, text, fields[0])
             if fields and fields[0] in ("new", "auto") and len(fields) > 1:
                 ps = self.J["params"].get(callee) or []
                 k = 1
@@ -271,7 +297,7 @@ class Fn:
                 pos = m.end()
                 continue
             out.append(self.plain(text[pos:m.start()], alias))
-            if v[0] in ("place", "part"):
+            if v[0] in ("place", "part", "req", "auto"):
                 alias[m.group(1)] = v
             elif v[0] == "text" and v[1].startswith("(opened"):
                 alias[m.group(1)] = v
@@ -302,6 +328,10 @@ class Fn:
     def follow(self, a, fields):
         if a[0] == "place":
             return self.walk(a[1], fields)
+        if a[0] == "req":
+            return self.cycle_requires(fields)
+        if a[0] == "auto":
+            return self.of_step(a[1], a[2], [a[3]] + fields)
         if a[0] == "part":
             r = self.arm(self.goal, self.places[a[1]][2][0], a[2] + fields)
             return self.of_arm(r, a[1]) if r else ("part", a[1], a[2] + fields)
@@ -389,7 +419,7 @@ class Fn:
             if a is None:
                 return m.group(0)
             r = self.follow(a, m.group(2).split(".")[1:])
-            if r[0] in ("place", "part"):
+            if r[0] in ("place", "part", "req", "auto"):
                 raise Left("a place stands alone: " + m.group(0))
             return r[2] if r[0] == "step" else r[1]
         return PATH.sub(sub, text)
@@ -420,6 +450,28 @@ def top_tuple(text):
     if cur.strip():
         parts.append(cur)
     return [p.strip() for p in parts] if len(parts) > 1 else None
+
+
+def under_rw(t):
+    """The parts of a tuple, also of one under a rw."""
+    got = top_tuple(t)
+    if got:
+        return got
+    m = re.match(r"rw (\S+) (\(.*)$", t, re.S)
+    if t.startswith("rw ("):
+        depth = 0
+        for i, ch in enumerate(t[3:], 3):
+            depth += ch in "([{⟦"
+            depth -= ch in ")]}⟧"
+            if depth == 0:
+                break
+        head, rest = t[:i + 1], t[i + 1:].strip()
+    elif m:
+        head, rest = "rw " + m.group(1), m.group(2).strip()
+    else:
+        return None
+    got = top_tuple(rest)
+    return [f"{head} {p}" if re.fullmatch(r"[\w'.-]+|\(.*\)", p, re.S) else f"{head} ({p})" for p in got] if got else None
 
 
 def split_lets(t):
@@ -490,6 +542,173 @@ def used(uses, text):
     return out
 
 
+def answers(F, path, needs, ans, said):
+    J, cl = F.J, F.cl
+    olds = J["needs"]
+    at = J["asked_at"]
+    used_new = set()
+    for k, d in enumerate(needs):
+        body = d["body"].strip()
+        # by name first, and by order where the names don't tell
+        decl = re.match(r"tie\.Need-([\w'·-]+)", d["type"]).group(1)
+        decl = re.sub(r"^(overflow|slice-bounds)-", "", decl)
+        pick = [i for i, o in enumerate(olds) if norm(o[0]) == norm(decl) or norm(o[0]) == norm(d["name"])]
+        i = pick[0] if len(pick) == 1 else (k if len(needs) == len(olds) else None)
+        if i is None:
+            said.append(f"left: {'/'.join(path)}: which goal is {d['name']} ({d['type'][:50]})?")
+            ans.append("-- LEFT " + d["whole"].replace("\n", "\n-- "))
+            continue
+        if len(needs) == len(olds) and i != k:
+            i = k
+        new = F.prefix + olds[i][1]
+        tc = "t c" if F.cycle else "c"
+        if body in ("search rules", "omega arith", "refl"):
+            continue
+        try:
+            a = d["args"]
+            if a is None:
+                raise Left("cases")
+            place = F.goal = F.place(at[i][0])
+            F.hoisted = {}
+            body = F.turn(body, {a[0]: ("place", place)})
+            hoist = [f"let {n} : {ty} = {b} in" for n, (ty, b) in F.hoisted.items()]
+            if hoist:
+                body = "\n    " + "\n    ".join(hoist) + "\n    " + body.lstrip()
+            if len(a) > 1 and a[1] in ("κs", "_"):
+                if re.search(r"(?<![\w])κs", body):
+                    raise Left("κs is used")
+                a = a[:1]
+            extra = a[1:]
+            # an if on a negated test says what the test was
+            calls = {p[2][1] for p in F.places if p[3]}
+            def bare(m):
+                tail = m.group(2)
+                src = BODIES.get(F.own, "")
+                plain = tail in calls or (re.search(r"!" + re.escape(tail.split("-")[0]) + r"(?![\w.\[])", src) and not re.search(r"!" + re.escape(tail.split("-")[0]) + r"[.\[]", src))
+                return m.group(1) if plain else m.group(0)
+            body = re.sub(r"\(not-(?:true|false) [\w.]+ (c\.if-not-([\w'-]+)\.(?:true|false))\)", bare, body)
+            body = re.sub(r"(?<![\w-])not-(?:true|false) [\w.]+ (c\.if-not-([\w'-]+)\.(?:true|false))", bare, body)
+        except Left as e:
+            said.append(f"left: {'/'.join(path)}: {d['name']}: {e}")
+            ans.append("-- LEFT " + d["whole"].replace("\n", "\n-- "))
+            continue
+        for c in d["comment"]:
+            ans.append(c)
+        cls = []
+        if new.startswith("returns"):
+            cls = cl.get(F.own, ([], []))[1]
+        elif "-requires" in new:
+            stem = new.split("-requires")[0]
+            callee = [p[3] for p in F.places if p[3] and (p[2][1] == stem or p[2][1].split("-")[0] == stem.split("-")[0])]
+            if callee and callee[0] not in F.members:
+                cls = cl.get(callee[0], ([], []))[0]
+        done = False
+        if cls:
+            lets, rest = split_lets(body)
+            tup = top_tuple(rest)
+            flatt = tup
+            while flatt and len(flatt) < len(cls) and under_rw(flatt[-1]):
+                flatt = flatt[:-1] + under_rw(flatt[-1])
+            if flatt and len(flatt) == len(cls):
+                for cn, part in zip(cls, flatt):
+                    if part in ("search rules", "omega arith", "refl"):
+                        continue
+                    ans.append(f"pub {new}-clause-{cn} : goal.{new}-clause-{cn}")
+                    ans += d["unf"]
+                    whole = pruned(lets + part)
+                    ans.append(f"{new}-clause-{cn} {tc} ={'' if whole.startswith(chr(10)) else ' '}{whole}")
+                    ans.append("")
+                done = True
+            elif len(cls) == 1:
+                ans.append(f"pub {new} : goal.{new}")
+                ans += d["unf"]
+                lets, rest = split_lets(body)
+                ans.append(f"{new} {tc} = {pruned(lets)}record {{ {cls[0]} = {rest.strip()} }}" if not lets.strip() else f"{new} {tc} ={'' if lets.startswith(chr(10)) else ' '}{pruned(lets + 'record { ' + cls[0] + ' = ' + rest.strip() + ' }')}")
+                ans.append("")
+                done = True
+            elif tup:
+                said.append(f"look: {'/'.join(path)}: {new}: a tuple of {len(tup)}, clauses {cls}")
+            else:
+                fields = "; ".join(f"{n} = both.{k}" for k, n in enumerate(cls))
+                ans.append(f"pub {new} : goal.{new}")
+                ans += d["unf"]
+                ans.append(f"{new} {tc} ={'' if lets.startswith(chr(10)) else ' '}{lets}let both = {rest.strip()} in record {{ {fields} }}")
+                ans.append("")
+                done = True
+        if not done:
+            ans.append(f"pub {new} : goal.{new}")
+            ans += d["unf"]
+            body = pruned(body)
+            ans.append(f"{new} {' '.join([tc] + extra)} ={'' if body.startswith(chr(10)) else ' '}{body}")
+            ans.append("")
+
+
+def convert_cycle(crate, path, file, Js, cl, said):
+    """A proof of functions that call themselves: each goal is an answer, and each measure a line of Invariants.antt."""
+    text = open(file, encoding="utf-8").read()
+    m = re.search(r"^module _ \(t : ℕ\) where\n", text, re.M)
+    if not m:
+        raise Left("no module of the measure's value")
+    end = re.search(r"^pub \+", text, re.M).start()
+    head, uses, outside = blocks(text[:m.start()])
+    inner = re.sub(r"^  ", "", text[m.end():end], flags=re.M)
+    alias = {}
+    for u in uses:
+        k = re.match(r"use \S+\.Lts-(\w+) as (\S+)$", u)
+        if k:
+            alias[k.group(2)] = k.group(1)
+    measures, helpers = [], []
+    for com, part in outside:
+        d = split_decl(part)
+        if d and d["name"].startswith("μ"):
+            measures.append(d)
+        elif d:
+            helpers.append(d)
+    per = {f: [] for f in Js}
+    for com, part in blocks(inner)[2]:
+        d = split_decl(part)
+        d["comment"] = com
+        k = re.match(r"(\S+)\.Need-", d["type"])
+        if k and k.group(1) in alias:
+            d["type"] = "tie." + d["type"][len(k.group(1)) + 1:]
+            per[alias[k.group(1)]].append(d)
+        elif d["name"] not in ("given", "asked", "calls") and not d["type"].endswith("Claims") and ": In " not in part[0] and not d["type"].startswith("In "):
+            raise Left("helper in the cycle: " + d["name"])
+    ans = []
+    full = "Rattle." + crate + ".proofs." + ".".join(path)
+    inv = []
+    for f, needs in per.items():
+        F = Fn(crate, path[:-1] + [f], Js[f], cl, said)
+        F.cycle = True
+        F.members = ["::".join([crate] + path[:-1] + [g]) for g in Js]
+        F.prefix = f + "-" if len(Js) > 1 else ""
+        answers(F, path[:-1] + [f], needs, ans, said)
+        ms = [d for d in measures if norm(d["name"][2:]) == norm(f)]
+        if ms:
+            ps = Js[f]["params"].get(F.own)
+            k = re.fullmatch(r"a((?:\.1)*)\.0", ms[0]["body"].strip())
+            inv.append(f"abbrev pub decreases-{f} : goal.decreases-{f}")
+            if k and ps:
+                inv.append(f"decreases-{f} l = l.{ps[k.group(1).count('1')]}")
+            else:
+                said.append(f"left: {'/'.join(path)}: the measure of {f}: {ms[0]['body'].strip()}")
+                inv.append(f"decreases-{f} l = {ms[0]['body'].strip()}")
+            inv.append("")
+    kept = []
+    for h in helpers:
+        kept += [h["whole"], ""]
+    head = [h for h in head if h != "-- Assumes nothing."]
+    where = os.path.dirname(file)
+    t = "\n".join(kept + ans)
+    t = re.sub(r"^(pub )", r"\1", t, flags=re.M)
+    with open(where + "/Answers.antt", "w", encoding="utf-8") as f:
+        f.write("\n".join(head + used(uses, t) + [f"use {full}.Goals as goal", "", t.rstrip("\n"), ""]))
+    t = "\n".join(inv)
+    with open(where + "/Invariants.antt", "w", encoding="utf-8") as f:
+        f.write("\n".join(head + used(uses, t) + [f"use {full}.Given as goal", "", t.rstrip("\n"), ""]))
+    os.remove(file)
+
+
 def convert(crate, path, file, J, cl, said):
     text = open(file, encoding="utf-8").read()
     head, uses, decls = blocks(text)
@@ -528,7 +747,7 @@ def convert(crate, path, file, J, cl, said):
     helpers = [d for d in ds if d not in order and d is not spec]
     keep = []
     for h in helpers:
-        m = re.match(r"\(?(?:(" + ID + r") : )?tie\.([A-Z][\w'·-]*)((?: [\w'·-]+)*?)\)? →\s*", h["type"])
+        m = re.match(r"\(?(?:(" + ID + r") : )?tie\.([A-Z][\w'·-]*)((?: [\w'·-]+)*?)\)?\s+→\s*", h["type"])
         if not m:
             if "tie." in h["type"] or "tie." in h["body"]:
                 raise Left("helper " + h["name"] + ": " + h["type"][:60])
@@ -569,99 +788,7 @@ def convert(crate, path, file, J, cl, said):
         inv_text.append(f"{kind}-{new} l ={' ' if not body.startswith(chr(10)) else ''}{body}")
         inv_text.append("")
     ans = []
-    olds = J["needs"]
-    at = J["asked_at"]
-    used_new = set()
-    for k, d in enumerate(needs):
-        body = d["body"].strip()
-        # by name first, and by order where the names don't tell
-        decl = re.match(r"tie\.Need-([\w'·-]+)", d["type"]).group(1)
-        decl = re.sub(r"^(overflow|slice-bounds)-", "", decl)
-        pick = [i for i, o in enumerate(olds) if norm(o[0]) == norm(decl) or norm(o[0]) == norm(d["name"])]
-        i = pick[0] if len(pick) == 1 else (k if len(needs) == len(olds) else None)
-        if i is None:
-            said.append(f"left: {'/'.join(path)}: which goal is {d['name']} ({d['type'][:50]})?")
-            ans.append("-- LEFT " + d["whole"].replace("\n", "\n-- "))
-            continue
-        if len(needs) == len(olds) and i != k:
-            i = k
-        new = olds[i][1]
-        if body in ("search rules", "omega arith", "refl"):
-            continue
-        try:
-            a = d["args"]
-            if a is None:
-                raise Left("cases")
-            place = F.goal = F.place(at[i][0])
-            F.hoisted = {}
-            body = F.turn(body, {a[0]: ("place", place)})
-            hoist = [f"let {n} : {ty} = {b} in" for n, (ty, b) in F.hoisted.items()]
-            if hoist:
-                body = "\n    " + "\n    ".join(hoist) + "\n    " + body.lstrip()
-            if len(a) > 1 and a[1] == "κs":
-                if re.search(r"(?<![\w])κs", body):
-                    raise Left("κs is used")
-                a = a[:1]
-            extra = a[1:]
-            # an if on a negated test says what the test was
-            calls = {p[2][1] for p in F.places if p[3]}
-            def bare(m):
-                return m.group(1) if m.group(2) in calls else m.group(0)
-            body = re.sub(r"\(not-(?:true|false) _ (c\.if-not-([\w'-]+)\.(?:true|false))\)", bare, body)
-            body = re.sub(r"(?<![\w-])not-(?:true|false) _ (c\.if-not-([\w'-]+)\.(?:true|false))", bare, body)
-        except Left as e:
-            said.append(f"left: {'/'.join(path)}: {d['name']}: {e}")
-            ans.append("-- LEFT " + d["whole"].replace("\n", "\n-- "))
-            continue
-        for c in d["comment"]:
-            ans.append(c)
-        cls = []
-        if new.startswith("returns"):
-            cls = cl.get(F.own, ([], []))[1]
-        elif "-requires" in new:
-            stem = new.split("-requires")[0]
-            callee = [p[3] for p in F.places if p[3] and (p[2][1] == stem or p[2][1].split("-")[0] == stem.split("-")[0])]
-            if callee:
-                cls = cl.get(callee[0], ([], []))[0]
-        done = False
-        if cls:
-            lets, rest = split_lets(body)
-            tup = top_tuple(rest)
-            flatt = tup
-            while flatt and len(flatt) < len(cls) and top_tuple(flatt[-1]):
-                flatt = flatt[:-1] + top_tuple(flatt[-1])
-            if flatt and len(flatt) == len(cls):
-                for cn, part in zip(cls, flatt):
-                    if part in ("search rules", "omega arith", "refl"):
-                        continue
-                    ans.append(f"pub {new}-clause-{cn} : goal.{new}-clause-{cn}")
-                    ans += d["unf"]
-                    whole = pruned(lets + part)
-                    ans.append(f"{new}-clause-{cn} c ={'' if whole.startswith(chr(10)) else ' '}{whole}")
-                    ans.append("")
-                done = True
-            elif len(cls) == 1:
-                ans.append(f"pub {new} : goal.{new}")
-                ans += d["unf"]
-                lets, rest = split_lets(body)
-                ans.append(f"{new} c = {pruned(lets)}record {{ {cls[0]} = {rest.strip()} }}" if not lets.strip() else f"{new} c ={'' if lets.startswith(chr(10)) else ' '}{pruned(lets + 'record { ' + cls[0] + ' = ' + rest.strip() + ' }')}")
-                ans.append("")
-                done = True
-            elif tup:
-                said.append(f"look: {'/'.join(path)}: {new}: a tuple of {len(tup)}, clauses {cls}")
-            else:
-                fields = "; ".join(f"{n} = both.{k}" for k, n in enumerate(cls))
-                ans.append(f"pub {new} : goal.{new}")
-                ans += d["unf"]
-                ans.append(f"{new} c ={'' if lets.startswith(chr(10)) else ' '}{lets}let both = {rest.strip()} in record {{ {fields} }}")
-                ans.append("")
-                done = True
-        if not done:
-            ans.append(f"pub {new} : goal.{new}")
-            ans += d["unf"]
-            body = pruned(body)
-            ans.append(f"{new} {' '.join(['c'] + extra)} ={'' if body.startswith(chr(10)) else ' '}{body}")
-            ans.append("")
+    answers(F, path, needs, ans, said)
     kept = []
     for h in keep:
         kept += h["comment"] + [h["whole"], ""]
@@ -696,6 +823,14 @@ def main():
         if only and path[-1] not in only:
             continue
         key = f"Rattle-{crate}-proofs." + ".".join(path) + ".Lts"
+        cyc = {k[len(key) + 1:]: v for k, v in J.items() if k.startswith(key + "-")}
+        if cyc:
+            try:
+                convert_cycle(crate, path, d + "/Proof.antt", cyc, cl, said)
+                n += 1
+            except Left as e:
+                said.append(f"left: {'/'.join(path)}: {e}")
+            continue
         file = d + "/Proof.antt"
         if key not in J:
             said.append(f"left: {'/'.join(path)}: no names")

@@ -53,3 +53,5 @@ module _ (s : Settings) (f : Facts) (worked : Operator) (n : ℕ) (forms : List 
       let w' : Finished f.rows (children_from (child + 1) ts (map child_facts xs)) cs = rw add-one w in
       ap₂ ◌∷ᶠ◌ (end_handled _ c (form_of (get_or forms (child - 1) 0)) (child_facts (get_or facts (child - 1) [])) e (sym e.whole ∙ ap form_of (sym form)) (ap child_facts (sym fact)))
       (handled_finished ts xs (child + 1) cs (omega arith) (omega arith) w' a' b')
+  handled_finished none xs child (c ∷ cs) l z w a b = elim w [ ]
+  handled_finished (t ∷ᶠ ts) (x ∷ xs) child [] l z w a b = elim w [ ]

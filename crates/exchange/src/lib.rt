@@ -1,4 +1,6 @@
 // Exchange rules: ensure_distribution and its steps.
+#![tactic(auto)]
+
 pub mod child;
 pub mod fact;
 pub mod finish;
