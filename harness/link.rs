@@ -1,4 +1,4 @@
-// Links target/staticlib/libNAME.a of the repository, which `rt staticlib NAME` writes. For build scripts.
+// Links target/staticlib/libNAME.a of the repository, which `tools/staticlib NAME` writes. For build scripts.
 use std::{env, path::PathBuf};
 
 pub fn staticlib(name: &str) {
@@ -9,7 +9,7 @@ pub fn staticlib(name: &str) {
     println!("cargo:rerun-if-changed=../link.rs");
     if !archive.exists() {
         panic!(
-            "target/staticlib/lib{name}.a is missing: run `rt staticlib {name}` at the repository's top first"
+            "target/staticlib/lib{name}.a is missing: run `tools/staticlib {name}` at the repository's top first"
         );
     }
     println!("cargo:rustc-link-search=native={}", folder.display());

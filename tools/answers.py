@@ -253,8 +253,8 @@ class Fn:
             return ("part", j, fields)
         if re.match(r"(keys\d+|rest)$", fields[0]):
             new = self.places[j][2][1]
-            if new == "in_default":
-                own = ".".join([text, "in_default-own"] + fields)
+            if new.startswith("in_default"):
+                own = ".".join([text, new + "-own"] + fields)
                 return ("text", own if fields[0] == "rest" else f"(opened {own})", [])
             if fields[0] != "rest":
                 return ("text", ".".join([text, "is"] + fields[1:]), [])
@@ -313,6 +313,8 @@ class Fn:
 
     def value(self, text, alias):
         text = text.strip()
+        while text.startswith("(") and text.endswith(")"):
+            text = text[1:-1].strip()
         m = re.fullmatch(r"(" + ID + r") \(?(" + ID + r")((?:\.[\w'₀-₉·-]+)*)\)?", text)
         if m and m.group(1) in self.helpers and self.helpers[m.group(1)].get("to_place"):
             v = self.value(m.group(2) + m.group(3), alias)
@@ -356,51 +358,62 @@ class Fn:
         return v
 
     def plain(self, text, alias):
-        # helpers applied to a place
-        for hn, h in self.helpers.items():
+        """The text with each helper at a place, and then each path, as it is called now."""
+        names = sorted(self.helpers, key=len, reverse=True)
+        if not names:
+            return self.paths(text, alias)
+        pat = re.compile(r"(\()?(?<![\w.'·-])(" + "|".join(map(re.escape, names)) + r")(?![\w'·-])")
+        out, pos = [], 0
+        while True:
+            m = pat.search(text, pos)
+            if not m:
+                break
+            h = self.helpers[m.group(2)]
+            out.append(self.paths(text[pos:m.start(2)], alias))
+            got = argument(text, m.end(2))
+            if not got:
+                raise Left("helper " + h["name"] + " with no place")
+            v = self.value(got[0], alias)
+            if not v or v[0] != "place":
+                raise Left("helper " + h["name"] + " at " + got[0])
+            end = got[1]
             if h.get("to_place"):
-                # H PATH.field: as a place
-                def sub(m, h=h):
-                    v = self.value(m.group(1), alias)
-                    if not v or v[0] != "place":
-                        raise Left("helper " + h["name"] + " at " + m.group(1))
-                    w = self.through(h, v[1])
-                    r = self.follow(w, [x for x in m.group(2).split(".") if x])
-                    if r[0] == "place":
-                        raise Left("a place stands alone")
-                    return r[2] if r[0] == "step" else r[1]
-                text = re.sub(r"\(" + re.escape(hn) + r" (" + ID + r"(?:\.[\w'₀-₉·-]+)*)\)((?:\.[\w'₀-₉·-]+)+)", sub, text)
-        for hn, h in self.helpers.items():
-            if h.get("to_place"):
+                # (H PATH).field
+                w = self.through(h, v[1])
+                k = re.match(r"\)((?:\.[\w'₀-₉·-]+)+)", text[end:])
+                if not k or not m.group(1):
+                    raise Left("a place stands alone: " + h["name"])
+                r = self.follow(w, k.group(1).split(".")[1:])
+                if r[0] not in ("text", "step"):
+                    raise Left("a place stands alone: " + h["name"])
+                out[-1] = out[-1][:-1]
+                out.append(r[2] if r[0] == "step" else r[1])
+                pos = end + k.end()
                 continue
-            pat = re.compile(r"(?<![\w.'·-])" + re.escape(hn) + r"(?![\w'·-])(?: (\(?)((?:\(?" + ID + r" )?" + ID + r"(?:\.[\w'₀-₉·-]+)*\)?(?:\.[\w'₀-₉·-]+)*))?")
-            def sub(m, h=h):
-                arg = m.group(2)
-                if not arg:
-                    raise Left("helper " + h["name"] + " with no place")
-                v = self.value(arg, alias)
-                if not v or v[0] != "place":
-                    raise Left("helper " + h["name"] + " at " + arg)
-                return self.inline(h, v[1]) + ""
-            if pat.search(text):
-                # only simple arguments: NAME PATH
-                pat = re.compile(r"(?<![\w.'·-])" + re.escape(hn) + r" (" + ID + r"(?:\.[\w'₀-₉·-]+)*)(?![\w'·-])")
-                def sub2(m, h=h):
-                    v = self.value(m.group(1), alias)
-                    if not v or v[0] != "place":
-                        raise Left("helper " + h["name"] + " at " + m.group(1))
-                    return "\x00" + self.inline(h, v[1]).replace("\n", " ") + "\x01"
-                text = pat.sub(sub2, text)
-        parts = re.split(r"(\x00[^\x01]*\x01)", text)
-        return "".join(p[1:-1] if p.startswith("\x00") else self.paths(p, alias) for p in parts)
+            more = []
+            if "abbrev" in h["mods"]:
+                for _ in h["args"][1:]:
+                    g = argument(text, end)
+                    if not g:
+                        break
+                    more.append(self.plain(g[0], alias) if not g[0].startswith("(") else "(" + self.plain(g[0][1:-1], alias) + ")")
+                    end = g[1]
+            out.append(self.inline(h, v[1], more))
+            pos = end
+        out.append(self.paths(text[pos:], alias))
+        return "".join(out)
 
-    def inline(self, h, place):
+    def inline(self, h, place, more=()):
         """What stands for a helper at a place: an abbreviation's text, or the name of a let that goes before the answer."""
         al = {h["args"][0]: ("place", place)}
         body = self.turn(h["body"].strip(), al)
         if "abbrev" in h["mods"]:
-            if len(h["args"]) > 1:
-                body = "λ " + " ".join(h["args"][1:]) + ". " + body
+            rest = h["args"][1:]
+            if rest and len(more) == len(rest):
+                sub = dict(zip(rest, more))
+                body = re.sub(r"(?<![\w.'·-])(" + "|".join(map(re.escape, rest)) + r")(?![\w'₀-₉·-])", lambda m: sub[m.group(1)], body)
+            elif rest:
+                raise Left("abbreviation " + h["name"] + " with too few arguments")
             return body if re.fullmatch(r"[\w'₀-₉.·-]+", body) else "(" + body + ")"
         ty = self.turn(h["type"], {h["param"]: ("place", place)} if h["param"] else {})
         if len(h["args"]) > 1:
@@ -423,6 +436,25 @@ class Fn:
                 raise Left("a place stands alone: " + m.group(0))
             return r[2] if r[0] == "step" else r[1]
         return PATH.sub(sub, text)
+
+
+def argument(text, pos):
+    """The argument that begins after pos, and where it ends."""
+    m = re.compile(r"\s+").match(text, pos)
+    if not m:
+        return None
+    i = m.end()
+    if i < len(text) and text[i] == "(":
+        depth = 0
+        for k in range(i, len(text)):
+            depth += text[k] in "([{⟦"
+            depth -= text[k] in ")]}⟧"
+            if depth == 0:
+                e = re.compile(r"(?:\.[\w'₀-₉·-]+)*").match(text, k + 1).end()
+                return text[i:e], e
+        return None
+    m = re.compile(r"[\w'₀-₉.·-]+").match(text, i)
+    return (m.group(0), m.end()) if m else None
 
 
 def top_tuple(text):
@@ -520,6 +552,15 @@ def pruned(t):
 
 
 def used(uses, text):
+    merged, rest = {}, []
+    for u in uses:
+        m = re.match(r"use ([^{\s]+?)\.\{(.*)\}$", u)
+        if m:
+            merged.setdefault(m.group(1), [])
+            merged[m.group(1)] += [n for n in m.group(2).split(", ") if n not in merged[m.group(1)]]
+        elif u not in rest:
+            rest.append(u)
+    uses = [f"use {k}.{{{', '.join(v)}}}" for k, v in merged.items()] + rest
     out = []
     toks = set(re.findall(r"[^\s(){}\[\]⟦⟧.;,@\"«»`\\]+", text))
     for u in uses:
@@ -562,7 +603,7 @@ def answers(F, path, needs, ans, said):
             i = k
         new = F.prefix + olds[i][1]
         tc = "t c" if F.cycle else "c"
-        if body in ("search rules", "omega arith", "refl"):
+        if body in ("search rules", "omega arith", "refl") and not d["unf"]:
             continue
         try:
             a = d["args"]
@@ -581,13 +622,17 @@ def answers(F, path, needs, ans, said):
             extra = a[1:]
             # an if on a negated test says what the test was
             calls = {p[2][1] for p in F.places if p[3]}
-            def bare(m):
-                tail = m.group(2)
-                src = BODIES.get(F.own, "")
-                plain = tail in calls or (re.search(r"!" + re.escape(tail.split("-")[0]) + r"(?![\w.\[])", src) and not re.search(r"!" + re.escape(tail.split("-")[0]) + r"[.\[]", src))
-                return m.group(1) if plain else m.group(0)
-            body = re.sub(r"\(not-(?:true|false) [\w.]+ (c\.if-not-([\w'-]+)\.(?:true|false))\)", bare, body)
-            body = re.sub(r"(?<![\w-])not-(?:true|false) [\w.]+ (c\.if-not-([\w'-]+)\.(?:true|false))", bare, body)
+            src = BODIES.get(F.own, "")
+
+            def plain(tail):
+                first = re.escape(tail.split("-")[0])
+                return tail in calls or bool(re.search(r"!" + first + r"(?![\w.\[])", src)) and not re.search(r"!" + first + r"[.\[]", src)
+
+            step = r"c\.if-not-([\w'-]+)\.(?:true|false)(?![\w.])"
+            body = re.sub(r"\(not-(?:true|false) [\w.]+ (" + step + r")\)", lambda m: "\x02" + m.group(1) if plain(m.group(2)) else m.group(0), body)
+            body = re.sub(r"(?<![\w-])not-(?:true|false) [\w.]+ (" + step + ")", lambda m: "\x02" + m.group(1) if plain(m.group(2)) else m.group(0), body)
+            body = re.sub(r"(?<![\w.\x02])(" + step + ")", lambda m: f"(ap not {m.group(1)})" if plain(m.group(2)) else m.group(0), body)
+            body = body.replace("\x02", "")
         except Left as e:
             said.append(f"left: {'/'.join(path)}: {d['name']}: {e}")
             ans.append("-- LEFT " + d["whole"].replace("\n", "\n-- "))
@@ -803,6 +848,8 @@ def convert(crate, path, file, J, cl, said):
             f.write("\n".join(head + used(uses, kb + t) + [f"use {full}.Given as goal", ""] + ([kb] if kb else []) + [t.rstrip("\n"), ""]))
     if ans:
         t = "\n".join(kept + ans)
+        if "(ap not c." in t:
+            uses += ["use mathlib.Core.Path.{ap}", "use mathlib.Core.Bool.{not}"]
         if "(opened c" in t:
             uses.append("use borrow.Enum.Refused.{opened}")
         with open(where + "/Answers.antt", "w", encoding="utf-8") as f:

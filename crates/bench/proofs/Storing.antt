@@ -7,11 +7,12 @@ use native.Mathlib.Numerals.{add-one}
 use lib.ListN.{length, get_or, drop, set, drop_of_length-le}
 use lib.Seq.{sets, drop-cons}
 use mathlib.Core.Bool.{true, false}
+use Rattle.std.specs.Prelude.{eqb}
 use borrow.Author.Tests.{le-leb, lt-leb, eq-eqb, ne_eqb}
 use Rattle.keys.specs.Lists.{permute}
 use Rattle.keys.specs.Expressions.{gone_number}
-use Rattle.keys.specs.Reorder.{Tried}
-use Rattle.keys.specs.Values.{numbers, report_of, resulting, tried_of}
+use Rattle.keys.specs.Reorder.{Tried, try_reorder}
+use Rattle.keys.specs.Values.{numbers, number_rules, report_of, resulting, tried_of}
 use Rattle.keys.specs.declared.reorder.Reordered.TheVariants.{Moved}
 use Rattle.keys.specs.declared.reorder.Reorder.{Reorder}
 use Rattle.bench.specs.Orders.{taken, tried, report_for, left_for, right_for}
@@ -37,6 +38,13 @@ module _ (r l g : List ℕ) where
 
     pub even : length g ≡ length l → taken r l g ≡ true
     even e = rw (le-leb (length r) 32 h, le-leb (length l) 32 k, eq-eqb (length g) (length l) e)
+
+-- what `try_reorder` promises is what the benchmark's answers go by
+pub was_tried :
+    (w : List (List ℕ)) (r l g : List ℕ) (t : Reorder) →
+    tried_of l g t ≡ try_reorder eqb gone_number (number_rules w) r l g → tried_of l g t ≡ tried w r l g
+unfolding tried
+was_tried w r l g t p = p
 
 module _ (w : List (List ℕ)) (r l g left right : List ℕ) where
   pub not_taken :

@@ -1,4 +1,6 @@
 // The line reader, the line writer and `try_reorder`, as the benchmark in Rust calls them.
+#![tactic(auto)]
+
 ghost use Rattle.std.specs.Prelude.{◌≡◌, map, length, drop, set};
 ghost use Rattle.text.specs.Text.{line, line_fields, line_at, after};
 ghost use Rattle.text.specs.Read.{stored_in};

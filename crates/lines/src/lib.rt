@@ -1,4 +1,6 @@
 // The lines of key and join answers and sheets, written from lists.
+#![tactic(auto)]
+
 pub mod children;
 pub mod join_text;
 pub mod key_text;

@@ -1,4 +1,6 @@
 // The decision on a sheet that was read, and the lists that it leaves.
+#![tactic(auto)]
+
 pub mod chosen;
 pub mod decide;
 pub mod moved;

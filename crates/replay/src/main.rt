@@ -2,7 +2,12 @@
 // it writes the name, then the answer or `e,number,line`, and `touched` where a byte of the room beyond the answer was changed, and `lent`
 // where the decision in lent rooms, which are not clear, is another.
 // Where no case follows, it writes `?` and ends.
-ghost use Rattle.std.specs.Prelude.{◌≡◌, length};
+#![tactic(auto)]
+
+ghost use Rattle.std.specs.Prelude.{◌≡◌, ◌≤◌, IfOk, length};
+
+use std::io;
+use std::io::Read;
 
 // What the room is filled with before a call; no answer has it.
 const FILLED: u8 = 126;
@@ -11,6 +16,27 @@ fn mebibyte() -> [u8; 1048576]
     ensures { 1048576 ≡ length result }
 {
     [0; 1048576]
+}
+
+fn large_buffer() -> [u8; 65536]
+    ensures { 65536 ≡ length result }
+{
+    [0; 65536]
+}
+
+// Reads until the room is full or the input ends: how many bytes stand at the room's front.
+fn read_full(input: &mut impl Read, room: &mut [u8]) -> io::Result<usize>
+    ensures { IfOk result (λ n. n ≤ length room.new) }
+{
+    let mut done: usize = 0;
+    while done < room.len() {
+        let n = input.read(&mut room[done..])?;
+        if n == 0 {
+            break;
+        }
+        done += n;
+    }
+    Ok(done)
 }
 
 fn wide(b: u8) -> usize {
@@ -128,7 +154,7 @@ fn decide_lent(sheet: &[u8], out: &mut [u8]) -> u64 {
 
 // Whether a decision in lent rooms has the result, and leaves the same in its room.
 fn lent_alike(sheet: &[u8], room: &[u8], res: u64) -> bool {
-    let mut out = io::large_buffer();
+    let mut out = large_buffer();
     if out.len() < room.len() {
         return false;
     }
@@ -141,20 +167,17 @@ fn lent_alike(sheet: &[u8], room: &[u8], res: u64) -> bool {
     same(room, &*other)
 }
 
-fn put(bytes: &[u8], from: usize, to: usize) {
+fn put(rt: &impl Print, bytes: &[u8], from: usize, to: usize) -> io::Result<()> {
     if to <= bytes.len() {
         if from <= to {
-            io::write_all(1, &bytes[from..to]);
+            rt.write_all(&bytes[from..to])?;
         }
     }
+    Ok(())
 }
 
-fn put_refusal(number: u64, line: u64) {
-    io::write_all(1, b"e,");
-    io::print_decimal(1, number);
-    io::write_all(1, b",");
-    io::print_decimal(1, line);
-    io::write_all(1, b"\n");
+fn put_refusal(rt: &impl Print, number: u64, line: u64) -> io::Result<()> {
+    println!(rt; "e,{number},{line}")
 }
 
 // How many bytes of the room the answer has.
@@ -165,30 +188,31 @@ fn written(res: u64) -> usize {
     0
 }
 
-fn replay(entry: u8, sheet: &[u8], room: &mut [u8]) {
+fn replay(rt: &impl Print, entry: u8, sheet: &[u8], room: &mut [u8]) -> io::Result<()> {
     fill(room);
     let result = ask(entry, sheet, room);
     if result / 4294967296 > 0 {
-        put_refusal(result / 4294967296, result % 4294967296);
+        put_refusal(rt, result / 4294967296, result % 4294967296)?;
     }
-    put(room, 0, written(result));
+    put(rt, room, 0, written(result))?;
     if !untouched(room, written(result)) {
-        io::write_all(1, b"touched\n");
+        println!(rt; "touched")?;
     }
     if entry == b'd' {
         if !lent_alike(sheet, room, result) {
-            io::write_all(1, b"lent\n");
+            println!(rt; "lent")?;
         }
     }
+    Ok(())
 }
 
 // The case whose line `entry,room,length` is at `at`: the place after it, or 0 where there is none.
-fn case_at(s: &[u8], at: usize, room: &mut [u8]) -> usize {
+fn case_at(rt: &impl Print, s: &[u8], at: usize, room: &mut [u8]) -> io::Result<usize> {
     if s.len() < 2 {
-        return 0;
+        return Ok(0);
     }
     if s.len() - 2 < at {
-        return 0;
+        return Ok(0);
     }
     let entry = s[at];
     let first = number_at(s, at + 2);
@@ -196,37 +220,38 @@ fn case_at(s: &[u8], at: usize, room: &mut [u8]) -> usize {
     let from = second.next;
     let most = first.value;
     if s.len() < from {
-        return 0;
+        return Ok(0);
     }
     if s.len() - from < second.value {
-        return 0;
+        return Ok(0);
     }
     if room.len() < most {
-        return 0;
+        return Ok(0);
     }
     let to = from + second.value;
-    replay(entry, &s[from..to], &mut room[0..most]);
-    to
+    replay(rt, entry, &s[from..to], &mut room[0..most])?;
+    Ok(to)
 }
 
 // Every case of the text.
-fn run(s: &[u8], room: &mut [u8]) {
+fn run(rt: &impl Print, s: &[u8], room: &mut [u8]) -> io::Result<()> {
     let mut at: usize = 0;
     while at < s.len() {
         let head = line_end(s, at);
-        put(s, at, head);
-        let next = case_at(s, head, room);
+        put(rt, s, at, head)?;
+        let next = case_at(rt, s, head, room)?;
         if next <= at {
-            io::write_all(1, b"?\n");
-            return;
+            println!(rt; "?")?;
+            return Ok(());
         }
         at = next;
     }
+    Ok(())
 }
 
-fn main() {
+fn main(rt: HostRuntime) -> io::Result<()> {
     let mut input = mebibyte();
-    let mut room = io::large_buffer();
-    let n = io::read_full(0, &mut input);
-    run(&input[..n], &mut room);
+    let mut room = large_buffer();
+    let n = read_full(&mut rt.stdin(), &mut input)?;
+    run(&rt, &input[..n], &mut room)
 }
