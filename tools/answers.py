@@ -131,6 +131,7 @@ class Fn:
         self.crate, self.path, self.J, self.cl, self.said = crate, path, J, cl, said
         self.own = "::".join([crate] + path)
         self.places = J["places"]
+        self.args = {a[0].split(".")[-1]: a[1].split(".")[-1] for a in J.get("args") or [] if a[0].startswith(".args .")}
         self.index = {}
         for i, p in enumerate(self.places):
             self.index.setdefault(p[0], i)
@@ -193,6 +194,8 @@ class Fn:
             return ("place", at)
         f = fields.pop(0)
         f = "requires" if f == "pre" else f
+        if f == "args" and fields and self.args.get(fields[0]):
+            fields[0] = self.args[fields[0]]
         if f in ("args", "ranges", "lifetimes", "well_formed", "well-formed"):
             return ("text", ".".join(["c", f.replace("-", "_")] + fields), [])
         if f == "requires" and self.cycle:
@@ -792,7 +795,7 @@ def convert(crate, path, file, J, cl, said):
     helpers = [d for d in ds if d not in order and d is not spec]
     keep = []
     for h in helpers:
-        m = re.match(r"\(?(?:(" + ID + r") : )?tie\.([A-Z][\w'·-]*)((?: [\w'·-]+)*?)\)?\s+→\s*", h["type"])
+        m = re.match(r"\(?(?:(" + ID + r") : )?tie\.([A-Z][\w'·-]*)((?: [\w'·-]+)*?)(?:\)?\s+→|\)(?=\s*\())\s*", h["type"])
         if not m:
             if "tie." in h["type"] or "tie." in h["body"]:
                 raise Left("helper " + h["name"] + ": " + h["type"][:60])

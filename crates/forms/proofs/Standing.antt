@@ -51,3 +51,5 @@ module _ (s : Settings) (o : Operator) (b : NodeFacts) (rows : List Row) (aligne
   children_stand n (need ∷ needs) (count ∷ counts) (f ∷ facts) p q (k ∷ ks) (also h hs) cs e =
       more_stand k n need needs cs h.number h.need (ensure_child s o b rows (status_of s aligned k)) refl (each_of (ensure_child s o b rows) (map (status_of s aligned) ks))
       (λ ys z. children_stand (suc n) needs counts facts (omega arith) (omega arith) ks hs ys z) e
+  children_stand n [] counts facts p q (k ∷ ks) z cs e = elim z [ ]
+  children_stand n (need ∷ needs) (count ∷ counts) (f ∷ facts) p q [] z cs e = elim z [ ]

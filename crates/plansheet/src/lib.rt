@@ -1,4 +1,6 @@
 // D sheets: read with refusals 1 to 4 and 6 to 8.
+#![tactic(auto)]
+
 pub mod facts;
 pub mod line;
 pub mod lines;

@@ -1,0 +1,126 @@
+-- `plansheet::facts::read_children` meets its contract. What is read from here, with the rows held in front, is the whole run (`Turns`).
+use mathlib.Core.Path.{◌≡◌, refl, sym, ap, ◌∙◌}
+use mathlib.Core.List.{List, map}
+use Prim.Native.Nat.{ℕ, ◌+◌, ◌-◌, ◌≤◌, ◌<◌}
+use native.Mathlib.Omega.{arith}
+use borrow.Author.Tests.{eq-eqb, ne_eqb}
+use lib.ListN.{length, set, take, length-map}
+use Rattle.text.specs.Text.{line_at, after, row}
+use Rattle.text.specs.Bounds.{bound_row}
+use Rattle.linekinds.specs.KeyLines.{values}
+use Rattle.linekinds.specs.ListLines.{number_of}
+use Rattle.plansheet.specs.PlanLines.{child_shape, child_line}
+use Rattle.plansheet.specs.ReadRows.{values_from, number_rows}
+use Rattle.plansheet.proofs.Turns.{Taken, taken, head_first, head_long, head_done, head_refused, head_next, head_more}
+use Rattle.plansheet.proofs.FineLines.{fine_long, fine_rows, numbers_made, values_all}
+use Rattle.linekinds.specs.declared.line.Read.TheVariants as L
+use Rattle.plansheet.proofs.facts.read_children.Goals as goal
+
+abbrev B : List (List ℕ)
+B = map bound_row child_shape.heads
+
+-- the numbers of the turn
+pub record Room (p next s count fields : ℕ) : Type 0 where
+  pub pub on : p < next
+  pub pub within : next ≤ s
+  pub pub counted : count ≡ 7
+  pub pub held : 256 ≤ fields
+
+pub loop-n-init : goal.loop-n-init
+loop-n-init c = let z : c.args.children - 0 ≡ c.args.children = omega arith in
+    (rw z (head_first number_rows _ numbers_made child_line _ _ _ c.args.children _ c.requires.2 c.requires.3), omega arith, refl)
+
+pub child_line-r-requires : goal.child_line-r-requires
+child_line-r-requires c = omega (arith, c.requires.0, c.loop-n.invariant.2)
+
+pub shape_of-fields-in_default : goal.shape_of-fields-in_default
+shape_of-fields-in_default c = omega (arith, c.loop-n.invariant.2, c.child_line-r.auto.fields)
+
+pub shape_of-rows-in_default : goal.shape_of-rows-in_default
+shape_of-rows-in_default c = head_long number_rows _ numbers_made child_line _ _ _ _ _ _ _ _ c.loop-n.invariant.0
+
+pub returns-in_default : goal.returns-in_default
+returns-in_default c = let l = c.loop-n in let h : l.n < c.args.children = c.loop-n-test.true in
+    let g : c.args.children - l.n ≡ 0 → ⊥ = λ z. omega arith in
+    let both = head_refused number_rows _ numbers_made child_line _ _ _ _ _ _ _ _ l.invariant.0 (ne_eqb _ _ g) _
+    (ap L.Refused (c.number_of.ensures ∙ ap number_of c.in_default.is) ∙ sym c.in_default.is ∙ c.child_line-r.ensures.answer l.n)
+    l.rows (head_long number_rows _ numbers_made child_line _ _ _ _ _ _ _ _ l.invariant.0) in record { answer = both.0; left = both.1 }
+
+pub slice_bounds-child_row-end : goal.slice_bounds-child_row-end
+slice_bounds-child_row-end c =
+    let took : let l = c.loop-n in Taken child_line l.n (after c.args.s.now l.p) (line_at 70 c.args.s.now l.p) c.in-Line.count c.in-Line.next = let l = c.loop-n in taken child_line l.n (after c.args.s.now l.p) (line_at 70 c.args.s.now l.p) _ _ (sym c.in-Line.is ∙ c.child_line-r.ensures.answer l.n) in
+    let room : let l = c.loop-n in Room l.p c.in-Line.next (length c.args.s.now) c.in-Line.count (length c.child_line-r.new.fields) = let l = c.loop-n in let b = head_next number_rows _ numbers_made child_line _ _ _ _ _ _ _ _ l.invariant.0 _ _ (took) in
+    record {
+      on = b.0;
+      within = b.1;
+      counted = (took).counts ∙ fine_long B child_line refl refl l.n _ (took).fs (took).zero;
+      held = omega (arith, l.invariant.2, c.requires.0, c.child_line-r.auto.fields);
+    } in
+    omega (arith, room)
+
+pub child_row-requires : goal.child_row-requires
+child_row-requires c =
+    let took : let l = c.loop-n in Taken child_line l.n (after c.args.s.now l.p) (line_at 70 c.args.s.now l.p) c.in-Line.count c.in-Line.next = let l = c.loop-n in taken child_line l.n (after c.args.s.now l.p) (line_at 70 c.args.s.now l.p) _ _ (sym c.in-Line.is ∙ c.child_line-r.ensures.answer l.n) in
+    let rows_are : take (c.in-Line.count - 0) c.child_line-r.new.fields ≡ map row (took).fs = let l = c.loop-n in fine_rows B child_line refl refl l.n _ (took).fs (took).zero 70 c.args.s.now l.p (took).is l.fields _ c.child_line-r.ensures.stored
+    (omega (arith, l.invariant.2, c.requires.0)) _ (took).counts in
+    let room : let l = c.loop-n in Room l.p c.in-Line.next (length c.args.s.now) c.in-Line.count (length c.child_line-r.new.fields) = let l = c.loop-n in let b = head_next number_rows _ numbers_made child_line _ _ _ _ _ _ _ _ l.invariant.0 _ _ (took) in
+    record {
+      on = b.0;
+      within = b.1;
+      counted = (took).counts ∙ fine_long B child_line refl refl l.n _ (took).fs (took).zero;
+      held = omega (arith, l.invariant.2, c.requires.0, c.child_line-r.auto.fields);
+    } in
+    rw (ap length (rows_are) ∙ length-map (took).fs row) (omega (arith, room, (took).counts))
+
+pub bounds-rows-n : goal.bounds-rows-n
+bounds-rows-n c = omega (arith, c.requires.1, c.loop-n-test.true, head_long number_rows _ numbers_made child_line _ _ _ _ _ _ _ _ c.loop-n.invariant.0)
+
+pub overflow_add-n : goal.overflow_add-n
+overflow_add-n c = omega (arith, c.loop-n-test.true)
+
+pub overflow_add-l : goal.overflow_add-l
+overflow_add-l c =
+    let took : let l = c.loop-n in Taken child_line l.n (after c.args.s.now l.p) (line_at 70 c.args.s.now l.p) c.in-Line.count c.in-Line.next = let l = c.loop-n in taken child_line l.n (after c.args.s.now l.p) (line_at 70 c.args.s.now l.p) _ _ (sym c.in-Line.is ∙ c.child_line-r.ensures.answer l.n) in
+    let room : let l = c.loop-n in Room l.p c.in-Line.next (length c.args.s.now) c.in-Line.count (length c.child_line-r.new.fields) = let l = c.loop-n in let b = head_next number_rows _ numbers_made child_line _ _ _ _ _ _ _ _ l.invariant.0 _ _ (took) in
+    record {
+      on = b.0;
+      within = b.1;
+      counted = (took).counts ∙ fine_long B child_line refl refl l.n _ (took).fs (took).zero;
+      held = omega (arith, l.invariant.2, c.requires.0, c.child_line-r.auto.fields);
+    } in
+    omega (arith, room, c.loop-n.invariant.0.lines)
+
+pub loop-n-smaller : goal.loop-n-smaller
+loop-n-smaller c = omega (arith, c.loop-n-test.true)
+
+pub loop-n-preserved : goal.loop-n-preserved
+loop-n-preserved c =
+    let took : let l = c.loop-n in Taken child_line l.n (after c.args.s.now l.p) (line_at 70 c.args.s.now l.p) c.in-Line.count c.in-Line.next = let l = c.loop-n in taken child_line l.n (after c.args.s.now l.p) (line_at 70 c.args.s.now l.p) _ _ (sym c.in-Line.is ∙ c.child_line-r.ensures.answer l.n) in
+    let rows_are : take (c.in-Line.count - 0) c.child_line-r.new.fields ≡ map row (took).fs = let l = c.loop-n in fine_rows B child_line refl refl l.n _ (took).fs (took).zero 70 c.args.s.now l.p (took).is l.fields _ c.child_line-r.ensures.stored
+    (omega (arith, l.invariant.2, c.requires.0)) _ (took).counts in
+    let room : let l = c.loop-n in Room l.p c.in-Line.next (length c.args.s.now) c.in-Line.count (length c.child_line-r.new.fields) = let l = c.loop-n in let b = head_next number_rows _ numbers_made child_line _ _ _ _ _ _ _ _ l.invariant.0 _ _ (took) in
+    record {
+      on = b.0;
+      within = b.1;
+      counted = (took).counts ∙ fine_long B child_line refl refl l.n _ (took).fs (took).zero;
+      held = omega (arith, l.invariant.2, c.requires.0, c.child_line-r.auto.fields);
+    } in
+    let row_is : c.child_row.result ≡ values (took).fs = let n = (took).counts in
+    c.child_row.ensures ∙ ap (values_from 0 7) (rows_are) ∙ values_all 7 (took).fs (omega (arith, room)) in
+    let l = c.loop-n in let k = c.args.children in let g : k - l.n ≡ 0 → ⊥ = λ z. omega arith in
+    let f : k - (l.n + 1) ≡ k - l.n - 1 = omega arith in (
+      head_more number_rows _ numbers_made child_line _ _ _ _ _ _ _ _ l.invariant.0 _ _ (took) (ne_eqb _ _ g) _ (ap (set l.rows l.n) (row_is)) _ f,
+      omega arith,
+      omega (arith, l.invariant.2, c.child_line-r.auto.fields),
+    )
+
+pub shape_of-fields : goal.shape_of-fields
+shape_of-fields c = c.loop-n.invariant.2
+
+pub shape_of-rows : goal.shape_of-rows
+shape_of-rows c = head_long number_rows _ numbers_made child_line _ _ _ _ _ _ _ _ c.loop-n.invariant.0
+
+pub returns : goal.returns
+returns c = let l = c.loop-n in let h : c.args.children ≤ l.n = c.loop-n-test.false in
+    let z : c.args.children - l.n ≡ 0 = omega arith in
+    let both = head_done number_rows _ numbers_made child_line _ _ _ _ _ _ _ _ l.invariant.0 (eq-eqb _ _ z) in record { answer = both.0; left = both.1 }

@@ -1,0 +1,53 @@
+-- `plansheet::lines::read_tree_lines` meets its contract: the D line is a run of one (`Singles`), and the tree goes on where it ends (`Wholes`).
+use mathlib.Core.Path.{◌≡◌, refl, sym, ap, ◌∙◌}
+use Prim.Native.Nat.{◌-◌, ◌≤◌, ◌<◌}
+use native.Mathlib.Omega.{arith}
+use lib.ListN.{length, take}
+use lib.Seq.{sets}
+use Rattle.text.specs.Text.{line_at, after}
+use Rattle.linekinds.specs.KeyLines.{values}
+use Rattle.linekinds.specs.Reading.{row_values}
+use Rattle.linekinds.specs.ListLines.{number_of}
+use Rattle.plansheet.specs.PlanLines.{settings_shape, settings_line, plan_line}
+use Rattle.plansheet.specs.ReadRows.{run_from}
+use Rattle.plansheet.proofs.Turns.{Taken, taken}
+use Rattle.plansheet.proofs.Singles.{single_next, single_long, single_values, single_part}
+use Rattle.plansheet.proofs.Wholes.{head_back, head_on, head_is, tree_left}
+use Rattle.linekinds.specs.declared.line.Read.TheVariants as L
+use Rattle.plansheet.proofs.lines.read_tree_lines.Goals as goal
+
+pub returns-in_default : goal.returns-in_default
+returns-in_default c = let e = ap L.Refused (c.number_of.ensures ∙ ap number_of c.in_default.is) ∙ sym c.in_default.is ∙ c.settings_line-r.ensures.answer 0 in
+    let both = rw (head_back (c.args.s.now) _ e) (refl, tt) in record { answer = both.0; left = both.1 }
+
+pub slice_bounds-copy_values-end : goal.slice_bounds-copy_values-end
+slice_bounds-copy_values-end c =
+    let took : Taken settings_line 0 (after (c.args.s.now) 0) (line_at 68 (c.args.s.now) 0) c.in-Line.count c.in-Line.next = taken settings_line 0 (after (c.args.s.now) 0) (line_at 68 (c.args.s.now) 0) _ _ (sym c.in-Line.is ∙ c.settings_line-r.ensures.answer 0) in
+    let long : c.in-Line.count ≡ 9 = single_long settings_shape (c.args.s.now) 1 0 _ _ (took) in
+    omega (arith, long, c.requires.0, c.settings_line-r.auto.fields)
+
+pub copy_values-requires : goal.copy_values-requires
+copy_values-requires c =
+    let took : Taken settings_line 0 (after (c.args.s.now) 0) (line_at 68 (c.args.s.now) 0) c.in-Line.count c.in-Line.next = taken settings_line 0 (after (c.args.s.now) 0) (line_at 68 (c.args.s.now) 0) _ _ (sym c.in-Line.is ∙ c.settings_line-r.ensures.answer 0) in
+    let room : 9 ≤ length c.args.fields.now = omega (arith, c.requires.0) in
+    let part : length (take (c.in-Line.count - 0) c.settings_line-r.new.fields) ≡ 9 = single_part settings_shape (c.args.s.now) 1 0 _ _ (took) c.args.fields.now _ c.settings_line-r.ensures.stored (room) in
+    omega (arith, part, c.requires.1)
+
+pub read_plan_tree-requires : goal.read_plan_tree-requires
+read_plan_tree-requires c =
+    let took : Taken settings_line 0 (after (c.args.s.now) 0) (line_at 68 (c.args.s.now) 0) c.in-Line.count c.in-Line.next = taken settings_line 0 (after (c.args.s.now) 0) (line_at 68 (c.args.s.now) 0) _ _ (sym c.in-Line.is ∙ c.settings_line-r.ensures.answer 0) in
+    let next : (0 < c.in-Line.next) × (c.in-Line.next ≤ length (c.args.s.now)) = single_next settings_shape (c.args.s.now) 1 0 _ _ (took) in
+    (omega (arith, c.requires.0, c.settings_line-r.auto.fields), (next).1, omega (arith, next))
+
+pub returns : goal.returns
+returns c =
+    let took : Taken settings_line 0 (after (c.args.s.now) 0) (line_at 68 (c.args.s.now) 0) c.in-Line.count c.in-Line.next = taken settings_line 0 (after (c.args.s.now) 0) (line_at 68 (c.args.s.now) 0) _ _ (sym c.in-Line.is ∙ c.settings_line-r.ensures.answer 0) in
+    let room : 9 ≤ length c.args.fields.now = omega (arith, c.requires.0) in
+    let vals : row_values (take (c.in-Line.count - 0) c.settings_line-r.new.fields) ≡ values (took).fs = single_values settings_shape (c.args.s.now) 1 0 _ _ (took) c.args.fields.now _ c.settings_line-r.ensures.stored (room) in
+    let long : c.in-Line.count ≡ 9 = single_long settings_shape (c.args.s.now) 1 0 _ _ (took) in
+    let both = rw (head_on (c.args.s.now) _ _ (took)) (
+      c.read_plan_tree.ensures.answer,
+      tree_left (c.args.s.now) (run_from plan_line 1 (c.args.s.now) 2 c.in-Line.next) c.args.head.now _ c.args.rows.now c.read_plan_tree.new.rows
+          (c.copy_values.ensures ∙ ap (sets c.args.head.now 0) (vals ∙ ap values (sym (head_is (c.args.s.now) _ _ (took)))))
+          (ap length (head_is (c.args.s.now) _ _ (took)) ∙ sym (took).counts ∙ long) c.read_plan_tree.ensures.left,
+    ) in record { answer = both.0; left = both.1 }
