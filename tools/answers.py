@@ -372,6 +372,11 @@ class Fn:
             if not m:
                 break
             h = self.helpers[m.group(2)]
+            if re.match(r"\s+[=:](?=\s)", text[m.end(2):]) and not re.search(r"let $", text[:m.start(2)]):
+                # a record's label
+                out.append(self.paths(text[pos:m.end(2)], alias))
+                pos = m.end(2)
+                continue
             out.append(self.paths(text[pos:m.start(2)], alias))
             got = argument(text, m.end(2))
             if not got:
@@ -653,7 +658,7 @@ def answers(F, path, needs, ans, said):
         done = False
         if cls:
             lets, rest = split_lets(body)
-            tup = top_tuple(rest)
+            tup = under_rw(rest.strip())
             flatt = tup
             while flatt and len(flatt) < len(cls) and under_rw(flatt[-1]):
                 flatt = flatt[:-1] + under_rw(flatt[-1])
@@ -770,7 +775,7 @@ def convert(crate, path, file, J, cl, said):
                 raise Left("no declaration: " + part[0][:60])
             whole = "\n".join(part)
             if "record" in part[0]:
-                whole = re.sub(r"^(\s+)(?=[\w' ]+ :)", r"\1pub ", whole, flags=re.M)
+                whole = re.sub(r"^(\s+)(?=\S)(?!pub )(?=[\w' ]+ :)", r"\1pub ", whole, flags=re.M)
             d = dict(name=m.group(1), mods="", type="", args=None, body="", unf=[], many=False, whole=whole if not re.match("record|data", whole) else "pub " + whole)
             if "module" in part[0] and "tie." in whole:
                 raise Left("helpers in a module")

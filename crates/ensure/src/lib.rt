@@ -1,4 +1,6 @@
 // ensure_distribution, put together from its steps.
+#![tactic(auto)]
+
 pub mod distribution;
 pub mod finished;
 pub mod interleave;

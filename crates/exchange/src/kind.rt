@@ -1,6 +1,6 @@
 // The kinds of operators, by document 01's numbers.
 ghost use Rattle.std.specs.Prelude.{◌≡◌};
-ghost use Rattle.exchange.specs.ReplaceRows.{exchanges as exchangeKind};
+ghost use Rattle.exchange.specs.ReplaceRows.{exchanges as exchange_kind};
 
 pub const OTHER: u64 = 0;
 
@@ -34,7 +34,7 @@ pub const INTERLEAVE: u64 = 14;
 
 // Whether the operator is an exchange, on the sheet or new.
 pub fn exchanges(kind: u64) -> bool
-    ensures { result ≡ exchangeKind kind }
+    ensures { result ≡ exchange_kind kind }
 {
     if kind == REPARTITION {
         return true;

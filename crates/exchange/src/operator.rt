@@ -1,9 +1,9 @@
 // New operators, each from the operator that it stands on.
 ghost use Rattle.std.specs.Prelude.{◌≡◌, cond, ◌&&◌, ltb};
-ghost use Rattle.exchange.specs.Ensure.{interleaved as interleavedOf};
+ghost use Rattle.exchange.specs.Ensure.{interleaved as interleaved_of};
 ghost use Rattle.exchange.specs.FactRows.{fact_row};
 ghost use Rattle.exchange.specs.NewRows.{new_of, LimitFor};
-ghost use Rattle.exchange.specs.Operators.{has_order, mark as mark_of, track as trackTo, new_operator, new_merge, new_exchange, required_sort};
+ghost use Rattle.exchange.specs.Operators.{has_order, mark as mark_of, track as track_to, new_operator, new_merge, new_exchange, required_sort};
 ghost use Rattle.exchange.specs.Rows.{node_of, operator_of};
 ghost use Rattle.exchange.specs.Step.{split_operator};
 
@@ -150,7 +150,7 @@ pub fn split_operator(x: FactRow, n: Node) -> Node
 // The operator with another mark.
 pub fn track(m: u64, n: Node) -> Node
     requires { node_of (operator_of n) ≡ n }
-    ensures { result ≡ node_of (trackTo m (operator_of n)) }
+    ensures { result ≡ node_of (track_to m (operator_of n)) }
 {
     Node {
         id: n.id,
@@ -169,7 +169,7 @@ pub fn track(m: u64, n: Node) -> Node
 // A union dealt in turn: its order is lost.
 pub fn interleaved(n: Node) -> Node
     requires { node_of (operator_of n) ≡ n }
-    ensures { result ≡ node_of (interleavedOf (operator_of n)) }
+    ensures { result ≡ node_of (interleaved_of (operator_of n)) }
 {
     Node {
         id: n.id,

@@ -2,7 +2,7 @@
 ghost use Rattle.std.specs.Prelude.{◌≡◌, not, ◌&&◌, ◌||◌, ◌≤◌};
 ghost use Rattle.exchange.specs.Settings.{is_set};
 ghost use Rattle.exchange.specs.Order.{kept_entries};
-ghost use Rattle.exchange.specs.Handling.{enables_streaming, required_replaced, sorted_entries, free_replaced, streams as streamsBy, required_handling, free_handling, handling_of};
+ghost use Rattle.exchange.specs.Handling.{enables_streaming, required_replaced, sorted_entries, free_replaced, streams as streams_by, required_handling, free_handling, handling_of};
 
 // Whether order-preserving operators give way, the entries of the sort above (0: none), and whether the child's mark is cleared.
 #[derive(Clone, Copy)]
@@ -126,7 +126,7 @@ pub struct Known {
 
 // A tracked child that its order lets the worked node stream over.
 fn streams(k: Known) -> bool
-    ensures { result ≡ streamsBy k }
+    ensures { result ≡ streams_by k }
 {
     if k.tracked != 1 {
         return false;

@@ -3,7 +3,7 @@ ghost use Rattle.std.specs.Prelude.{◌≡◌, ◌+◌, ◌≤◌, length};
 ghost use Rattle.std.proofs.lemmas.List.Edits.{sets};
 ghost use Rattle.exchange.specs.Rows.{node_of, operator_of};
 ghost use Rattle.exchange.specs.Runs.{Ready, Readys, Maps, MapsAll};
-ghost use Rattle.exchange.specs.Replace.{coalesced as coalescedOf, replace_order_preserving_variants, replace_tracked};
+ghost use Rattle.exchange.specs.Replace.{coalesced as coalesced_of, replace_order_preserving_variants, replace_tracked};
 ghost use Rattle.exchange.specs.ReplaceRows.{merge_sort, relaxed_or, heads};
 
 use crate::kind;
@@ -12,7 +12,7 @@ use crate::row::{self, Node, Row, Step};
 
 // A merge that keeps neither the order nor the limit.
 pub fn coalesced(n: Node) -> Node
-    ensures { result ≡ node_of (coalescedOf (operator_of n)) }
+    ensures { result ≡ node_of (coalesced_of (operator_of n)) }
 {
     Node {
         id: n.id,

@@ -13,7 +13,7 @@ use Rattle.linekinds.specs.Lines.{line_number, rows_of, chain}
 use Rattle.sheet.specs.KeySheets.{sheet}
 use Rattle.sheet.specs.KeyAnswers.{wrote}
 use Rattle.exchange.specs.Trees.{node, none, ◌∷ᶠ◌}
-use Rattle.exchange.specs.Rows.{row_of as packedRow, flatten, grow}
+use Rattle.exchange.specs.Rows.{row_of as packed_row, flatten, grow}
 use Rattle.exchange.specs.Fit.{within_bits, all_within_bits, is_repeated, none_repeated, child_numbered, rows_fit, facts_fit}
 use Rattle.exchange.specs.Children.{remove_dist_changing_operators}
 use Rattle.exchange.specs.States.{children_from}
@@ -45,7 +45,7 @@ abbrev given : Answer
 given = answer_with (node (told 1 5 1 0 absent 0 0 0 0) (leaf (told 2 0 1 0 absent 0 0 0 0) ∷ᶠ leaf (told 3 0 1 0 absent 0 0 0 0) ∷ᶠ none))
 
 join_read : read_plan join_sheet ≡ sheet asked
-unfolding onto parts run field fields line_fields first_of fits allows_all line_number rows_of chain packedRow flatten grow within_bits all_within_bits is_repeated none_repeated child_numbered rows_fit facts_fit remove_dist_changing_operators children_from over_any two_to operator_rows plan_of child_count read_masks read_children read_facts read_plan
+unfolding onto parts run field fields line_fields first_of fits allows_all line_number rows_of chain packed_row flatten grow within_bits all_within_bits is_repeated none_repeated child_numbered rows_fit facts_fit remove_dist_changing_operators children_from over_any two_to operator_rows plan_of child_count read_masks read_children read_facts read_plan
 join_read = refl
 
 copied_writes : trees_copied join_sheet ≡ wrote (plan_answer_text given)

@@ -14,7 +14,7 @@ use Rattle.keys.proofs.Truths.{true_false}
 use Rattle.linekinds.specs.Lines.{line_number, rows_of, chain}
 use Rattle.sheet.specs.KeySheets.{sheet}
 use Rattle.exchange.specs.Trees.{Operator, Plan}
-use Rattle.exchange.specs.Rows.{row_of as packedRow, flatten, grow}
+use Rattle.exchange.specs.Rows.{row_of as packed_row, flatten, grow}
 use Rattle.exchange.specs.Fit.{within_bits, all_within_bits, is_repeated, none_repeated, child_numbered, rows_fit, facts_fit}
 use Rattle.exchange.specs.Operators.{above}
 use Rattle.exchange.specs.Children.{remove_dist_changing_operators}
@@ -56,7 +56,7 @@ abbrev given : Answer
 given = answer_with tree
 
 limited_read : read_plan limited_sheet ≡ sheet asked
-unfolding onto parts run field fields line_fields first_of fits allows_all line_number rows_of chain packedRow flatten grow within_bits all_within_bits is_repeated none_repeated child_numbered rows_fit facts_fit remove_dist_changing_operators children_from over_any two_to operator_rows plan_of child_count read_masks read_children read_facts read_plan
+unfolding onto parts run field fields line_fields first_of fits allows_all line_number rows_of chain packed_row flatten grow within_bits all_within_bits is_repeated none_repeated child_numbered rows_fit facts_fit remove_dist_changing_operators children_from over_any two_to operator_rows plan_of child_count read_masks read_children read_facts read_plan
 limited_read = refl
 
 elsewhere_text : elsewhere ≡ plan_answer_text given

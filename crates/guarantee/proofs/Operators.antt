@@ -14,7 +14,7 @@ use Rattle.exchange.specs.Skeleton.{below}
 use Rattle.exchange.specs.Partitioning.{worked_of}
 use Rattle.exchange.proofs.OperatorsKept.{operators_kept}
 use Rattle.plansheet.specs.PlanSheets.{PlanSheet}
-use Rattle.guarantee.specs.Operators.{worked as workedNode, SameKind, OperatorsKept}
+use Rattle.guarantee.specs.Operators.{worked as worked_node, SameKind, OperatorsKept}
 use Rattle.exchange.proofs.Remarked.{Remarked, remarked}
 use Rattle.guarantee.proofs.PlanAnswered.{Answered, only, over}
 
@@ -37,15 +37,15 @@ leaf_root (node o none) l = go (is_removed o)
     go false = refl
 leaf_root (node o (t ∷ᶠ ts)) l = let z : ◌≡◌ {A = ℕ} 0 1 = cc in absurd (omega arith)
 
-same_root : (x : PlanSheet) (r : Answer) → Answered x r → SameRoot (root (workedNode x)) (root r.plan)
+same_root : (x : PlanSheet) (r : Answer) → Answered x r → SameRoot (root (worked_node x)) (root r.plan)
 unfolding finished
 same_root x r (only l h) = rw (h, leaf_root x.plan l) (record { id = refl; kind = inl refl })
 same_root x r (over l w) =
-    let k : Remarked (workedNode x) (worked_of x.plan) = remarked x.plan in
+    let k : Remarked (worked_node x) (worked_of x.plan) = remarked x.plan in
     rw (w.is, k.rooted)
-    (same_union (root (workedNode x)) k.mark (becomes_interleave x.settings (track k.mark (root (workedNode x))) w.states) (and_first (is_union (root (workedNode x))) _))
+    (same_union (root (worked_node x)) k.mark (becomes_interleave x.settings (track k.mark (root (worked_node x))) w.states) (and_first (is_union (root (worked_node x))) _))
 
-pub plan_operators_kept : (x : PlanSheet) (r : Answer) → ensured x.settings x.facts x.plan ≡ answered r → Answered x r → OperatorsKept (workedNode x) r.plan
+pub plan_operators_kept : (x : PlanSheet) (r : Answer) → ensured x.settings x.facts x.plan ≡ answered r → Answered x r → OperatorsKept (worked_node x) r.plan
 plan_operators_kept x r e a =
-    let s : SameRoot (root (workedNode x)) (root r.plan) = same_root x r a in
+    let s : SameRoot (root (worked_node x)) (root r.plan) = same_root x r a in
     record { id = s.id; kind = s.kind; under = operators_kept x.settings x.facts x.plan r e }

@@ -13,7 +13,7 @@ use Rattle.keys.proofs.Truths.{true_false}
 use Rattle.linekinds.specs.Lines.{line_number, rows_of, chain}
 use Rattle.sheet.specs.KeySheets.{sheet}
 use Rattle.sheet.specs.KeyAnswers.{wrote}
-use Rattle.exchange.specs.Rows.{row_of as packedRow, flatten, grow}
+use Rattle.exchange.specs.Rows.{row_of as packed_row, flatten, grow}
 use Rattle.exchange.specs.Fit.{within_bits, all_within_bits, is_repeated, none_repeated, child_numbered, rows_fit, facts_fit}
 use Rattle.exchange.specs.Facts.{row_of}
 use Rattle.exchange.specs.Operators.{above}
@@ -49,7 +49,7 @@ abbrev pub unmet_answer : List ℕ
 unmet_answer = bytes "d,1,0,0,0\nt,1,0,1,0,,0,0,0,1\nt,2,0,4,0,,0,0,1,0\n"
 
 pub unmet_decided : decision unmet_sheet ≡ wrote unmet_answer
-unfolding onto parts run field fields line_fields first_of fits allows_all digits decimal field_text fields_text line_text line_number rows_of chain decision packedRow flatten grow within_bits all_within_bits is_repeated none_repeated child_numbered rows_fit facts_fit remove_dist_changing_operators children_from over_any two_to operator_rows plan_of child_count read_masks read_children read_facts read_plan row_of any_unspecified update_each each_of needs_alignment ensure_child given_set rounds replace_order_preserving_variants handle_order child_states handled finished ensured plan_lines plan_answer_text plan_decision
+unfolding onto parts run field fields line_fields first_of fits allows_all digits decimal field_text fields_text line_text line_number rows_of chain decision packed_row flatten grow within_bits all_within_bits is_repeated none_repeated child_numbered rows_fit facts_fit remove_dist_changing_operators children_from over_any two_to operator_rows plan_of child_count read_masks read_children read_facts read_plan row_of any_unspecified update_each each_of needs_alignment ensure_child given_set rounds replace_order_preserving_variants handle_order child_states handled finished ensured plan_lines plan_answer_text plan_decision
 unmet_decided = refl
 
 -- ---- the sheet as it is read, and the answer whose text was written
@@ -61,7 +61,7 @@ abbrev given : Answer
 given = answer_with (above (told 1 0 1 0 absent 0 0 0 0) (leaf (told 2 0 4 0 absent 0 0 1 0)))
 
 unmet_read : read_plan unmet_sheet ≡ sheet asked
-unfolding onto parts run field fields line_fields first_of fits allows_all line_number rows_of chain packedRow flatten grow within_bits all_within_bits is_repeated none_repeated child_numbered rows_fit facts_fit remove_dist_changing_operators children_from over_any two_to operator_rows plan_of child_count read_masks read_children read_facts read_plan
+unfolding onto parts run field fields line_fields first_of fits allows_all line_number rows_of chain packed_row flatten grow within_bits all_within_bits is_repeated none_repeated child_numbered rows_fit facts_fit remove_dist_changing_operators children_from over_any two_to operator_rows plan_of child_count read_masks read_children read_facts read_plan
 unmet_read = refl
 
 unmet_text : unmet_answer ≡ plan_answer_text given

@@ -13,7 +13,7 @@ use Rattle.linekinds.specs.Lines.{line_number, rows_of, chain}
 use Rattle.linekinds.specs.KeyLines.{undefined_exprs, over}
 use Rattle.sheet.specs.KeySheets.{exprs, rules_of, key_lists_fit, read_key_sheet}
 use Rattle.sheet.specs.KeyAnswers.{wrote, key_answer_text, adjust_decision}
-use Rattle.exchange.specs.Rows.{row_of as packedRow, flatten, grow}
+use Rattle.exchange.specs.Rows.{row_of as packed_row, flatten, grow}
 use Rattle.exchange.specs.Fit.{within_bits, all_within_bits, is_repeated, none_repeated, child_numbered, rows_fit, facts_fit}
 use Rattle.exchange.specs.Facts.{row_of}
 use Rattle.exchange.specs.Children.{any_unspecified, update_each, remove_dist_changing_operators}
@@ -95,5 +95,5 @@ table =
     ∷ []
 
 pub marked : map (λ (r : Row). decision (bytes r.sheet)) table ≡ map (λ (r : Row). wrote (bytes r.answer)) table
-unfolding until onto parts run field fields line line_fields first_of fits allows_all digits decimal field_text fields_text line_text try_reorder adjust_input_keys_ordering line_number rows_of chain undefined_exprs over exprs rules_of key_lists_fit read_key_sheet key_answer_text adjust_decision decision packedRow flatten grow within_bits all_within_bits is_repeated none_repeated child_numbered rows_fit facts_fit remove_dist_changing_operators children_from over_any two_to operator_rows plan_of child_count read_masks read_children read_facts read_plan row_of any_unspecified update_each each_of needs_alignment ensure_child given_set any_givable round rounds replace_order_preserving_variants kept_entries handle_order all_layouts child_states handled finished ensured plan_lines plan_answer_text plan_decision
+unfolding until onto parts run field fields line line_fields first_of fits allows_all digits decimal field_text fields_text line_text try_reorder adjust_input_keys_ordering line_number rows_of chain undefined_exprs over exprs rules_of key_lists_fit read_key_sheet key_answer_text adjust_decision decision packed_row flatten grow within_bits all_within_bits is_repeated none_repeated child_numbered rows_fit facts_fit remove_dist_changing_operators children_from over_any two_to operator_rows plan_of child_count read_masks read_children read_facts read_plan row_of any_unspecified update_each each_of needs_alignment ensure_child given_set any_givable round rounds replace_order_preserving_variants kept_entries handle_order all_layouts child_states handled finished ensured plan_lines plan_answer_text plan_decision
 marked = refl

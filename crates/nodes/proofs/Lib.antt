@@ -1,3 +1,1 @@
-mod Changes
-mod Numbers
 mod Settled

@@ -1,4 +1,6 @@
 // Tree lines as a lent run of nodes, changed node by node. An index past the end is tested here: nothing is required of a caller.
+#![tactic(auto)]
+
 pub mod value;
 
 ghost use Rattle.std.specs.Prelude.{◌≡◌};

@@ -1,10 +1,10 @@
 // What is done to one node's value, by the functions of `exchange`.
 ghost use Rattle.std.specs.Prelude.{◌≡◌};
 ghost use Rattle.exchange.specs.Ensure.{interleaved};
-ghost use Rattle.exchange.specs.Operators.{track as trackTo};
+ghost use Rattle.exchange.specs.Operators.{track as track_to};
 ghost use Rattle.exchange.specs.ReplaceRows.{merge_sort, relaxed_or};
 ghost use Rattle.exchange.specs.Step.{split_operator};
-ghost use Rattle.nodes.specs.Nodes.{zero as zeroNode, settled, changed, new_mark, split_row};
+ghost use Rattle.nodes.specs.Nodes.{zero as zero_node, settled, changed, new_mark, split_row};
 
 use exchange::fact::FactRow;
 use exchange::row::Node;
@@ -14,7 +14,7 @@ use exchange::{operator, replace};
 const NEW_MARK: u64 = 1;
 
 pub fn zero() -> Node
-    ensures { result ≡ zeroNode }
+    ensures { result ≡ zero_node }
 {
     Node {
         id: 0,
@@ -63,13 +63,13 @@ fn settle(n: Node) -> Node
 }
 
 pub fn track(n: Node, m: u64) -> Node
-    ensures { result ≡ changed (trackTo m) n }
+    ensures { result ≡ changed (track_to m) n }
 {
     operator::track(m, settle(n))
 }
 
 pub fn track_new(n: Node) -> Node
-    ensures { result ≡ changed (trackTo new_mark) n }
+    ensures { result ≡ changed (track_to new_mark) n }
 {
     operator::track(NEW_MARK, settle(n))
 }

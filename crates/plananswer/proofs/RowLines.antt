@@ -15,7 +15,7 @@ use Rattle.text.proofs.Lengths.{line_length}
 use Rattle.exchange.specs.Trees.{node, none, ◌∷ᶠ◌, trees, Operator, Plan, Plans}
 use Rattle.exchange.specs.Rows.{limit_mark, limit_number, limit_of, row_of, flatten, flattens}
 use Rattle.exchange.specs.Ensure.{Answer}
-use Rattle.plansheet.specs.PlanTexts.{limit_field as markedLimit}
+use Rattle.plansheet.specs.PlanTexts.{limit_field as marked_limit}
 use Rattle.lines.proofs.Pieces.{joined, pieces, pieces_later}
 use Rattle.plananswer.specs.PlanTexts.{limit_field, operator_fields, operator_line, plan_lines, plans_lines, plan_answer_text}
 use Rattle.plananswer.specs.RowTexts.{of_row, lines_of, row_line, head_line, rows_text}
@@ -51,7 +51,7 @@ module _ (line : Operator → ℕ → List ℕ) where
         ∙ ap (λ (x : List ℕ). plan_lines line t ++ x) (plans_lines_lem ts)
 
 -- a limit's field by its mark
-pub limit_same : (m l : ℕ) → limit_field (limit_of m l) ≡ markedLimit m l
+pub limit_same : (m l : ℕ) → limit_field (limit_of m l) ≡ marked_limit m l
 limit_same m l = go (eqb m 0)
   where
     go : (b : Bool) → limit_field (cond b absent (some l)) ≡ cond b empty (number l)

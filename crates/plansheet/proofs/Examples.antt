@@ -11,7 +11,7 @@ use Rattle.text.specs.Lines.{first_of}
 use Rattle.text.specs.Bounds.{fits, allows_all}
 use Rattle.text.proofs.Examples.{bytes}
 use Rattle.text.specs.Write.{digits, decimal, field_text, fields_text, line_text}
-use Rattle.exchange.specs.Rows.{row_of as packedRow, flatten, grow}
+use Rattle.exchange.specs.Rows.{row_of as packed_row, flatten, grow}
 use Rattle.exchange.specs.Fit.{within_bits, all_within_bits, is_repeated, none_repeated, child_numbered, rows_fit, facts_fit}
 use Rattle.exchange.specs.Children.{remove_dist_changing_operators}
 use Rattle.exchange.specs.States.{children_from}
@@ -122,5 +122,5 @@ sheets =
     ∷ []
 
 pub read_again : map (λ (r : Example). told (read_plan (bytes r.sheet))) sheets ≡ map expected sheets
-unfolding until onto parts run field fields line line_fields first_of fits allows_all digits decimal field_text fields_text line_text packedRow flatten grow within_bits all_within_bits is_repeated none_repeated child_numbered rows_fit facts_fit remove_dist_changing_operators children_from line_number rows_of over_any two_to operator_rows plan_of child_count read_masks read_children read_facts read_plan lines_text facts_text plan_text
+unfolding until onto parts run field fields line line_fields first_of fits allows_all digits decimal field_text fields_text line_text packed_row flatten grow within_bits all_within_bits is_repeated none_repeated child_numbered rows_fit facts_fit remove_dist_changing_operators children_from line_number rows_of over_any two_to operator_rows plan_of child_count read_masks read_children read_facts read_plan lines_text facts_text plan_text
 read_again = refl

@@ -49,14 +49,14 @@ module _ (n next : ℕ) (x : Option (List Field)) where
   pub row_refused : (m : ℕ) → L.Refused m ≡ read_by n next x → T.Refused m ≡ tree_row_by n next x
   row_refused m e = row_refused_lem (eqb n 0) m e
 
-  line_read_lem :
+  line_read_by :
       (t : Bool) (children after : ℕ) → T.Row children after ≡ cond t (T.Row (children_at (fields_of x)) next) (T.Refused n) →
       (L.Line (length (fields_of x)) after ≡ cond t (L.Line (length (fields_of x)) next) (L.Refused n)) × (children ≡ children_at (fields_of x))
-  line_read_lem true children after e = (cc, cc)
-  line_read_lem false children after e = let z : ◌≡◌ {A = ℕ} 0 1 = cc in absurd (omega arith)
+  line_read_by true children after e = (cc, cc)
+  line_read_by false children after e = let z : ◌≡◌ {A = ℕ} 0 1 = cc in absurd (omega arith)
 
   pub line_again : (children after : ℕ) → T.Row children after ≡ tree_row_by n next x → (L.Line (length (fields_of x)) after ≡ read_by n next x) × (children ≡ children_at (fields_of x))
-  line_again children after e = line_read_lem (eqb n 0) children after e
+  line_again children after e = line_read_by (eqb n 0) children after e
 
   line_refused_lem :
       (t : Bool) (m : ℕ) → T.Refused m ≡ cond t (T.Row (children_at (fields_of x)) next) (T.Refused n) →

@@ -21,10 +21,10 @@ B = map bound_row child_shape.heads
 
 -- the numbers of the turn
 pub record Room (p next s count fields : ℕ) : Type 0 where
-  pub pub on : p < next
-  pub pub within : next ≤ s
-  pub pub counted : count ≡ 7
-  pub pub held : 256 ≤ fields
+  pub on : p < next
+  pub within : next ≤ s
+  pub counted : count ≡ 7
+  pub held : 256 ≤ fields
 
 pub loop-n-init : goal.loop-n-init
 loop-n-init c = let z : c.args.children - 0 ≡ c.args.children = omega arith in

@@ -16,9 +16,13 @@ use Rattle.plansheet.proofs.Wholes.{head_back, head_on, head_is, tree_left}
 use Rattle.linekinds.specs.declared.line.Read.TheVariants as L
 use Rattle.plansheet.proofs.lines.read_tree_lines.Goals as goal
 
-pub returns-in_default : goal.returns-in_default
-returns-in_default c = let e = ap L.Refused (c.number_of.ensures ∙ ap number_of c.in_default.is) ∙ sym c.in_default.is ∙ c.settings_line-r.ensures.answer 0 in
-    let both = rw (head_back (c.args.s.now) _ e) (refl, tt) in record { answer = both.0; left = both.1 }
+pub returns-in_default-clause-answer : goal.returns-in_default-clause-answer
+returns-in_default-clause-answer c = let e = ap L.Refused (c.number_of.ensures ∙ ap number_of c.in_default.is) ∙ sym c.in_default.is ∙ c.settings_line-r.ensures.answer 0 in
+    rw (head_back (c.args.s.now) _ e) refl
+
+pub returns-in_default-clause-left : goal.returns-in_default-clause-left
+returns-in_default-clause-left c = let e = ap L.Refused (c.number_of.ensures ∙ ap number_of c.in_default.is) ∙ sym c.in_default.is ∙ c.settings_line-r.ensures.answer 0 in
+    rw (head_back (c.args.s.now) _ e) tt
 
 pub slice_bounds-copy_values-end : goal.slice_bounds-copy_values-end
 slice_bounds-copy_values-end c =
@@ -39,15 +43,17 @@ read_plan_tree-requires c =
     let next : (0 < c.in-Line.next) × (c.in-Line.next ≤ length (c.args.s.now)) = single_next settings_shape (c.args.s.now) 1 0 _ _ (took) in
     (omega (arith, c.requires.0, c.settings_line-r.auto.fields), (next).1, omega (arith, next))
 
-pub returns : goal.returns
-returns c =
+pub returns-clause-answer : goal.returns-clause-answer
+returns-clause-answer c =
+    let took : Taken settings_line 0 (after (c.args.s.now) 0) (line_at 68 (c.args.s.now) 0) c.in-Line.count c.in-Line.next = taken settings_line 0 (after (c.args.s.now) 0) (line_at 68 (c.args.s.now) 0) _ _ (sym c.in-Line.is ∙ c.settings_line-r.ensures.answer 0) in
+    rw (head_on (c.args.s.now) _ _ (took)) c.read_plan_tree.ensures.answer
+
+pub returns-clause-left : goal.returns-clause-left
+returns-clause-left c =
     let took : Taken settings_line 0 (after (c.args.s.now) 0) (line_at 68 (c.args.s.now) 0) c.in-Line.count c.in-Line.next = taken settings_line 0 (after (c.args.s.now) 0) (line_at 68 (c.args.s.now) 0) _ _ (sym c.in-Line.is ∙ c.settings_line-r.ensures.answer 0) in
     let room : 9 ≤ length c.args.fields.now = omega (arith, c.requires.0) in
     let vals : row_values (take (c.in-Line.count - 0) c.settings_line-r.new.fields) ≡ values (took).fs = single_values settings_shape (c.args.s.now) 1 0 _ _ (took) c.args.fields.now _ c.settings_line-r.ensures.stored (room) in
     let long : c.in-Line.count ≡ 9 = single_long settings_shape (c.args.s.now) 1 0 _ _ (took) in
-    let both = rw (head_on (c.args.s.now) _ _ (took)) (
-      c.read_plan_tree.ensures.answer,
-      tree_left (c.args.s.now) (run_from plan_line 1 (c.args.s.now) 2 c.in-Line.next) c.args.head.now _ c.args.rows.now c.read_plan_tree.new.rows
+    rw (head_on (c.args.s.now) _ _ (took)) (tree_left (c.args.s.now) (run_from plan_line 1 (c.args.s.now) 2 c.in-Line.next) c.args.head.now _ c.args.rows.now c.read_plan_tree.new.rows
           (c.copy_values.ensures ∙ ap (sets c.args.head.now 0) (vals ∙ ap values (sym (head_is (c.args.s.now) _ _ (took)))))
-          (ap length (head_is (c.args.s.now) _ _ (took)) ∙ sym (took).counts ∙ long) c.read_plan_tree.ensures.left,
-    ) in record { answer = both.0; left = both.1 }
+          (ap length (head_is (c.args.s.now) _ _ (took)) ∙ sym (took).counts ∙ long) c.read_plan_tree.ensures.left)

@@ -1,7 +1,7 @@
 -- `plansheet::plan::read_after_tree` meets its contract: the worked node's children say how many F lines and masks there are (`PlanFitted`, `PlanWhole`).
 use mathlib.Core.Path.{◌≡◌, sym, ap, ◌∙◌}
 use mathlib.Core.List.{List, ◌++◌}
-use Prim.Native.Nat.{ℕ, ◌+◌, ◌≤◌}
+use Prim.Native.Nat.{ℕ, ◌+◌, ◌*◌, ◌≤◌}
 use native.Mathlib.Omega.{arith}
 use lib.ListN.{length, drop}
 use Rattle.text.specs.Text.{parts}
@@ -12,7 +12,7 @@ use Rattle.sheet.specs.KeySheets.{Reading, sheet}
 use Rattle.plansheet.specs.PlanSheets.{FactLines, settings_of, child_count, read_facts, with_facts}
 use Rattle.plansheet.specs.PlanRooms.{PlanRooms, plan_by, facts_refused}
 use Rattle.plansheet.proofs.PlanFitted.{WorkedRooms, worked_rooms}
-use Rattle.plansheet.proofs.RunBytes.{fact_room}
+use Rattle.plansheet.proofs.RunBytes.{facts_few, fact_room}
 use Rattle.plansheet.proofs.PlanWhole.{FactsRead, facts_read, facts_turned, rooms_filled, plan_held, judged_is, after_turned}
 use Rattle.plansheet.proofs.plan.read_after_tree.Goals as goal
 
@@ -50,15 +50,27 @@ returns-in_default-clause-held c =
     let a = c.args in let e = facts_turned ((let a = c.args in read_facts c.children_at-children.result a.line a.at (parts 10 (drop a.at a.s.now)))) _ _ (sym c.in_default.is ∙ c.read_fact_lines-f.ensures.answer) in
     (λ t rest x h l f. absurd (after_turned ((settings_of c.args.head.now)) t _ _ _ x (ap (λ (k : ℕ). read_facts k a.line a.at (parts 10 (drop a.at a.s.now))) (sym (many t rest h)) ∙ e) f))
 
--- LEFT judge-plan-requires : tie.Need-judge-plan-requires
--- judge-plan-requires c κs =
---     let s = c.before.before.before.before.before.before.before.before.before.before.before.before.before.before.before.before.before.before.before.before.before.before.before.before.before.before.before in
---     let d = c.before.before.before.before in
---     let t = s.requires.1 in
---     let k = c.before.before.before.before.before.before.before.before.before.before.before.before.before.before.read-fact-lines.auto in (
---       (s.requires.0.1, omega (arith, s.requires.0.3, k.1.1.1.1.1.1.0), (λ z. let q = fact_room (length s.args.s.now) (length s.args.xs.now) _ s.requires.0.4 (bytes d) (omega (arith, k.1.1.1.1.1.1.1.0)) in omega (arith, k.1.1.1.1.1.1.1.0)), omega (arith, s.requires.0.5, k.1.1.1.1.1.1.1.1.0), s.requires.0.6),
---       record { plan = t.tree; lines = (lines d).lines; rooms = rooms d t.tree t.rest t.stands },
---     )
+pub judge_plan-requires-clause-in_bounds : goal.judge_plan-requires-clause-in_bounds
+judge_plan-requires-clause-in_bounds c =
+    let lines : FactsRead ((let a = c.args in read_facts c.children_at-children.result a.line a.at (parts 10 (drop a.at a.s.now)))) c.in-Read.n = facts_read ((let a = c.args in read_facts c.children_at-children.result a.line a.at (parts 10 (drop a.at a.s.now)))) _ (sym c.in-Read.is ∙ c.read_fact_lines-f.ensures.answer) in
+    let bytes : 28 * c.in-Read.n ≤ length c.args.s.now + 1 = let a = c.args in let g = lines in
+    omega (arith, g.counted, facts_few _ g.lines a.line a.at a.s.now g.is) in
+    (c.requires.in_bounds.1, omega (arith, c.requires.in_bounds.3, c.read_fact_lines-f.auto.facts), (λ z. let q = fact_room (length c.args.s.now) (length c.args.xs.now) _ c.requires.in_bounds.4 (bytes) (omega (arith, c.read_fact_lines-f.auto.xs)) in omega (arith, c.read_fact_lines-f.auto.xs)), omega (arith, c.requires.in_bounds.5, c.read_fact_lines-f.auto.masks), c.requires.in_bounds.6)
+
+pub judge_plan-requires-clause-filled : goal.judge_plan-requires-clause-filled
+judge_plan-requires-clause-filled c =
+    let lines : FactsRead ((let a = c.args in read_facts c.children_at-children.result a.line a.at (parts 10 (drop a.at a.s.now)))) c.in-Read.n = facts_read ((let a = c.args in read_facts c.children_at-children.result a.line a.at (parts 10 (drop a.at a.s.now)))) _ (sym c.in-Read.is ∙ c.read_fact_lines-f.ensures.answer) in
+    let worked : (t : Plan) (rest : List (List ℕ)) → c.args.rows.now ≡ flatten t ++ rest →
+    (c.remove_dist_changing_operators-worked.result ≡ length (removed t)) × WorkedRooms t c.args.rows.now c.remove_dist_changing_operators-worked.result = λ t rest e. let q : c.remove_dist_changing_operators-worked.result ≡ length (removed t) = omega (arith, c.remove_dist_changing_operators-worked.ensures t rest e) in
+    (q, worked_rooms t c.args.rows.now rest c.remove_dist_changing_operators-worked.result e q) in
+    let many : (t : Plan) (rest : List (List ℕ)) → c.args.rows.now ≡ flatten t ++ rest → c.children_at-children.result ≡ child_count t = λ t rest e. c.children_at-children.ensures ∙ (worked t rest e).1.children in
+    let few : c.children_at-children.result ≤ 8 = let t = c.requires.tree_stands in omega (arith, many t.tree t.rest t.stands, t.few) in
+    let rooms : (t : Plan) (rest : List (List ℕ)) → c.args.rows.now ≡ flatten t ++ rest →
+    PlanRooms t (lines).lines c.args.rows.now c.read_fact_lines-f.new.facts c.read_fact_lines-f.new.xs c.read_fact_lines-f.new.masks c.remove_dist_changing_operators-worked.result c.children_at-children.result c.in-Read.n = λ t rest e. let g = lines in
+    rooms_filled t g.lines c.args.rows.now rest c.remove_dist_changing_operators-worked.result c.children_at-children.result _ c.args.node.now _ c.args.facts.now _ c.args.xs.now _ c.args.masks.now _
+    e (worked t rest e).0 (many t rest e) (few) g.counted c.requires.in_bounds.3 c.requires.in_bounds.5 (c.read_fact_lines-f.ensures.held g.lines g.is) in
+    let t = c.requires.tree_stands in record { plan = t.tree; lines = (lines).lines; rooms = rooms t.tree t.rest t.stands }
+
 pub returns-clause-answer : goal.returns-clause-answer
 returns-clause-answer c =
     let lines : FactsRead ((let a = c.args in read_facts c.children_at-children.result a.line a.at (parts 10 (drop a.at a.s.now)))) c.in-Read.n = facts_read ((let a = c.args in read_facts c.children_at-children.result a.line a.at (parts 10 (drop a.at a.s.now)))) _ (sym c.in-Read.is ∙ c.read_fact_lines-f.ensures.answer) in

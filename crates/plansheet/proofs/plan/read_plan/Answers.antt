@@ -12,14 +12,18 @@ returns-in_default-clause-answer c = let e = tree_turned c.args.s.now _ _ (sym c
 pub returns-in_default-clause-held : goal.returns-in_default-clause-held
 returns-in_default-clause-held c = let e = tree_turned c.args.s.now _ _ (sym c.in_default.is ∙ c.read_tree_lines-t.ensures.answer) in (λ x f. absurd (turned_not _ _ x (sym (plan_turned c.args.s.now _ _ e) ∙ f)))
 
--- LEFT read-after-tree-requires : tie.Need-read-after-tree-requires
--- read-after-tree-requires c κs =
---     let s = c.before.before.before.before.before.before.before.before.before.before.before.before.before.before.before.before.before.before.before.before.before.before.before.before in
---     let t = tree c.before.before.before.before.before.before.before.before in
---     let k = c.before.before.before.before.before.before.before.before.before.before.before.before.before.before.before.read-tree-lines.auto in (
---       (omega (arith, s.requires.0, k.1.0), omega (arith, s.requires.1, k.1.1.0), s.requires.3, s.requires.4, s.requires.5, s.requires.6, s.requires.7, t.within, t.numbers),
---       record { tree = plan_of t.rs; rest = t.rest; stands = t.stands; few = t.few },
---     )
+pub read_after_tree-requires-clause-in_bounds : goal.read_after_tree-requires-clause-in_bounds
+read_after_tree-requires-clause-in_bounds c =
+    let tree : TreeRead c.args.s.now c.args.head.now c.read_tree_lines-t.new.head c.args.rows.now c.read_tree_lines-t.new.rows c.in-Read.lines c.in-Read.next c.in-Read.line = tree_read c.args.s.now c.args.head.now _ c.args.rows.now _ _ _ _ c.requires.1 c.requires.2 (sym c.in-Read.is ∙ c.read_tree_lines-t.ensures.answer) c.read_tree_lines-t.ensures.left in
+    let t = tree in
+    (omega (arith, c.requires.0, c.read_tree_lines-t.auto.fields), omega (arith, c.requires.1, c.read_tree_lines-t.auto.head), c.requires.3, c.requires.4, c.requires.5, c.requires.6, c.requires.7, t.within, t.numbers)
+
+pub read_after_tree-requires-clause-tree_stands : goal.read_after_tree-requires-clause-tree_stands
+read_after_tree-requires-clause-tree_stands c =
+    let tree : TreeRead c.args.s.now c.args.head.now c.read_tree_lines-t.new.head c.args.rows.now c.read_tree_lines-t.new.rows c.in-Read.lines c.in-Read.next c.in-Read.line = tree_read c.args.s.now c.args.head.now _ c.args.rows.now _ _ _ _ c.requires.1 c.requires.2 (sym c.in-Read.is ∙ c.read_tree_lines-t.ensures.answer) c.read_tree_lines-t.ensures.left in
+    let t = tree in
+    record { tree = plan_of t.rs; rest = t.rest; stands = t.stands; few = t.few }
+
 pub returns-clause-answer : goal.returns-clause-answer
 returns-clause-answer c =
     let tree : TreeRead c.args.s.now c.args.head.now c.read_tree_lines-t.new.head c.args.rows.now c.read_tree_lines-t.new.rows c.in-Read.lines c.in-Read.next c.in-Read.line = tree_read c.args.s.now c.args.head.now _ c.args.rows.now _ _ _ _ c.requires.1 c.requires.2 (sym c.in-Read.is ∙ c.read_tree_lines-t.ensures.answer) c.read_tree_lines-t.ensures.left in

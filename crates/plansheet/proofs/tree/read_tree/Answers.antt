@@ -21,10 +21,10 @@ use Rattle.plansheet.proofs.tree.read_tree.Goals as goal
 
 -- the numbers of the turn
 pub record Room (n most p next s children : ℕ) : Type 0 where
-  pub pub few : n < most
-  pub pub small : children ≤ 8
-  pub pub on : p < next
-  pub pub within : next ≤ s
+  pub few : n < most
+  pub small : children ≤ 8
+  pub on : p < next
+  pub within : next ≤ s
 
 pub loop-owed-init : goal.loop-owed-init
 loop-owed-init c = (head_first (operator_rows 1) _ operators_made ((tree_line (shape_of c.args.letter c.args.bounds.now c.args.sizes.now c.args.codes.now) c.args.rules.now c.args.most)) _ _ _ _ _ c.requires.most_bound.1 c.requires.most_bound.2, omega arith, omega arith, refl)

@@ -1,7 +1,6 @@
 -- `plansheet::tree::tree_row` meets its contract: what `operator_read` left, or else what `judged_row` leaves.
 use mathlib.Core.Path.{◌≡◌, ap, subst, ◌∙◌}
 use mathlib.Core.List.{List, []}
-use mathlib.Core.Logic.{⊎_elim}
 use Prim.Native.Nat.{ℕ, ◌<◌}
 use native.Mathlib.Omega.{arith}
 use lib.ListN.{length, get_or, set, length-set}
@@ -11,6 +10,7 @@ use Rattle.plansheet.specs.PlainTrees.{PlainShape, OperatorHeld, OperatorRead}
 use Rattle.plansheet.proofs.PlainTrees.{quick_held, quick_row}
 use borrow.Author.Rules.{rules}
 use Rattle.plansheet.proofs.tree.tree_row.Goals as goal
+use Rattle.plansheet.proofs.tree.tree_row.Goals.{then-seen-quick+in_default, else-seen-quick}
 
 pub operator_read-r-requires : goal.operator_read-r-requires
 operator_read-r-requires c =
@@ -40,16 +40,14 @@ returns-in-Line-clause-stored c =
     let a = c.args in let d = held in
     let f : a.seen < a.most = omega (arith, c.if-seen-quick.true, c.requires.plain_shape) in λ z. ap (set a.rows.now a.seen) (quick_held a.letter a.bounds.now a.sizes.now a.codes.now a.rules.now a.most a.seen a.s.now a.at (shape) c.requires.in_bounds.2 f _ _ d)
 
-pub shape_of-rows : goal.shape_of-rows
-shape_of-rows c =
-    let long : length c.if-seen-quick.rows ≡ length c.args.rows.now = ⊎_elim (λ w. ap length w.4 ∙ simp length-set) (λ w. ap length w.1) c.if-seen-quick.branch in
-    c.judged_row.auto.rows ∙ long
-
-pub returns-clause-answer : goal.returns-clause-answer
-returns-clause-answer c =
-    c.judged_row.ensures.answer
-
+-- what a later row covers is the same, whichever branch was taken
 pub returns-clause-stored : goal.returns-clause-stored
 returns-clause-stored c =
-    let over : (x : List ℕ) → let a = c.args in set c.if-seen-quick.rows a.seen x ≡ set a.rows.now a.seen x = λ x. let a = c.args in ⊎_elim (λ w. ap (λ (rs : List (List ℕ)). set rs a.seen x) w.4 ∙ set-set a.rows.now a.seen w.2.last.1.1.1.1.1.1.0 x) (λ w. ap (λ (rs : List (List ℕ)). set rs a.seen x) w.1) c.if-seen-quick.branch in
+    let a = c.args in
+    let over : (x : List ℕ) → set c.if-seen-quick.rows a.seen x ≡ set a.rows.now a.seen x =
+        λ x. elim c.if-seen-quick.branch [
+          then-seen-quick+in_default w ↦ ap (λ (rs : List (List ℕ)). set rs a.seen x) w.rows-is ∙ set-set a.rows.now a.seen w.operator_read-r.new.row x
+        | else-seen-quick w ↦ ap (λ (rs : List (List ℕ)). set rs a.seen x) w.rows-is
+        ]
+    in
     λ z. c.judged_row.ensures.stored z ∙ over _
