@@ -18,6 +18,7 @@ PATH = re.compile(r"(?<![\w.'·-])(" + ID + r")((?:\.[\w'₀-₉·-]+)*)")
 
 
 BODIES = {}
+HOISTED = set()
 
 
 def norm(n):
@@ -142,6 +143,7 @@ class Fn:
         self.cycle = False
         self.prefix = ""
         self.members = []
+        self.opened = []
 
     def parent(self, i):
         p = self.places[i][1]
@@ -414,6 +416,7 @@ class Fn:
     def inline(self, h, place, more=()):
         """What stands for a helper at a place: an abbreviation's text, or the name of a let that goes before the answer."""
         al = {h["args"][0]: ("place", place)}
+        self.opened += [w for u in h["unf"] for w in u.split()[1:] if w not in self.opened]
         body = self.turn(h["body"].strip(), al)
         if "abbrev" in h["mods"]:
             rest = h["args"][1:]
@@ -432,6 +435,7 @@ class Fn:
             k += 1
             n = f"{h['name']}{k}"
         self.hoisted[n] = (ty, body)
+        HOISTED.add(n)
         return n
 
     def paths(self, text, alias):
@@ -555,6 +559,9 @@ def pruned(t):
     rest = pruned(rest)
     if re.search(r"(?<![\w.'-])" + re.escape(name) + r"(?![\w'-])", rest):
         return let + rest
+    if re.match(r"\s*let \S+ :", let) and name not in HOISTED:
+        # a tactic may read it
+        return let + rest
     lead = re.match(r"\s*", let).group(0)
     return lead + rest.lstrip()
 
@@ -618,9 +625,12 @@ def answers(F, path, needs, ans, said):
             if a is None:
                 raise Left("cases")
             place = F.goal = F.place(at[i][0])
-            F.hoisted = {}
+            F.hoisted, F.opened = {}, []
+            HOISTED.clear()
             body = F.turn(body, {a[0]: ("place", place)})
             hoist = [f"let {n} : {ty} = {b} in" for n, (ty, b) in F.hoisted.items()]
+            if F.opened:
+                d["unf"] = ["unfolding " + " ".join(dict.fromkeys([w for u in d["unf"] for w in u.split()[1:]] + F.opened))]
             if hoist:
                 body = "\n    " + "\n    ".join(hoist) + "\n    " + body.lstrip()
             if len(a) > 1 and a[1] in ("κs", "_"):

@@ -52,12 +52,18 @@ finished_stand rows n (t ∷ᶠ ts) [] (c ∷ cs) (beside e w) =
     next e.number e.need (sym e.whole) e.small (ap (fact_of rows n) e.whole ∙ e.row) (finished_stand rows (suc n) ts [] cs w)
 finished_stand rows n (t ∷ᶠ ts) (f ∷ fs) (c ∷ cs) (beside e w) =
     next e.number e.need (sym e.whole) e.small (ap (fact_of rows n) e.whole ∙ e.row) (finished_stand rows (suc n) ts fs cs w)
+finished_stand rows n none fs (c ∷ cs) z = elim z [ ]
+finished_stand rows n (t ∷ᶠ ts) [] [] z = elim z [ ]
+finished_stand rows n (t ∷ᶠ ts) (f ∷ fs) [] z = elim z [ ]
 
 states_long : (rows : List Row) (n : ℕ) (ts : Plans) (fs : List ChildFacts) (cs : List ChildState) → Finished rows (children_from n ts fs) cs → length cs ≡ trees ts
 unfolding children_from
 states_long rows n none fs [] over = refl
 states_long rows n (t ∷ᶠ ts) [] (c ∷ cs) (beside e w) = ap suc (states_long rows (suc n) ts [] cs w)
 states_long rows n (t ∷ᶠ ts) (f ∷ fs) (c ∷ cs) (beside e w) = ap suc (states_long rows (suc n) ts fs cs w)
+states_long rows n none fs (c ∷ cs) z = elim z [ ]
+states_long rows n (t ∷ᶠ ts) [] [] z = elim z [ ]
+states_long rows n (t ∷ᶠ ts) (f ∷ fs) [] z = elim z [ ]
 
 handled_trees : (s : Settings) (f : Facts) (worked : Operator) (n : ℕ) (cs : List ChildState) → trees (handled s f worked n cs) ≡ length cs
 unfolding handled

@@ -1,4 +1,6 @@
 // The answers of D sheets as text, and the sheets written again, from the rows of their trees.
+#![tactic(auto)]
+
 pub mod line;
 pub mod plan;
 pub mod sheet_line;
