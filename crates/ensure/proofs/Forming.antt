@@ -6,7 +6,7 @@ use mathlib.Core.Option.{Option, some, none as nothing}
 use mathlib.Core.List.{List, [], ◌∷◌, ◌++◌, map}
 use native.Mathlib.Omega.{arith}
 use lib.ListN.{length, drop, take}
-use mathlib.Core.Logic.{◌⊎◌, ⊎_elim}
+use mathlib.Core.Logic.{⊎_elim}
 use types.Run.{OneOf}
 use denote.Enum.Declared.{tag_of}
 use Rattle.exchange.specs.contracts.relationship.Enforcing as E

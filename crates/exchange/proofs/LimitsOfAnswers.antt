@@ -11,7 +11,7 @@ use Rattle.keys.proofs.Truths.{true_false, and_first}
 use Rattle.exchange.specs.Trees.{node, none, ◌∷ᶠ◌, root, Operator, Plan, Plans}
 use Rattle.exchange.specs.declared.settings.Settings.{Settings}
 use Rattle.exchange.specs.Facts.{ChildFacts, Facts}
-use Rattle.exchange.specs.Operators.{is_sort_preserving_merge, is_union, mark, track}
+use Rattle.exchange.specs.Operators.{is_sort_preserving_merge, is_union, track}
 use Rattle.exchange.specs.Children.{update_child, update_each, update_children, is_removed, remove_dist_changing_operators, remove_above}
 use Rattle.exchange.specs.States.{ChildState, children_from}
 use Rattle.exchange.specs.Ensure.{Answer, answered, becomes_interleave, interleaved, handled, finished, ensured}

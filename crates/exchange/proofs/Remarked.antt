@@ -3,7 +3,6 @@ use Prim.Native.Nat.{ℕ}
 use mathlib.Core.Path.{◌≡◌, refl}
 use mathlib.Core.Bool.{Bool, true, false, cond}
 use mathlib.Core.Logic.{◌⊎◌, inl, inr}
-use mathlib.Core.List.{◌∷◌}
 use Rattle.exchange.specs.Trees.{node, none, ◌∷ᶠ◌, root, Operator, Plan}
 use Rattle.exchange.specs.Operators.{mark, track}
 use Rattle.exchange.specs.Children.{changes_distribution, update_each, is_removed, remove_dist_changing_operators}

@@ -4,14 +4,14 @@
 --     left_marked, right_marked        the list followed has a mark, so the part handed back starts at 1
 --     moved_below, moved_left, ..      for a caller of `reorder_join_keys_to_inputs`: the answer's lists, by what stands in the lent places
 -- Assumes nothing.
-use Prim.Native.Nat.{ℕ, ◌-◌}
+use Prim.Native.Nat.{ℕ}
 use mathlib.Core.Path.{◌≡◌, refl, ap, sym, ◌∙◌, subst}
 use mathlib.Core.Bool.{Bool}
 use mathlib.Core.Option.{Option, some}
 use mathlib.Core.List.{List}
 use native.Mathlib.Omega.{arith}
 use lib.ListN.{length, take, drop, length-map}
-use denote.Ref.{Bor, MutBor}
+use denote.Ref.{Bor}
 use lib.Seq.{take_all, length-take-le}
 use Rattle.keys.specs.Lists.{permute}
 use Rattle.keys.specs.Reorder.{Rule, Tried, try_reorder}

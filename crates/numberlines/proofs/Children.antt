@@ -1,14 +1,14 @@
 -- An F line, put together from its numbers.
 -- Assumes nothing.
 use Prim.Native.Nat.{ℕ, ◌+◌, ◌≤◌, ◌<◌}
-use mathlib.Core.Path.{◌≡◌, refl, sym, ap, ◌∙◌}
+use mathlib.Core.Path.{◌≡◌, refl, ap, ◌∙◌}
 use mathlib.Core.Bool.{true}
 use mathlib.Core.List.{List, [], ◌∷◌, ◌++◌, map}
 use native.Mathlib.Omega.{arith}
 use borrow.Author.Tests.{le-leb}
 use lib.ListN.{length, set}
 use lib.Seq.{sets}
-use Rattle.text.specs.Text.{Field, number}
+use Rattle.text.specs.Text.{number}
 use Rattle.text.specs.Bounds.{allows_all, widest}
 use Rattle.linekinds.specs.Reading.{Small}
 use Rattle.linekinds.specs.PlainText.{StandsAt, TextAt, fields_of}

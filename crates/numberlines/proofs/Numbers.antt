@@ -1,13 +1,13 @@
 -- Numbers that stand one after another on a line, and the row that holds them.
 -- Assumes nothing.
-use Prim.Native.Nat.{ℕ, zero, suc, ◌+◌, ◌-◌, ◌≤◌, ◌<◌}
-use mathlib.Core.Path.{◌≡◌, refl, sym, ap, subst, ◌∙◌}
+use Prim.Native.Nat.{ℕ, ◌+◌, ◌≤◌, ◌<◌}
+use mathlib.Core.Path.{◌≡◌, refl, sym, ap, ◌∙◌}
 use mathlib.Core.List.{List, [], ◌∷◌, ◌++◌, map, append-nil}
 use native.Mathlib.Omega.{arith}
-use lib.ListN.{length, get_or, set, take, drop, length-append, length-set, drop_of_length-le}
-use lib.Seq.{sets, sets-eq, length-sets}
-use Rattle.text.specs.Text.{Field, number, empty, line_at, after}
-use Rattle.text.specs.Write.{decimal, fields_text, line_text}
+use lib.ListN.{length, set, length-append, drop_of_length-le}
+use lib.Seq.{sets, sets-eq}
+use Rattle.text.specs.Text.{number}
+use Rattle.text.specs.Write.{fields_text}
 use Rattle.text.proofs.Stores.{sets_append}
 use Rattle.linekinds.specs.Reading.{Small}
 use Rattle.linekinds.specs.PlainText.{StandsAt, TextAt, fields_of}

@@ -12,7 +12,6 @@ use Rattle.exchange.specs.Trees.{Plan}
 use Rattle.exchange.specs.Facts.{Facts}
 use Rattle.exchange.specs.Settings.{settings_fit}
 use Rattle.exchange.specs.Fit.{facts_fit}
-use Rattle.exchange.specs.Sizes.{lines}
 use Rattle.linekinds.specs.KeyLines.{values}
 use Rattle.sheet.specs.KeySheets.{sheet}
 use Rattle.sheet.proofs.LegalRows.{values_numbers}

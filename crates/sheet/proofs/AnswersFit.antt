@@ -16,7 +16,7 @@ use Rattle.keys.specs.Adjust.{KeySheet, KeyAnswer, Projected, Adjustment, answer
 use Rattle.keys.specs.Inputs.{JoinSheet, JoinAnswer, reorder_join_keys_to_inputs}
 use Rattle.linekinds.specs.Lines.{most_bytes}
 use Rattle.sheet.specs.KeySheets.{Reading, sheet, turned, read_key_sheet, read_join_sheet}
-use Rattle.sheet.specs.KeyAnswers.{Outcome, refused, wrote, numbers_line, expr_numbers, exprs_line, projected_numbers, child_lines, key_answer_text, join_answer_text, adjusted, key_outcome, join_outcome, adjust_decision, inputs_decision}
+use Rattle.sheet.specs.KeyAnswers.{Outcome, numbers_line, expr_numbers, exprs_line, projected_numbers, child_lines, key_answer_text, join_answer_text, adjusted, key_outcome, join_outcome, adjust_decision, inputs_decision}
 use Rattle.sheet.specs.Outcomes.{FitsIn}
 use Rattle.sheet.specs.Sizes.{Each, Few, Within, PlacedWithin, NumberList, ExprList, InputList, SizedKeySheet, SizedKeyAnswer, SizedJoinSheet, SizedJoinAnswer, line_most, key_answer_most, join_answer_most}
 use Rattle.sheet.specs.LegalSheets.{LegalExpr, LegalExprs, LegalInput, LegalKeySheet, LegalJoinSheet}

@@ -12,7 +12,7 @@ use Rattle.text.specs.Bounds.{fits}
 use Rattle.text.specs.Write.{line_text}
 use Rattle.text.proofs.Exact.{both}
 use Rattle.text.proofs.Limits.{fits_length}
-use Rattle.linekinds.specs.Lines.{Kind, plain, whole_entries}
+use Rattle.linekinds.specs.Lines.{Kind, whole_entries}
 use Rattle.linekinds.specs.KeyLines.{at, values, undefined_exprs, list_line, expr_line, rule_line, input_line, key_line, input_head, key_stages, input_stages, defined_mode, defined_join}
 use Rattle.sheet.specs.KeySheets.{exprs, rules_of, mark, input_of, unused_keys, key_sheet_of, join_sheet_of, row}
 use Rattle.sheet.specs.KeyAnswers.{numbers_line, exprs_line, child_lines}

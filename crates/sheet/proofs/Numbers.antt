@@ -14,7 +14,7 @@ use Rattle.text.specs.Bounds.{Bound, allows, allows_all, fits}
 use Rattle.text.proofs.Exact.{both}
 use Rattle.keys.specs.Expressions.{Expression}
 use Rattle.linekinds.specs.Lines.{Kind, plain, whole_entries}
-use Rattle.linekinds.specs.KeyLines.{at, values}
+use Rattle.linekinds.specs.KeyLines.{values}
 use Rattle.sheet.specs.KeySheets.{exprs, rules_of, mark, input_of, unused_keys}
 use Rattle.sheet.specs.KeyAnswers.{expr_numbers}
 use Rattle.sheet.specs.KeyTexts.{mark_number, rule_exprs, input_numbers}

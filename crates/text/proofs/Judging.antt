@@ -10,7 +10,6 @@ use lib.ListN.{length, take, drop, length-map}
 use Rattle.text.specs.Text.{Field, row, line, line_fields, line_at, after}
 use Rattle.text.specs.Read.{line_read, stored_in}
 use Rattle.text.specs.Bounds.{fits_rows, judged}
-use Rattle.text.specs.declared.line.Line.{Line}
 use Rattle.text.specs.declared.line.Line.TheVariants.{Fields, Wrong}
 use Rattle.text.specs.declared.bounds.Judged.TheVariants as J
 use Rattle.text.proofs.Answers.{Opened, opened, rows_held}

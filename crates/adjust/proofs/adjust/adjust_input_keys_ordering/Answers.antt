@@ -33,11 +33,11 @@ passed-requires c = tt
 
 pub returns-then-k-eq5 : goal.returns-then-k-eq5
 returns-then-k-eq5 c = let e = c.passed.ensures in (
-      e.0 tt,
-      λ s cs.
-          let t = key_sheet c.args.k c.args.r.now c.args.l.now c.args.g.now s c.args.w.now c.args.o.now c.args.a.now c.args.m.now cs in
-          adjusted_by_lem t c.passed.result Passed true Kept Kept [] e.1 e.2 e.3 e.4 e.5 ∙ op_clearing same_expr t c.if-k-eq5.true,
-    )
+  e.0 tt,
+  λ s cs.
+      let t = key_sheet c.args.k c.args.r.now c.args.l.now c.args.g.now s c.args.w.now c.args.o.now c.args.a.now c.args.m.now cs in
+      adjusted_by_lem t c.passed.result Passed true Kept Kept [] e.1 e.2 e.3 e.4 e.5 ∙ op_clearing same_expr t c.if-k-eq5.true,
+)
 
 pub returns : goal.returns
 returns c = let e = c.other.ensures in (e.0, λ s cs. e.1 c.args.k c.args.l.now c.args.g.now s c.args.w.now c.args.o.now c.args.a.now c.args.m.now cs ∙ op_other same_expr (key_sheet c.args.k c.args.r.now c.args.l.now c.args.g.now s c.args.w.now c.args.o.now c.args.a.now c.args.m.now cs) c.if-k-eq0.false c.if-k-eq1.false c.if-k-eq2.false c.if-k-eq3.false c.if-k-eq4.false c.if-k-eq5.false)

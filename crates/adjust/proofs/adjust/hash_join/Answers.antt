@@ -24,8 +24,8 @@ passed-requires c = tt
 
 pub returns : goal.returns
 returns c = let e = c.passed.ensures in (
-      e.0 tt,
-      λ s o a m cs.
-          let t = key_sheet c.args.k c.args.r.now c.args.l.now c.args.g.now s c.args.w.now o a m cs in
-          adjusted_by_lem t c.passed.result Passed true Kept Kept [] e.1 e.2 e.3 e.4 e.5 ∙ hash_auto same_expr t c.if-k-eq0.false c.if-k-eq1.false,
-    )
+  e.0 tt,
+  λ s o a m cs.
+      let t = key_sheet c.args.k c.args.r.now c.args.l.now c.args.g.now s c.args.w.now o a m cs in
+      adjusted_by_lem t c.passed.result Passed true Kept Kept [] e.1 e.2 e.3 e.4 e.5 ∙ hash_auto same_expr t c.if-k-eq0.false c.if-k-eq1.false,
+)

@@ -16,19 +16,19 @@ passed-requires c = tt
 
 pub returns-then-r-eq0 : goal.returns-then-r-eq0
 returns-then-r-eq0 c = let e = c.passed.ensures in (
-      e.0 tt,
-      λ k l g s w o a m cs.
-          let t = key_sheet k c.args.r.now l g s w o a m cs in
-          adjusted_by_lem t c.passed.result Unchanged false Kept Kept [] e.1 e.2 e.3 e.4 e.5 ∙ other_unchanged same_expr t (length-map c.args.r.now expression ∙ c.if-r-eq0.true),
-    )
+  e.0 tt,
+  λ k l g s w o a m cs.
+      let t = key_sheet k c.args.r.now l g s w o a m cs in
+      adjusted_by_lem t c.passed.result Unchanged false Kept Kept [] e.1 e.2 e.3 e.4 e.5 ∙ other_unchanged same_expr t (length-map c.args.r.now expression ∙ c.if-r-eq0.true),
+)
 
 pub passed-requires-2 : goal.passed-requires-2
 passed-requires-2 c = tt
 
 pub returns : goal.returns
 returns c = let e = c.passed-2.ensures in (
-      e.0 tt,
-      λ k l g s w o a m cs.
-          let t = key_sheet k c.args.r.now l g s w o a m cs in
-          adjusted_by_lem t c.passed-2.result Passed false Required Required [] e.1 e.2 e.3 e.4 e.5 ∙ other_pushed same_expr t (λ z. c.if-r-eq0.false (sym (length-map c.args.r.now expression) ∙ z)),
-    )
+  e.0 tt,
+  λ k l g s w o a m cs.
+      let t = key_sheet k c.args.r.now l g s w o a m cs in
+      adjusted_by_lem t c.passed-2.result Passed false Required Required [] e.1 e.2 e.3 e.4 e.5 ∙ other_pushed same_expr t (λ z. c.if-r-eq0.false (sym (length-map c.args.r.now expression) ∙ z)),
+)

@@ -30,12 +30,12 @@ bounds-out-i c = omega (arith, c.loop-i-test.true, c.requires.0, c.loop-i.invari
 
 pub loop-i-preserved : goal.loop-i-preserved
 loop-i-preserved c = let k = c.args.required.now in let i = c.loop-i.i in let t = c.loop-i-test.true in let n = get_or k i 0 in (
-      omega (arith, t),
-      simp length-set c.loop-i.invariant.1,
-      c.loop-i.invariant.2
-          ∙ shift_turn c.args.columns k i t (take i c.loop-i.out) (sym c.kind_of.ensures ∙ c.if-kind_of-ne0.false) (rw c.index_of.ensures at c.if-index_of-columns.false)
-          ∙ rw (first_pushed c.loop-i.out i (n - c.args.columns) (omega (arith, t, c.loop-i.invariant.1, c.requires.0))),
-    )
+  omega (arith, t),
+  simp length-set c.loop-i.invariant.1,
+  c.loop-i.invariant.2
+      ∙ shift_turn c.args.columns k i t (take i c.loop-i.out) (sym c.kind_of.ensures ∙ c.if-kind_of-ne0.false) (rw c.index_of.ensures at c.if-index_of-columns.false)
+      ∙ rw (first_pushed c.loop-i.out i (n - c.args.columns) (omega (arith, t, c.loop-i.invariant.1, c.requires.0))),
+)
 
 pub returns : goal.returns
 returns c = let i = c.loop-i.i in let e = c.loop-i.invariant.2 ∙ shift_end c.args.columns c.args.required.now i c.loop-i-test.false (take i c.loop-i.out) in

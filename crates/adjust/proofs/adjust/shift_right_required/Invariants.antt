@@ -8,7 +8,7 @@ use Rattle.keys.proofs.Shifts.{prefixed}
 use Rattle.adjust.proofs.adjust.shift_right_required.Given as goal
 
 abbrev pub invariant-loop-i : goal.invariant-loop-i
-invariant-loop-i l =     (l.i ≤ length l.required) × (length l.out ≡ 32)
+invariant-loop-i l = (l.i ≤ length l.required) × (length l.out ≡ 32)
     × (shifted l.columns (expressions l.required) ≡ prefixed (expressions (take l.i l.out)) (shifted l.columns (expressions (drop l.i l.required))))
 
 abbrev pub decreases-loop-i : goal.decreases-loop-i

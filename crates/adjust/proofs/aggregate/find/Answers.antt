@@ -1,6 +1,5 @@
 -- `adjust::aggregate::find` meets its contract. The search from i on finds what the whole search does.
 use mathlib.Core.Path.{sym, ◌∙◌}
-use Prim.Native.Nat.{◌-◌}
 use borrow.Author.Tests.{eq-eqb, ne_eqb}
 use lib.Dec.{eqb}
 use Rattle.keys.proofs.Lists.{place_starts, place_here, place_later, place_nowhere}

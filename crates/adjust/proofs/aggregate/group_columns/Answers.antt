@@ -1,6 +1,6 @@
 -- `adjust::aggregate::group_columns` meets its contract. The columns packed so far, before the columns left, are all (`columns_turn`).
 use mathlib.Core.Path.{◌≡◌, refl}
-use Prim.Native.Nat.{◌<◌, ◌-◌}
+use Prim.Native.Nat.{◌<◌}
 use native.Mathlib.Omega.{arith}
 use lib.ListN.{length, get_or}
 use Rattle.keys.proofs.Lists.{below_at}

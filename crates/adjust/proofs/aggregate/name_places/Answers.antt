@@ -1,7 +1,6 @@
 -- `adjust::aggregate::name_places` meets its contract. The places found so far, before those of the names left, are all (`names_turn`).
 use mathlib.Core.Path.{sym, ap, ◌∙◌}
 use mathlib.Core.List.{◌++◌}
-use Prim.Native.Nat.{◌-◌}
 use native.Mathlib.Omega.{arith}
 use lib.Dec.{eqb}
 use lib.ListN.{take, length-append}
@@ -20,10 +19,10 @@ loop-i-init c = let e = c.no_numbers-at.ensures in (search rules, e.0.full, e.2,
 
 pub returns-in_default : goal.returns-in_default
 returns-in_default c = (
-      record { full = c.loop-i.invariant.1; fits = omega (arith, c.loop-i.invariant.2) },
-      sym (c.loop-i.invariant.3 ∙ names_missing (c.args.moved.now ++ c.args.aggregates.now) c.args.names.now (take c.loop-i.i c.loop-i.at.items) c.loop-i.i
-          c.loop-i-test.true (sym c.find_field.ensures ∙ ap found c.in_default.is)),
-    )
+  record { full = c.loop-i.invariant.1; fits = omega (arith, c.loop-i.invariant.2) },
+  sym (c.loop-i.invariant.3 ∙ names_missing (c.args.moved.now ++ c.args.aggregates.now) c.args.names.now (take c.loop-i.i c.loop-i.at.items) c.loop-i.i
+      c.loop-i-test.true (sym c.find_field.ensures ∙ ap found c.in_default.is)),
+)
 
 pub narrow-requires : goal.narrow-requires
 narrow-requires c = let f = c.find_field in let moved = c.args.moved.now in let aggregates = c.args.aggregates.now in let h = place_below eqb _ (moved ++ aggregates) c.in-At.p (sym f.ensures ∙ ap found c.in-At.is) in
@@ -31,17 +30,17 @@ narrow-requires c = let f = c.find_field in let moved = c.args.moved.now in let 
 
 pub loop-i-preserved : goal.loop-i-preserved
 loop-i-preserved c = let i = c.loop-i.i in let t = c.loop-i-test.true in (
-      search rules,
-      search rules,
-      c.loop-i.invariant.2,
-      c.loop-i.invariant.3
-          ∙ names_turn (c.args.moved.now ++ c.args.aggregates.now) c.args.names.now (take i c.loop-i.at.items) i c.in-At.p t
-          (sym c.find_field.ensures ∙ ap found c.in-At.is)
-          ∙ rw (first_pushed c.loop-i.at.items i c.narrow.result (omega (arith, t, c.loop-i.invariant.1, c.requires.2)), c.narrow.ensures),
-    )
+  search rules,
+  search rules,
+  c.loop-i.invariant.2,
+  c.loop-i.invariant.3
+      ∙ names_turn (c.args.moved.now ++ c.args.aggregates.now) c.args.names.now (take i c.loop-i.at.items) i c.in-At.p t
+      (sym c.find_field.ensures ∙ ap found c.in-At.is)
+      ∙ rw (first_pushed c.loop-i.at.items i c.narrow.result (omega (arith, t, c.loop-i.invariant.1, c.requires.2)), c.narrow.ensures),
+)
 
 pub returns : goal.returns
 returns c = (
-      record { full = c.loop-i.invariant.1; fits = omega (arith, c.loop-i.invariant.0, c.requires.2) },
-      sym (c.loop-i.invariant.3 ∙ names_end (c.args.moved.now ++ c.args.aggregates.now) c.args.names.now (take c.loop-i.i c.loop-i.at.items) c.loop-i.i c.loop-i-test.false),
-    )
+  record { full = c.loop-i.invariant.1; fits = omega (arith, c.loop-i.invariant.0, c.requires.2) },
+  sym (c.loop-i.invariant.3 ∙ names_end (c.args.moved.now ++ c.args.aggregates.now) c.args.names.now (take c.loop-i.i c.loop-i.at.items) c.loop-i.i c.loop-i-test.false),
+)

@@ -23,22 +23,22 @@ passed-requires c = tt
 
 pub returns-then-r-o : goal.returns-then-r-o
 returns-then-r-o c = let e = c.passed.ensures in (
-      e.0 tt,
-      λ l g s w m cs.
-          let t = key_sheet c.args.k c.args.r.now l g s w c.args.o.now c.args.a.now m cs in
-          adjusted_by_lem t c.passed.result Passed false Kept Kept [] e.1 e.2 e.3 e.4 e.5 ∙ aggregate_stays same_expr t (lengths_differ same_expr t (λ z. c.if-r-o.true (sym (length-map c.args.r.now expression) ∙ z))),
-    )
+  e.0 tt,
+  λ l g s w m cs.
+      let t = key_sheet c.args.k c.args.r.now l g s w c.args.o.now c.args.a.now m cs in
+      adjusted_by_lem t c.passed.result Passed false Kept Kept [] e.1 e.2 e.3 e.4 e.5 ∙ aggregate_stays same_expr t (lengths_differ same_expr t (λ z. c.if-r-o.true (sym (length-map c.args.r.now expression) ∙ z))),
+)
 
 pub passed-requires-then-not-k : goal.passed-requires-then-not-k
 passed-requires-then-not-k c = tt
 
 pub returns-then-not-k : goal.returns-then-not-k
 returns-then-not-k c = let e = c.passed-then-not-k.ensures in (
-      e.0 tt,
-      λ l g s w m cs.
-          let t = key_sheet c.args.k c.args.r.now l g s w c.args.o.now c.args.a.now m cs in
-          adjusted_by_lem t c.passed-then-not-k.result Passed false Kept Kept [] e.1 e.2 e.3 e.4 e.5 ∙ aggregate_stays same_expr t (null_there same_expr t (not-true _ c.if-not-k.true)),
-    )
+  e.0 tt,
+  λ l g s w m cs.
+      let t = key_sheet c.args.k c.args.r.now l g s w c.args.o.now c.args.a.now m cs in
+      adjusted_by_lem t c.passed-then-not-k.result Passed false Kept Kept [] e.1 e.2 e.3 e.4 e.5 ∙ aggregate_stays same_expr t (null_there same_expr t (not-true _ c.if-not-k.true)),
+)
 
 pub same_keys-requires : goal.same_keys-requires
 same_keys-requires c = tt

@@ -39,24 +39,24 @@ slice_bounds-answer_moved-end c = let w = c.requires.1.at in omega (arith, w.ful
 
 pub answer_moved-requires : goal.answer_moved-requires
 answer_moved-requires c = let x = c.args.x in let w = c.requires.1.at in let k = c.shifted_keys-h in let j = c.projected_by-w in (
-      c.requires.0,
-      rw (from_start x.at.count x.at.items, length-take x.at.count x.at.items) (omega (arith, w.fits)),
-      record {
-        shifts =
-            ap expressions (from_start k.result k.new.out) ∙ k.ensures.2
-            ∙ (λ i. shifted_for x.first x.others (get_or (c.held.ensures i) 3 0) (expressions (c.held-2.ensures i)));
-        few = rw (from_start k.result k.new.out, length-take) (omega (arith, k.ensures.1));
+  c.requires.0,
+  rw (from_start x.at.count x.at.items, length-take x.at.count x.at.items) (omega (arith, w.fits)),
+  record {
+    shifts =
+        ap expressions (from_start k.result k.new.out) ∙ k.ensures.2
+        ∙ (λ i. shifted_for x.first x.others (get_or (c.held.ensures i) 3 0) (expressions (c.held-2.ensures i)));
+    few = rw (from_start k.result k.new.out, length-take) (omega (arith, k.ensures.1));
+  },
+  rw (from_start j.result j.new.out, length-take) (omega (arith, j.ensures.0)),
+  λ e.
+      let o = c.held-groups.ensures in let a = c.held-names.ensures in record {
+        places = take x.places.count x.places.items;
+        made =
+            from_start j.result j.new.out ∙ j.ensures.2
+            ∙ (λ i. projected_numbers (projected_by x.outcome (placed_names (o i) (from_start x.places.count x.places.items i) ++ names_from (length (o i)) (a i))));
+        fits = rw (from_start x.at.count x.at.items) (c.requires.2 e);
       },
-      rw (from_start j.result j.new.out, length-take) (omega (arith, j.ensures.0)),
-      λ e.
-          let o = c.held-groups.ensures in let a = c.held-names.ensures in record {
-            places = take x.places.count x.places.items;
-            made =
-                from_start j.result j.new.out ∙ j.ensures.2
-                ∙ (λ i. projected_numbers (projected_by x.outcome (placed_names (o i) (from_start x.places.count x.places.items i) ++ names_from (length (o i)) (a i))));
-            fits = rw (from_start x.at.count x.at.items) (c.requires.2 e);
-          },
-    )
+)
 
 pub returns : goal.returns
 returns c = let x = c.args.x in let j = c.projected_by-w in let o = c.held-groups.ensures in let a = c.held-names.ensures in let e = from_start j.result j.new.out ∙ j.ensures.2

@@ -50,8 +50,7 @@ write_key-requires c =
       first_is = c.handed_list.ensures ∙ (λ i. handed_list a.first (r i) c.moved_or-l.result.now a.shifted.now (m i));
       others_kept = c.keeps-2.ensures;
       others_are = c.handed_list-2.ensures ∙ (λ i. handed_list a.others (r i) c.moved_or-g.result.now a.shifted.now (m i));
-    } in
-    (
+    } in (
       c.requires.0,
       rw (wide) (key_few c.args.lists.now c.args.counts.now c.args.o c.args.cleared c.args.first c.args.others c.args.at.now c.args.left.now c.args.right.now c.args.turned.now c.args.shifted.now (chosen) c.requires.1 c.args.j.now c.requires.2 c.requires.0),
       λ e. let f = c.requires.3 e in rw (wide, chosen_text c.args.lists.now c.args.counts.now c.args.o c.args.cleared c.args.first c.args.others c.args.at.now c.args.left.now c.args.right.now c.args.turned.now c.args.shifted.now (chosen) c.requires.1 c.args.j.now f.places f.made) f.fits,

@@ -22,14 +22,14 @@ held-s-requires c = key_there c.args.lists.now c.args.counts.now c.requires.0 4 
 
 pub answer_lists-requires : goal.answer_lists-requires
 answer_lists-requires c = let ps = c.args.at.now in let p = c.moved_pairs-m in (
-      c.requires.0,
-      record {
-        positions = c.requires.1;
-        left = from_start (length ps) _ ∙ p.ensures.4 ∙ ap (λ (ks : List ℕ). permute gone_number ks ps) c.held-l.ensures;
-        right = from_start (length ps) _ ∙ p.ensures.5 ∙ ap (λ (ks : List ℕ). permute gone_number ks ps) c.held-g.ensures;
-        directions = from_start p.result _ ∙ p.ensures.6 ∙ ap (λ (ds : List ℕ). moved_directions ds ps) c.held-s.ensures;
-        shifted = c.requires.2;
-      },
-      c.requires.3,
-      c.requires.4,
-    )
+  c.requires.0,
+  record {
+    positions = c.requires.1;
+    left = from_start (length ps) _ ∙ p.ensures.4 ∙ ap (λ (ks : List ℕ). permute gone_number ks ps) c.held-l.ensures;
+    right = from_start (length ps) _ ∙ p.ensures.5 ∙ ap (λ (ks : List ℕ). permute gone_number ks ps) c.held-g.ensures;
+    directions = from_start p.result _ ∙ p.ensures.6 ∙ ap (λ (ds : List ℕ). moved_directions ds ps) c.held-s.ensures;
+    shifted = c.requires.2;
+  },
+  c.requires.3,
+  c.requires.4,
+)

@@ -1,7 +1,6 @@
 -- `ensure::interleave::all_layouts` meets its contract: what is left to compare says what all say.
 use mathlib.Core.Path.{refl, sym, ◌∙◌}
 use mathlib.Core.List.{map}
-use Prim.Native.Nat.{◌-◌}
 use native.Mathlib.Omega.{arith}
 use lib.ListN.{take}
 use Rattle.exchange.specs.FactRows.{fact_row}
@@ -38,10 +37,10 @@ loop-i-smaller c = omega (arith, c.loop-i-test.true)
 
 pub loop-i-preserved : goal.loop-i-preserved
 loop-i-preserved c = let a = c.args in (
-      omega (arith, c.loop-i-test.true),
-      c.loop-i.invariant.1
-          ∙ same_layout (map fact_row (take a.n a.rows.now)) a.forms.now a.layout _ _ c.loop-i-test.true c.layout_in.ensures c.if-layout_in-layout.false,
-    )
+  omega (arith, c.loop-i-test.true),
+  c.loop-i.invariant.1
+      ∙ same_layout (map fact_row (take a.n a.rows.now)) a.forms.now a.layout _ _ c.loop-i-test.true c.layout_in.ensures c.if-layout_in-layout.false,
+)
 
 pub returns : goal.returns
 returns c = let a = c.args in layouts_end (map fact_row (take a.n a.rows.now)) a.forms.now a.layout _ c.loop-i-test.false ∙ sym c.loop-i.invariant.1

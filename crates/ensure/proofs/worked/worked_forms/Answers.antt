@@ -5,7 +5,6 @@ use lib.Seq.{length-take-le}
 use Rattle.exchange.specs.declared.row.Node.{Node}
 use native.Mathlib.Omega.{arith}
 use Rattle.ensure.proofs.Forming.{stood_in, stood_below, told_worked}
-use borrow.Author.Rules.{rules}
 use Rattle.ensure.proofs.worked.worked_forms.Goals as goal
 
 pub overflow_add-below : goal.overflow_add-below

@@ -1,6 +1,5 @@
 -- `exchange::fact::clear` meets its contract: the front is 0, and what is left stands as it was.
 use mathlib.Core.Path.{refl}
-use Prim.Native.Nat.{◌-◌}
 use native.Mathlib.Omega.{arith}
 use lib.ListN.{length-set}
 use Rattle.exchange.proofs.Indexed.{clear_turn, clear_end}

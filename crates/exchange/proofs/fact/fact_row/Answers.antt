@@ -1,6 +1,5 @@
 -- `exchange::fact::fact_row` meets its contract: the index at the place has the first row of the child and form (`index_row`).
 use native.Mathlib.Omega.{arith}
-use Rattle.exchange.specs.Found.{slot}
 use Rattle.exchange.proofs.Indexed.{slot_below, fact_none, fact_some, fact_in}
 use Rattle.exchange.proofs.fact.fact_row.Goals as goal
 

@@ -16,11 +16,11 @@ bounds-index-at c = omega (arith, slot_below _ _ _ c.slot-at.ensures)
 
 pub loop-i-preserved : goal.loop-i-preserved
 loop-i-preserved c = let l = c.loop-i in (
-      omega arith,
-      simp length-set l.invariant.1,
-      index_again _ _ _ _ _ c.loop-i-test.true l.invariant.0
-          c.requires.0 l.invariant.2 c.slot-at.ensures,
-    )
+  omega arith,
+  simp length-set l.invariant.1,
+  index_again _ _ _ _ _ c.loop-i-test.true l.invariant.0
+      c.requires.0 l.invariant.2 c.slot-at.ensures,
+)
 
 pub returns : goal.returns
 returns c = rw c.loop-i-test.false at c.loop-i.invariant.2

@@ -55,23 +55,23 @@ overflow_sub-left t c = omega (arith, c.if-left-eq0.false)
 
 pub finish_children-requires : goal.finish_children-requires
 finish_children-requires t c = let a = c.args in let e = c.requires.each_finished in let p = c.requires.readys in (
-      omega (arith, c.decreases, c.if-left-eq0.false),
-      (
-        record {
-          first = omega (arith, e.first);
-          last = omega (arith, e.last, c.if-left-eq0.false);
-          most = e.most;
-          small = e.small;
-          told = e.told;
-          few = e.few;
-          rowed = e.rowed;
-          indexed = e.indexed;
-          legal = e.legal;
-          roomy = omega (arith, e.roomy, c.finish_child-m.auto.mid);
-        },
-        rw c.finish_child-m.auto.dst (others_ready (one (map fact_row (take a.n a.rows.now)) a.forms.now a.facts.now a.s (node_facts a.b) (operator_of a.worked) a.children a.child c.node_at-need.result.need) (each (map fact_row (take a.n a.rows.now)) a.forms.now a.facts.now a.s (node_facts a.b) (operator_of a.worked) a.children a.child) (others (map fact_row (take a.n a.rows.now)) a.forms.now a.facts.now a.s (node_facts a.b) (operator_of a.worked) a.children a.child) a.src.now a.at a.left c.if-left-eq0.false (each_first (map fact_row (take a.n a.rows.now)) a.forms.now a.facts.now a.s (node_facts a.b) (operator_of a.worked) a.children a.child a.src.now a.at c.node_at-need.result.need (ap (λ (m : Node). m.need) c.node_at-need.ensures)) _ _ _ _ c.finish_child-m.ensures _ p),
-      ),
-    )
+  omega (arith, c.decreases, c.if-left-eq0.false),
+  (
+    record {
+      first = omega (arith, e.first);
+      last = omega (arith, e.last, c.if-left-eq0.false);
+      most = e.most;
+      small = e.small;
+      told = e.told;
+      few = e.few;
+      rowed = e.rowed;
+      indexed = e.indexed;
+      legal = e.legal;
+      roomy = omega (arith, e.roomy, c.finish_child-m.auto.mid);
+    },
+    rw c.finish_child-m.auto.dst (others_ready (one (map fact_row (take a.n a.rows.now)) a.forms.now a.facts.now a.s (node_facts a.b) (operator_of a.worked) a.children a.child c.node_at-need.result.need) (each (map fact_row (take a.n a.rows.now)) a.forms.now a.facts.now a.s (node_facts a.b) (operator_of a.worked) a.children a.child) (others (map fact_row (take a.n a.rows.now)) a.forms.now a.facts.now a.s (node_facts a.b) (operator_of a.worked) a.children a.child) a.src.now a.at a.left c.if-left-eq0.false (each_first (map fact_row (take a.n a.rows.now)) a.forms.now a.facts.now a.s (node_facts a.b) (operator_of a.worked) a.children a.child a.src.now a.at c.node_at-need.result.need (ap (λ (m : Node). m.need) c.node_at-need.ensures)) _ _ _ _ c.finish_child-m.ensures _ p),
+  ),
+)
 
 pub shape_of-mid : goal.shape_of-mid
 shape_of-mid t c = c.finish_children.auto.mid ∙ c.finish_child-m.auto.mid

@@ -3,7 +3,7 @@ use mathlib.Core.Path.{◌∙◌}
 use mathlib.Core.Bool.{true}
 use lib.Dec.{eqb}
 use Rattle.exchange.specs.Settings.{is_set}
-use Rattle.exchange.specs.Handling.{streams, required_replaced, sorted_entries}
+use Rattle.exchange.specs.Handling.{required_replaced, sorted_entries}
 use Rattle.exchange.proofs.order.order_required.Goals as goal
 
 pub returns : goal.returns

@@ -19,16 +19,16 @@ overflow_add-to t c = omega (arith, c.if-left-eq0.false, c.requires.left_in_boun
 
 pub child_places-requires : goal.child_places-requires
 child_places-requires t c = let more = c.if-left-eq0.false in (
-      omega (arith, c.decreases),
-      (
-        all_others _ _ _ more c.requires.stand_all _ c.past_tree.ensures,
-        (
-          omega (arith, more, c.requires.left_in_bounds.0, c.put_child.auto.places),
-          omega (arith, more, c.requires.left_in_bounds.1, c.put_child.auto.needs),
-          omega (arith, more, c.requires.left_in_bounds.2, c.put_child.auto.counts),
-        ),
-      ),
-    )
+  omega (arith, c.decreases),
+  (
+    all_others _ _ _ more c.requires.stand_all _ c.past_tree.ensures,
+    (
+      omega (arith, more, c.requires.left_in_bounds.0, c.put_child.auto.places),
+      omega (arith, more, c.requires.left_in_bounds.1, c.put_child.auto.needs),
+      omega (arith, more, c.requires.left_in_bounds.2, c.put_child.auto.counts),
+    ),
+  ),
+)
 
 pub shape_of-places : goal.shape_of-places
 shape_of-places t c = c.child_places.auto.places ∙ c.put_child.auto.places
@@ -41,7 +41,7 @@ shape_of-counts t c = c.child_places.auto.counts ∙ c.put_child.auto.counts
 
 pub returns : goal.returns
 returns t c = let more = c.if-left-eq0.false in let p = c.past_tree.ensures in let put = c.put_child.ensures in let rest = c.child_places.ensures in (
-      places_more _ _ _ _ _ more p _ _ (rw put.0 at rest.0),
-      needs_more _ _ _ _ _ more p _ _ (rw put.1 at rest.1),
-      counts_more _ _ _ _ _ more p _ _ (rw put.2 at rest.2),
-    )
+  places_more _ _ _ _ _ more p _ _ (rw put.0 at rest.0),
+  needs_more _ _ _ _ _ more p _ _ (rw put.1 at rest.1),
+  counts_more _ _ _ _ _ more p _ _ (rw put.2 at rest.2),
+)

@@ -1,6 +1,5 @@
 -- The cycle of calls of `replace_order_preserving_variants` and `replace_children`. What each gives is put together by `node_wrote` and `many_wrote`.
 use mathlib.Core.Path.{◌∙◌}
-use Prim.Native.Nat.{◌-◌}
 use native.Mathlib.Omega.{arith}
 use Rattle.exchange.specs.Replace.{replace_order_preserving_variants, replace_tracked}
 use Rattle.exchange.specs.ReplaceRows.{heads}
@@ -25,18 +24,18 @@ replace_children-copy_tree-s-requires t c = first_ready (λ u. u) replace_tracke
 
 pub replace_children-replace_children-requires : goal.replace_children-replace_children-requires
 replace_children-replace_children-requires t c = let m = c.copy_tree-s in (
-      omega (arith, c.decreases, first_falls (λ u. u) replace_tracked replace_tracked _ _ _ c.if-left-eq0.false (stays_first c.args.src.now c.args.at c.if-src-at-ne1.true) _ _ _ _ m.ensures _ c.requires),
-      rw m.auto.dst (others_ready (λ u. u) replace_tracked replace_tracked _ _ _ c.if-left-eq0.false (stays_first c.args.src.now c.args.at c.if-src-at-ne1.true) _ _ _ _ m.ensures _ c.requires),
-    )
+  omega (arith, c.decreases, first_falls (λ u. u) replace_tracked replace_tracked _ _ _ c.if-left-eq0.false (stays_first c.args.src.now c.args.at c.if-src-at-ne1.true) _ _ _ _ m.ensures _ c.requires),
+  rw m.auto.dst (others_ready (λ u. u) replace_tracked replace_tracked _ _ _ c.if-left-eq0.false (stays_first c.args.src.now c.args.at c.if-src-at-ne1.true) _ _ _ _ m.ensures _ c.requires),
+)
 
 pub replace_children-replace_order_preserving_variants-s-requires : goal.replace_children-replace_order_preserving_variants-s-requires
 replace_children-replace_order_preserving_variants-s-requires t c = (omega (arith, c.decreases), first_ready replace_order_preserving_variants replace_tracked replace_tracked _ _ _ c.if-left-eq0.false (replaced_first c.args.src.now c.args.at c.if-src-at-ne1.false) _ _ c.requires)
 
 pub replace_children-replace_children-requires-else-src-at-ne1 : goal.replace_children-replace_children-requires-else-src-at-ne1
 replace_children-replace_children-requires-else-src-at-ne1 t c = let m = c.replace_order_preserving_variants-s in (
-      omega (arith, c.decreases, first_falls replace_order_preserving_variants replace_tracked replace_tracked _ _ _ c.if-left-eq0.false (replaced_first c.args.src.now c.args.at c.if-src-at-ne1.false) _ _ _ _ m.ensures _ c.requires),
-      rw m.auto.dst (others_ready replace_order_preserving_variants replace_tracked replace_tracked _ _ _ c.if-left-eq0.false (replaced_first c.args.src.now c.args.at c.if-src-at-ne1.false) _ _ _ _ m.ensures _ c.requires),
-    )
+  omega (arith, c.decreases, first_falls replace_order_preserving_variants replace_tracked replace_tracked _ _ _ c.if-left-eq0.false (replaced_first c.args.src.now c.args.at c.if-src-at-ne1.false) _ _ _ _ m.ensures _ c.requires),
+  rw m.auto.dst (others_ready replace_order_preserving_variants replace_tracked replace_tracked _ _ _ c.if-left-eq0.false (replaced_first c.args.src.now c.args.at c.if-src-at-ne1.false) _ _ _ _ m.ensures _ c.requires),
+)
 
 pub replace_children-shape_of-dst-then-src-at-ne1 : goal.replace_children-shape_of-dst-then-src-at-ne1
 replace_children-shape_of-dst-then-src-at-ne1 t c = c.replace_children.auto.dst ∙ c.copy_tree-s.auto.dst

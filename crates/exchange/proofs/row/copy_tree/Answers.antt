@@ -6,12 +6,12 @@ use Rattle.exchange.proofs.row.copy_tree.Goals as goal
 
 pub copy_trees-requires : goal.copy_trees-requires
 copy_trees-requires c = let p = c.requires in record {
-      below = p.tree ∷ᶠ none;
-      rest = p.rest;
-      counted = refl;
-      stands = rw flattens_one p.stands;
-      fits = rw flattens_one p.fits;
-    }
+  below = p.tree ∷ᶠ none;
+  rest = p.rest;
+  counted = refl;
+  stands = rw flattens_one p.stands;
+  fits = rw flattens_one p.fits;
+}
 
 pub returns : goal.returns
 returns c = λ t rest h. rw flattens_one at (c.copy_trees.ensures (t ∷ᶠ none) rest refl (rw flattens_one h))

@@ -1,6 +1,5 @@
 -- `exchange::row::copy_trees` meets its contract. The rows copied, with those of the `left` trees still to come, are those of all (`Mid`).
 use mathlib.Core.Path.{refl}
-use Prim.Native.Nat.{◌-◌}
 use native.Mathlib.Omega.{arith}
 use lib.ListN.{length-set}
 use Rattle.exchange.proofs.Copied.{Room, start, step, finish, room}

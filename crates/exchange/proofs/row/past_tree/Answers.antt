@@ -1,5 +1,4 @@
 -- `exchange::row::past_tree` meets its contract: the rows still to come end where the tree does (`Past`).
-use Prim.Native.Nat.{◌-◌}
 use native.Mathlib.Omega.{arith}
 use Rattle.exchange.proofs.Passed.{PastRoom, past_start, past_step, past_end, past_room}
 use Rattle.exchange.proofs.row.past_tree.Goals as goal

@@ -1,6 +1,5 @@
 -- `exchange::removeDistChangingOperators::remove_dist_changing_operators` meets its contract: at each turn a tree stands there whose remove_dist_changing_operators node is the whole's (`Reached`).
 use mathlib.Core.Path.{refl, sym, ◌∙◌}
-use Prim.Native.Nat.{◌-◌}
 use native.Mathlib.Omega.{arith}
 use Rattle.exchange.proofs.WorkedNode.{reached_in, reached_more, reached_end}
 use Rattle.exchange.proofs.worked.remove_dist_changing_operators.Goals as goal

@@ -1,6 +1,5 @@
 -- `fits::fit::masks_fit` meets its contract: the masks from i on fit exactly where all do (`Fitting`).
 use mathlib.Core.Path.{refl, sym, ◌∙◌}
-use Prim.Native.Nat.{◌-◌}
 use native.Mathlib.Omega.{arith}
 use Rattle.fits.proofs.Fitting.{masks_bad, masks_good, masks_end}
 use Rattle.fits.proofs.fit.masks_fit.Goals as goal

@@ -1,7 +1,6 @@
 -- `forms::relationship::any_givable` meets its contract: the children from i on can be given one as all of them can, since none before i can.
 use mathlib.Core.Path.{refl, sym, ap, ◌∙◌}
 use mathlib.Core.List.{List, map}
-use Prim.Native.Nat.{◌-◌}
 use native.Mathlib.Omega.{arith}
 use lib.ListN.{take}
 use Rattle.exchange.specs.declared.relationship.Turn.{Turn}

@@ -8,7 +8,7 @@ use Rattle.exchange.specs.Turns.{any_turn, turns_by}
 use Rattle.forms.proofs.relationship.any_givable.Given as goal
 
 abbrev pub invariant-loop-i : goal.invariant-loop-i
-invariant-loop-i l =     (l.i ≤ length l.needs)
+invariant-loop-i l = (l.i ≤ length l.needs)
     × (any_turn (map fact_row (take l.n l.rows)) (turns_by 1 l.mask l.needs l.forms) ≡ any_turn (map fact_row (take l.n l.rows)) (turns_by (l.i + 1) l.m (drop l.i l.needs) (drop l.i l.forms)))
 
 abbrev pub decreases-loop-i : goal.decreases-loop-i

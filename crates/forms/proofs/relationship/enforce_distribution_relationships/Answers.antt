@@ -70,13 +70,13 @@ loop-mask-smaller c = omega (arith, c.if-left-eq0.false)
 
 pub loop-mask-preserved : goal.loop-mask-preserved
 loop-mask-preserved c = let a = c.args in let l = c.loop-mask in (
-      omega (arith, l.invariant.0, c.round-done.auto.forms),
-      c.round-done.ensures.by_index,
-      c.unsatisfied_at-mask-in-loop-mask.ensures ∙ ap (λ (k : ℕ). unsatisfied_at a.masks.now k) c.given_set-in-loop-mask.ensures,
-      l.invariant.3
-          ∙ rounds_turn (map fact_row (take a.n a.rows.now)) a.masks.now a.needs.now l.forms l.mask l.invariant.2 l.left _ c.loop-mask-test.true c.if-left-eq0.false
-          (held _ _ c.any_givable.ensures (ap not c.if-not-any_givable.false)) (round_done _ _ _ c.in_default.is c.round-done.ensures.forms_after),
-    )
+  omega (arith, l.invariant.0, c.round-done.auto.forms),
+  c.round-done.ensures.by_index,
+  c.unsatisfied_at-mask-in-loop-mask.ensures ∙ ap (λ (k : ℕ). unsatisfied_at a.masks.now k) c.given_set-in-loop-mask.ensures,
+  l.invariant.3
+      ∙ rounds_turn (map fact_row (take a.n a.rows.now)) a.masks.now a.needs.now l.forms l.mask l.invariant.2 l.left _ c.loop-mask-test.true c.if-left-eq0.false
+      (held _ _ c.any_givable.ensures (ap not c.if-not-any_givable.false)) (round_done _ _ _ c.in_default.is c.round-done.ensures.forms_after),
+)
 
 pub shape_of-forms : goal.shape_of-forms
 shape_of-forms c = c.loop-mask.invariant.0

@@ -2,7 +2,7 @@
 use mathlib.Core.Path.{◌≡◌, refl, sym, ap, ◌∙◌}
 use mathlib.Core.List.{List, map}
 use mathlib.Core.Option.{Option}
-use Prim.Native.Nat.{ℕ, ◌+◌, ◌-◌, ◌/◌, ◌%◌, ◌<◌}
+use Prim.Native.Nat.{ℕ, ◌+◌, ◌/◌, ◌%◌, ◌<◌}
 use native.Mathlib.Omega.{arith}
 use lib.ListN.{length, take, drop, get_or, set, length-set}
 use lib.Seq.{take_all, drop-set-lt}
@@ -49,8 +49,8 @@ unfolding each_form
 returns-in_default-clause-forms_after c = let a = c.args in let l = c.loop-i in let f = turn_form (map fact_row (take a.n a.rows.now)) in
     let t = turns_turn a.needs.now l.forms (omega (arith, l.invariant.1, c.requires.needs_len_bound.1)) l.i l.m c.loop-i-test.true in
     let rest = each_form f (turns_by (l.i + 1 + 1) (l.m / 2) (drop (l.i + 1) a.needs.now) (drop (l.i + 1) l.forms)) in each_missing _ (take l.i l.forms) rest
-          (l.invariant.3 ∙ ap (λ (xs : List Turn). prepend (take l.i l.forms) (each_form f xs)) t
-          ∙ ap (λ (o : Formed). prepend (take l.i l.forms) (with_forms o rest)) (sym c.give-made.ensures ∙ c.in_default.is))
+    (l.invariant.3 ∙ ap (λ (xs : List Turn). prepend (take l.i l.forms) (each_form f xs)) t
+    ∙ ap (λ (o : Formed). prepend (take l.i l.forms) (with_forms o rest)) (sym c.give-made.ensures ∙ c.in_default.is))
 
 pub offset_bounds-forms-i-in-loop-i : goal.offset_bounds-forms-i-in-loop-i
 offset_bounds-forms-i-in-loop-i c = omega (arith, c.loop-i.invariant.1, c.requires.needs_len_bound.1)

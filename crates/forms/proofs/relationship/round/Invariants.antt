@@ -10,7 +10,7 @@ use Rattle.forms.proofs.Each.{prepend}
 use Rattle.forms.proofs.relationship.round.Given as goal
 
 abbrev pub invariant-loop-i : goal.invariant-loop-i
-invariant-loop-i l =     (l.i ≤ length l.needs) × (length l.forms ≡ length l.initial.forms) × ((k : ℕ) → k < length l.needs → get_or l.forms k 0 ≤ 15)
+invariant-loop-i l = (l.i ≤ length l.needs) × (length l.forms ≡ length l.initial.forms) × ((k : ℕ) → k < length l.needs → get_or l.forms k 0 ≤ 15)
     × (each_form (turn_form (map fact_row (take l.n l.rows))) (turns_by 1 l.mask l.needs l.initial.forms)
     ≡ prepend (take l.i l.forms) (each_form (turn_form (map fact_row (take l.n l.rows))) (turns_by (l.i + 1) l.m (drop l.i l.needs) (drop l.i l.forms))))
 

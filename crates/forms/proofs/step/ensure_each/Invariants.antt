@@ -22,7 +22,7 @@ abbrev left : List ℕ → List ℕ → List (List ℕ) → ℕ → List Asked
 left rules counts facts i = asked_by (i + 1) (drop i rules) (drop i counts) (drop i facts)
 
 abbrev pub invariant-loop-i : goal.invariant-loop-i
-invariant-loop-i l =     (l.i ≤ length l.needs) × (length l.forms ≡ length l.initial.forms)
+invariant-loop-i l = (l.i ≤ length l.needs) × (length l.forms ≡ length l.initial.forms)
     × (each_form (stepped l.s l.w l.aligned l.rows l.n) (asked_by 1 l.needs l.counts l.facts) ≡ prepend (take l.i l.forms) (each_form (stepped l.s l.w l.aligned l.rows l.n) (left l.needs l.counts l.facts l.i)))
 
 abbrev pub decreases-loop-i : goal.decreases-loop-i

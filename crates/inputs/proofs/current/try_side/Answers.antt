@@ -34,10 +34,10 @@ stood-requires c = tt
 
 pub returns-then-not-hash_partitioned : goal.returns-then-not-hash_partitioned
 returns-then-not-hash_partitioned c = let p = c.hash_partitioned in (
-      record { at = c.stood.ensures.0; only = rw c.stood.ensures.2 c.stood.ensures.1 },
-      λ t impossible untried. side_untried t c.args.l.now c.args.g.now c.args.rewriting.now c.args.side impossible untried c.args.input.now c.stood.result
-          (sym p.ensures ∙ c.if-not-hash_partitioned.true) c.stood.ensures.2,
-    )
+  record { at = c.stood.ensures.0; only = rw c.stood.ensures.2 c.stood.ensures.1 },
+  λ t impossible untried. side_untried t c.args.l.now c.args.g.now c.args.rewriting.now c.args.side impossible untried c.args.input.now c.stood.result
+      (sym p.ensures ∙ c.if-not-hash_partitioned.true) c.stood.ensures.2,
+)
 
 pub after_mark-expected-requires : goal.after_mark-expected-requires
 after_mark-expected-requires c = tt
@@ -50,17 +50,17 @@ follow-requires c = tt
 
 pub returns-in_default : goal.returns-in_default
 returns-in_default c = let t = c.try_reorder-tried in let f = c.follow.ensures in (
-      record { at = rw f.1 t.ensures.0; only = rw f.0 tt },
-      λ x impossible untried. side_followed x c.args.l.now c.args.g.now c.args.rewriting.now c.args.side impossible untried c.args.input.now c.follow.result
-          c.after_mark-expected.result.now t.result ((let keys_tried : input_of c.args.input.now ≡ some (expressions c.after_mark-expected.result.now) = part_input c.args.input c.after_mark-expected.result c.after_mark-expected.ensures (sym c.hash_partitioned.ensures ∙ c.if-not-hash_partitioned.false) in keys_tried)) t.ensures.1 f.1 (possible t.result.outcome (opened c.in_default.in_default-own.keys2)) f.0,
-    )
+  record { at = rw f.1 t.ensures.0; only = rw f.0 tt },
+  λ x impossible untried. side_followed x c.args.l.now c.args.g.now c.args.rewriting.now c.args.side impossible untried c.args.input.now c.follow.result
+      c.after_mark-expected.result.now t.result ((let keys_tried : input_of c.args.input.now ≡ some (expressions c.after_mark-expected.result.now) = part_input c.args.input c.after_mark-expected.result c.after_mark-expected.ensures (sym c.hash_partitioned.ensures ∙ c.if-not-hash_partitioned.false) in keys_tried)) t.ensures.1 f.1 (possible t.result.outcome (opened c.in_default.in_default-own.keys2)) f.0,
+)
 
 pub stood-requires-2 : goal.stood-requires-2
 stood-requires-2 c = tt
 
 pub returns : goal.returns
 returns c = let t = c.try_reorder-tried in (
-      record { at = c.stood-2.ensures.0; only = rw c.stood-2.ensures.2 c.stood-2.ensures.1 },
-      λ x impossible untried. side_failed x c.args.l.now c.args.g.now c.args.rewriting.now c.args.side impossible untried c.args.input.now c.stood-2.result
-          c.after_mark-expected.result.now t.result ((let keys_tried : input_of c.args.input.now ≡ some (expressions c.after_mark-expected.result.now) = part_input c.args.input c.after_mark-expected.result c.after_mark-expected.ensures (sym c.hash_partitioned.ensures ∙ c.if-not-hash_partitioned.false) in keys_tried)) t.ensures.1 c.in-Impossible.is c.stood-2.ensures.2,
-    )
+  record { at = c.stood-2.ensures.0; only = rw c.stood-2.ensures.2 c.stood-2.ensures.1 },
+  λ x impossible untried. side_failed x c.args.l.now c.args.g.now c.args.rewriting.now c.args.side impossible untried c.args.input.now c.stood-2.result
+      c.after_mark-expected.result.now t.result ((let keys_tried : input_of c.args.input.now ≡ some (expressions c.after_mark-expected.result.now) = part_input c.args.input c.after_mark-expected.result c.after_mark-expected.ensures (sym c.hash_partitioned.ensures ∙ c.if-not-hash_partitioned.false) in keys_tried)) t.ensures.1 c.in-Impossible.is c.stood-2.ensures.2,
+)

@@ -11,11 +11,11 @@ no_numbers-places-requires c = tt
 
 pub returns : goal.returns
 returns c = let a = c.no_numbers-at.ensures in let b = c.no_numbers-places.ensures in (
-      λ m. record { at = a.0; places = b.0; only = rw (a.1, b.1) (none_left c.args.outcome); marks = m },
-      refl,
-      refl,
-      refl,
-      refl,
-      a.1,
-      b.1,
-    )
+  λ m. record { at = a.0; places = b.0; only = rw (a.1, b.1) (none_left c.args.outcome); marks = m },
+  refl,
+  refl,
+  refl,
+  refl,
+  a.1,
+  b.1,
+)

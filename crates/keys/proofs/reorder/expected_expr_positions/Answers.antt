@@ -21,6 +21,6 @@ returns-then-expected-eq0 c = (search rules, c.no_positions-then-expected-eq0.en
 
 pub returns : goal.returns
 returns c = (
-      search rules,
-      c.take_places.ensures.1 ∙ sym (positions_of_lem eqb gone_number c.args.current.now c.args.expected.now (omega (arith, c.if-current-eq0.false)) (omega (arith, c.if-expected-eq0.false))),
-    )
+  search rules,
+  c.take_places.ensures.1 ∙ sym (positions_of_lem eqb gone_number c.args.current.now c.args.expected.now (omega (arith, c.if-current-eq0.false)) (omega (arith, c.if-expected-eq0.false))),
+)

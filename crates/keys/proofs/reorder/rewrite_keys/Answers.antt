@@ -1,7 +1,6 @@
 -- `keys::reorder::rewrite_keys` meets its contract. The array filled so far, with what is left, is the rewritten keys (`fill_turn`).
 use mathlib.Core.Path.{◌≡◌, sym, ◌∙◌}
 use mathlib.Core.List.{map}
-use Prim.Native.Nat.{◌-◌}
 use native.Mathlib.Omega.{arith}
 use lib.Dec.{eqb}
 use lib.ListN.{length, length-map, get_or-map}

@@ -1,6 +1,5 @@
 -- `keys::reorder::same_keys` meets its contract. The rests of the two lists are the same exactly where the lists are.
 use mathlib.Core.Path.{sym, ◌∙◌}
-use Prim.Native.Nat.{◌-◌}
 use native.Mathlib.Omega.{arith}
 use borrow.Author.Tests.{eq-eqb, ne_eqb}
 use lib.Dec.{eqb}

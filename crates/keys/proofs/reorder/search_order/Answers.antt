@@ -19,16 +19,16 @@ returns-then-meets c = let u = c.unmoved.ensures in (u.0, tried_met (c.args.l.no
 
 pub returns-in_default : goal.returns-in_default
 returns-in_default c = let p = c.either_side-p in let m = c.moved_by.ensures in (
-      m.0,
-      m.1 (c.args.l.now) (c.args.g.now) ∙ ap (moved_by gone_number (c.args.l.now) (c.args.g.now)) p.ensures.1
-          ∙ searched_first eqb gone_number (c.args.r.now) (c.args.l.now) (c.args.g.now) (c.args.rr.now) (c.args.ll.now) (c.args.gg.now) (sym c.meets.ensures ∙ c.if-meets.false) (numbers p.result.at)
-          (sym p.ensures.1 ∙ when_all p.result c.in_default.is),
-    )
+  m.0,
+  m.1 (c.args.l.now) (c.args.g.now) ∙ ap (moved_by gone_number (c.args.l.now) (c.args.g.now)) p.ensures.1
+      ∙ searched_first eqb gone_number (c.args.r.now) (c.args.l.now) (c.args.g.now) (c.args.rr.now) (c.args.ll.now) (c.args.gg.now) (sym c.meets.ensures ∙ c.if-meets.false) (numbers p.result.at)
+      (sym p.ensures.1 ∙ when_all p.result c.in_default.is),
+)
 
 pub returns : goal.returns
 returns c = let p = c.either_side-p in let q = c.either_side-q in let m = c.moved_by-2.ensures in (
-      m.0,
-      m.1 (c.args.l.now) (c.args.g.now) ∙ ap (moved_by gone_number (c.args.l.now) (c.args.g.now)) q.ensures.1
-          ∙ searched_next eqb gone_number (c.args.r.now) (c.args.l.now) (c.args.g.now) (c.args.rr.now) (c.args.ll.now) (c.args.gg.now) (sym c.meets.ensures ∙ c.if-meets.false)
-          (sym p.ensures.1 ∙ when_missing p.result c.in-Missing.is),
-    )
+  m.0,
+  m.1 (c.args.l.now) (c.args.g.now) ∙ ap (moved_by gone_number (c.args.l.now) (c.args.g.now)) q.ensures.1
+      ∙ searched_next eqb gone_number (c.args.r.now) (c.args.l.now) (c.args.g.now) (c.args.rr.now) (c.args.ll.now) (c.args.gg.now) (sym c.meets.ensures ∙ c.if-meets.false)
+      (sym p.ensures.1 ∙ when_missing p.result c.in-Missing.is),
+)

@@ -1,7 +1,7 @@
 -- `keys::reorder::take_places` meets its contract. The positions taken so far, before what the search goes on to find, are all (`resume`).
 use mathlib.Core.Path.{◌≡◌, sym, ap, ◌∙◌}
 use mathlib.Core.List.{List, map}
-use Prim.Native.Nat.{ℕ, ◌≤◌, ◌<◌, ◌-◌}
+use Prim.Native.Nat.{ℕ, ◌≤◌, ◌<◌}
 use native.Mathlib.Omega.{arith}
 use borrow.Author.Tests.{eq-eqb, ne_eqb}
 use lib.Dec.{eqb}
@@ -31,20 +31,19 @@ no_numbers-at-requires c = tt
 
 pub loop-i-init : goal.loop-i-init
 loop-i-init c = let k = c.key_list-left in record {
-      within = search rules;
-      before = search rules;
-      whole = k.ensures.0.full;
-      room = c.no_numbers-at.ensures.0.full;
-      uncounted = c.no_numbers-at.ensures.2;
-      rest =
-          let e : take (length (c.args.current.now)) (map number_of k.result.items) ≡ c.args.current.now = ap (λ (n : ℕ). take n (map number_of k.result.items)) (sym k.ensures.2) ∙ k.ensures.1 in
-          rw e (resume_first eqb gone_number (c.args.current.now) (c.args.expected.now) ∙ sym (behind_none (resume eqb gone_number (c.args.current.now) 0 (c.args.expected.now))));
-    }
+  within = search rules;
+  before = search rules;
+  whole = k.ensures.0.full;
+  room = c.no_numbers-at.ensures.0.full;
+  uncounted = c.no_numbers-at.ensures.2;
+  rest =
+      let e : take (length (c.args.current.now)) (map number_of k.result.items) ≡ c.args.current.now = ap (λ (n : ℕ). take n (map number_of k.result.items)) (sym k.ensures.2) ∙ k.ensures.1 in
+      rw e (resume_first eqb gone_number (c.args.current.now) (c.args.expected.now) ∙ sym (behind_none (resume eqb gone_number (c.args.current.now) 0 (c.args.expected.now))));
+}
 
 pub returns-then-p-current : goal.returns-then-p-current
 returns-then-p-current c =
-    let l_long : length ((take (length (c.args.current.now)) (map number_of c.loop-i.left.items))) ≡ length (c.args.current.now) = key_length c.loop-i.left.items (length (c.args.current.now)) (omega (arith, c.loop-i.invariant.whole, c.requires.0)) in
-    (
+    let l_long : length ((take (length (c.args.current.now)) (map number_of c.loop-i.left.items))) ≡ length (c.args.current.now) = key_length c.loop-i.left.items (length (c.args.current.now)) (omega (arith, c.loop-i.invariant.whole, c.requires.0)) in (
       record { at = record { full = c.loop-i.invariant.room; fits = omega (arith, c.loop-i.invariant.uncounted) }; only = rw c.loop-i.invariant.uncounted },
       sym (c.loop-i.invariant.rest ∙ resume_nowhere eqb gone_number ((take (length (c.args.current.now)) (map number_of c.loop-i.left.items))) (c.args.expected.now) c.loop-i.i c.loop-i.p (take c.loop-i.i c.loop-i.at.items) 0 c.loop-i-test.true (omega (arith, l_long, c.if-p-current.true))),
     )
@@ -83,6 +82,6 @@ loop-i-preserved c =
 
 pub returns : goal.returns
 returns c = (
-      record { at = record { full = c.loop-i.invariant.room; fits = omega (arith, c.loop-i.invariant.within, c.requires.1) }; only = tt },
-      sym (c.loop-i.invariant.rest ∙ resume_end eqb gone_number ((take (length (c.args.current.now)) (map number_of c.loop-i.left.items))) (c.args.expected.now) c.loop-i.i c.loop-i.p (take c.loop-i.i c.loop-i.at.items) c.loop-i-test.false),
-    )
+  record { at = record { full = c.loop-i.invariant.room; fits = omega (arith, c.loop-i.invariant.within, c.requires.1) }; only = tt },
+  sym (c.loop-i.invariant.rest ∙ resume_end eqb gone_number ((take (length (c.args.current.now)) (map number_of c.loop-i.left.items))) (c.args.expected.now) c.loop-i.i c.loop-i.p (take c.loop-i.i c.loop-i.at.items) c.loop-i-test.false),
+)

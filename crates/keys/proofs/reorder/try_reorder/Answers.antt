@@ -25,10 +25,10 @@ unmoved-requires-then-meets c = tt
 
 pub returns-then-meets : goal.returns-then-meets
 returns-then-meets c = let u = c.unmoved-then-meets.ensures in (
-      u.0,
-      tried_met (c.args.l.now) (c.args.g.now) c.unmoved-then-meets.result u.2 u.1
-          ∙ try_met eqb gone_number ((number_rules c.args.w.now)) (c.args.r.now) (c.args.l.now) (c.args.g.now) c.if-l-r.false (sym c.meets.ensures ∙ c.if-meets.true),
-    )
+  u.0,
+  tried_met (c.args.l.now) (c.args.g.now) c.unmoved-then-meets.result u.2 u.1
+      ∙ try_met eqb gone_number ((number_rules c.args.w.now)) (c.args.r.now) (c.args.l.now) (c.args.g.now) c.if-l-r.false (sym c.meets.ensures ∙ c.if-meets.true),
+)
 
 pub returns-then-w-eq0 : goal.returns-then-w-eq0
 returns-then-w-eq0 c =

@@ -1,6 +1,5 @@
 -- `linekinds::kind::over` meets its contract. The numbers from i on are over the largest exactly where all of them are.
 use mathlib.Core.Path.{sym, ◌∙◌}
-use Prim.Native.Nat.{◌-◌}
 use mathlib.Core.List.{[]}
 use lib.ListN.{length-map, get_or-map}
 use Rattle.linekinds.specs.Reading.{row_value, row_values}

@@ -1,7 +1,6 @@
 -- `linekinds::pack::copy_numbers` meets its contract. The array filled so far, with what is left, is all the numbers.
 use mathlib.Core.Path.{refl, sym}
 use mathlib.Core.List.{[]}
-use Prim.Native.Nat.{◌-◌}
 use native.Mathlib.Omega.{arith}
 use lib.ListN.{get_or, length-map, length-set}
 use Rattle.keys.proofs.Turns.{fill_turn, fill_end}
@@ -21,10 +20,10 @@ bounds-out-i c = omega (arith, c.loop-i-test.true, c.requires.0)
 
 pub loop-i-preserved : goal.loop-i-preserved
 loop-i-preserved c = let rs = c.args.rows.now in let i = c.loop-i.i in let t = c.loop-i-test.true in (
-      search rules,
-      simp length-set c.loop-i.invariant.1,
-      fill_turn (row_values rs) c.loop-i.out i c.loop-i.invariant.2 (get_or (get_or rs i []) 1 0) 0 (rw (length-map rs row_value) t) (omega (arith, t, c.loop-i.invariant.1, c.requires.0)) (sym (row_value_lem rs i)),
-    )
+  search rules,
+  simp length-set c.loop-i.invariant.1,
+  fill_turn (row_values rs) c.loop-i.out i c.loop-i.invariant.2 (get_or (get_or rs i []) 1 0) 0 (rw (length-map rs row_value) t) (omega (arith, t, c.loop-i.invariant.1, c.requires.0)) (sym (row_value_lem rs i)),
+)
 
 pub returns : goal.returns
 returns c = let rs = c.args.rows.now in (c.loop-i.invariant.1, omega (arith, c.loop-i.invariant.0, c.requires.0), fill_end (row_values rs) c.loop-i.out c.loop-i.i c.loop-i.invariant.2 (rw (length-map rs row_value) c.loop-i-test.false))

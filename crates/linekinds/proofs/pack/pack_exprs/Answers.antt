@@ -1,6 +1,6 @@
 -- `linekinds::pack::pack_exprs` meets its contract. What is packed so far, before what packing the rest gives, is all (`packs_turn`).
 use mathlib.Core.Path.{◌≡◌, refl}
-use Prim.Native.Nat.{◌+◌, ◌-◌, ◌≤◌, ◌<◌}
+use Prim.Native.Nat.{◌+◌, ◌≤◌, ◌<◌}
 use native.Mathlib.Omega.{arith}
 use lib.ListN.{length, get_or, length-map, length-set}
 use Rattle.keys.specs.Expressions.{packed}

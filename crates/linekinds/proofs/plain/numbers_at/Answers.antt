@@ -1,5 +1,5 @@
 -- `linekinds::plain::numbers_at` meets its contract. What was read so far stands on the line so far (`numbers_more`).
-use Prim.Native.Nat.{◌-◌, ◌<◌}
+use Prim.Native.Nat.{◌<◌}
 use mathlib.Core.Path.{subst}
 use native.Mathlib.Omega.{arith}
 use lib.ListN.{length-set}

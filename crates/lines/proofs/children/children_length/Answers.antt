@@ -1,5 +1,5 @@
 -- `children_length` meets its contract: the length so far, with that of the lines from child `i` on, is that of all.
-use Prim.Native.Nat.{◌+◌, ◌-◌}
+use Prim.Native.Nat.{◌+◌}
 use native.Mathlib.Omega.{arith}
 use mathlib.Core.Path.{ap}
 use lib.ListN.{length}

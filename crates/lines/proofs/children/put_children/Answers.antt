@@ -1,5 +1,5 @@
 -- `put_children` meets its contract: the lines from child `i` on are left to write.
-use Prim.Native.Nat.{◌+◌, ◌-◌}
+use Prim.Native.Nat.{◌+◌}
 use native.Mathlib.Omega.{arith}
 use Rattle.lines.proofs.Pieces.{writing_first, writing_room, writing_more, writing_done}
 use Rattle.lines.proofs.ChildPieces.{children_pieces}

@@ -1,5 +1,4 @@
 -- `numbers_length` meets its contract: the length so far, with that of the fields from `i` on, is the line's.
-use Prim.Native.Nat.{◌-◌}
 use native.Mathlib.Omega.{arith}
 use mathlib.Core.List.{map}
 use Rattle.text.specs.Text.{number}

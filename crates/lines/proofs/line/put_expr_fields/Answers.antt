@@ -1,5 +1,4 @@
 -- `put_expr_fields` meets its contract: the expressions from `i` on are left to write.
-use Prim.Native.Nat.{◌-◌}
 use Rattle.lines.proofs.Pieces.{writing_first, writing_room, writing_more, writing_done}
 use Rattle.lines.proofs.Lines.{expr_fields_lem}
 use Rattle.lines.proofs.line.put_expr_fields.Goals as goal

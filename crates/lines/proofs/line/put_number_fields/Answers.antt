@@ -1,5 +1,4 @@
 -- `put_number_fields` meets its contract: the fields from `i` on are left to write.
-use Prim.Native.Nat.{◌-◌}
 use Rattle.lines.proofs.Pieces.{writing_first, writing_room, writing_more, writing_done}
 use Rattle.lines.proofs.Lines.{number_fields_lem}
 use Rattle.lines.proofs.line.put_number_fields.Goals as goal

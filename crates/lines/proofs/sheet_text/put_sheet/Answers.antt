@@ -1,7 +1,6 @@
 -- `put_sheet` meets its contract: the lines from line `i` on are left to write.
 use mathlib.Core.Path.{ap}
 use lib.ListN.{length}
-use Prim.Native.Nat.{◌-◌}
 use native.Mathlib.Omega.{arith}
 use Rattle.lines.proofs.Pieces.{writing_first, writing_room, writing_more, writing_done}
 use Rattle.lines.proofs.HeldLines.{held_pieces}

@@ -24,10 +24,10 @@ returns-in-Refused c = let a = c.args in let q = c.read_key_sheet-r in let both 
 
 pub answer_key_sheet-requires : goal.answer_key_sheet-requires
 answer_key_sheet-requires c = let a = c.args in let q = c.read_key_sheet-r in let w = was_read (read_key_sheet a.sheet.now) q.result q.ensures.answer c.in_default.is in (
-      (q.ensures.held w.x w.is).0,
-      omega (arith, c.requires.0, q.auto.rows),
-      λ e. subst (λ (o : Outcome). FitsIn (length a.out.now) o) (adjust_held a.sheet.now w.x _ w.is (q.ensures.held w.x w.is).1) (has_room (adjust_decision a.sheet.now) (length a.out.now) (adjust_fits a.sheet.now) (leb-true _ _ e)),
-    )
+  (q.ensures.held w.x w.is).0,
+  omega (arith, c.requires.0, q.auto.rows),
+  λ e. subst (λ (o : Outcome). FitsIn (length a.out.now) o) (adjust_held a.sheet.now w.x _ w.is (q.ensures.held w.x w.is).1) (has_room (adjust_decision a.sheet.now) (length a.out.now) (adjust_fits a.sheet.now) (leb-true _ _ e)),
+)
 
 pub returns-clause-result : goal.returns-clause-result
 returns-clause-result c = let a = c.args in let q = c.read_key_sheet-r in let w = was_read (read_key_sheet a.sheet.now) q.result q.ensures.answer c.in_default.is in

@@ -24,11 +24,11 @@ returns-in-Refused c = let a = c.args in let q = c.read_join_sheet-r in let both
 
 pub answer_join_sheet-requires : goal.answer_join_sheet-requires
 answer_join_sheet-requires c = let a = c.args in let q = c.read_join_sheet-r in let w = was_read (read_join_sheet a.sheet.now) q.result q.ensures.answer c.in_default.is in (
-      (q.ensures.held w.x w.is).0,
-      omega (arith, c.requires.0, q.auto.rows),
-      omega (arith, c.requires.1),
-      λ e. subst (λ (o : Outcome). FitsIn (length a.out.now) o) (inputs_held a.sheet.now w.x _ w.is (q.ensures.held w.x w.is).1) (has_room (inputs_decision a.sheet.now) (length a.out.now) (inputs_fits a.sheet.now) (leb-true _ _ e)),
-    )
+  (q.ensures.held w.x w.is).0,
+  omega (arith, c.requires.0, q.auto.rows),
+  omega (arith, c.requires.1),
+  λ e. subst (λ (o : Outcome). FitsIn (length a.out.now) o) (inputs_held a.sheet.now w.x _ w.is (q.ensures.held w.x w.is).1) (has_room (inputs_decision a.sheet.now) (length a.out.now) (inputs_fits a.sheet.now) (leb-true _ _ e)),
+)
 
 pub returns-clause-result : goal.returns-clause-result
 returns-clause-result c = let a = c.args in let q = c.read_join_sheet-r in let w = was_read (read_join_sheet a.sheet.now) q.result q.ensures.answer c.in_default.is in

@@ -1,5 +1,5 @@
 -- `keys_fit` meets its contract: test by test, and list by list.
-use Prim.Native.Nat.{ℕ, ◌-◌}
+use Prim.Native.Nat.{ℕ}
 use mathlib.Core.Path.{◌≡◌, ap}
 use mathlib.Core.List.{[]}
 use native.Mathlib.Omega.{arith}
@@ -28,8 +28,8 @@ loop-i-preserved c = let l = c.loop-i in (omega (arith, c.loop-i-test.true), one
 
 pub returns : goal.returns
 returns c = let l = c.loop-i in test_holds _ (record {
-      wide = omega (arith, c.if-fields-lt256.false);
-      ruled = omega (arith, c.if-rules-lt32.false);
-      many = omega (arith, c.if-lists-lt17.false);
-      full = λ i h. l.invariant.1 i (omega (arith, c.loop-i-test.false));
-    })
+  wide = omega (arith, c.if-fields-lt256.false);
+  ruled = omega (arith, c.if-rules-lt32.false);
+  many = omega (arith, c.if-lists-lt17.false);
+  full = λ i h. l.invariant.1 i (omega (arith, c.loop-i-test.false));
+})

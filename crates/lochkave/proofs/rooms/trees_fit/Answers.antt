@@ -23,10 +23,10 @@ returns-then-index-lt129 c = test_fails _ (λ r. omega (arith, r.indexed, c.if-i
 
 pub returns : goal.returns
 returns c = test_holds _ (record {
-      treed = omega (arith, c.if-rows-lt256.false);
-      rowed = omega (arith, c.if-xs-lt128.false);
-      between = omega (arith, c.if-mid-lt258.false);
-      answered = omega (arith, c.if-dst-lt536.false);
-      masked = omega (arith, c.if-masks-lt256.false);
-      indexed = omega (arith, c.if-index-lt129.false);
-    })
+  treed = omega (arith, c.if-rows-lt256.false);
+  rowed = omega (arith, c.if-xs-lt128.false);
+  between = omega (arith, c.if-mid-lt258.false);
+  answered = omega (arith, c.if-dst-lt536.false);
+  masked = omega (arith, c.if-masks-lt256.false);
+  indexed = omega (arith, c.if-index-lt129.false);
+})

@@ -46,9 +46,9 @@ adjust_input_keys_ordering-requires c = key_suited c.args.lists.now c.args.count
 
 pub returns : goal.returns
 returns c = let d = c.adjust_input_keys_ordering in (
-      d.ensures.0,
-      key_decided c.args.lists.now c.args.counts.now d.result (c.operator-k.ensures ∙ ap operator_of c.held.ensures)
-          c.held-r.ensures c.held-l.ensures c.held-g.ensures
-          (from_start c.rule_rows-n.result c.rule_rows-n.new.rows ∙ c.rule_rows-n.ensures.2 ∙ ap pair_rows c.held-2.ensures) c.held-o.ensures c.held-a.ensures c.held-m.ensures
-          d.ensures.1,
-    )
+  d.ensures.0,
+  key_decided c.args.lists.now c.args.counts.now d.result (c.operator-k.ensures ∙ ap operator_of c.held.ensures)
+      c.held-r.ensures c.held-l.ensures c.held-g.ensures
+      (from_start c.rule_rows-n.result c.rule_rows-n.new.rows ∙ c.rule_rows-n.ensures.2 ∙ ap pair_rows c.held-2.ensures) c.held-o.ensures c.held-a.ensures c.held-m.ensures
+      d.ensures.1,
+)

@@ -47,10 +47,10 @@ join_keys_to_inputs-requires c = join_suited c.args.lists.now c.args.counts.now 
 
 pub returns : goal.returns
 returns c = let d = c.join_keys_to_inputs in let e = c.held-head.ensures in (
-      d.ensures.0,
-      join_decided c.args.lists.now c.args.counts.now d.result (ap (λ (l : List ℕ). get_or l 0 0) e) (ap (λ (l : List ℕ). get_or l 1 0) e)
-          c.held-l.ensures c.held-g.ensures c.held-h.ensures c.held-n.ensures
-          (from_start c.rule_rows-p.result c.rule_rows-p.new.rows ∙ c.rule_rows-p.ensures.2 ∙ ap pair_rows c.held.ensures)
-          (from_start c.rule_rows-q.result c.rule_rows-q.new.rows ∙ c.rule_rows-q.ensures.2 ∙ ap pair_rows c.held-2.ensures)
-          d.ensures.1,
-    )
+  d.ensures.0,
+  join_decided c.args.lists.now c.args.counts.now d.result (ap (λ (l : List ℕ). get_or l 0 0) e) (ap (λ (l : List ℕ). get_or l 1 0) e)
+      c.held-l.ensures c.held-g.ensures c.held-h.ensures c.held-n.ensures
+      (from_start c.rule_rows-p.result c.rule_rows-p.new.rows ∙ c.rule_rows-p.ensures.2 ∙ ap pair_rows c.held.ensures)
+      (from_start c.rule_rows-q.result c.rule_rows-q.new.rows ∙ c.rule_rows-q.ensures.2 ∙ ap pair_rows c.held-2.ensures)
+      d.ensures.1,
+)

@@ -1,6 +1,5 @@
 -- `moves::moved::moved_side` meets its contract. The array filled so far, with what is left of the keys, is all the keys (`fill_turn`).
 use mathlib.Core.Path.{◌≡◌, refl, sym, ◌∙◌}
-use Prim.Native.Nat.{◌-◌}
 use native.Mathlib.Omega.{arith}
 use lib.ListN.{length-set}
 use Rattle.keys.specs.Values.{packed_keys}
@@ -27,11 +26,11 @@ overflow_add-i c = let m = c.moved_keys-k.ensures.0 in omega (arith, c.loop-i-te
 
 pub loop-i-preserved : goal.loop-i-preserved
 loop-i-preserved c = let k = c.moved_keys-k.result in let m = c.moved_keys-k.ensures.0 in let v = c.loop-i.invariant in let t = c.loop-i-test.true in (
-      omega (arith, t),
-      simp length-set v.1,
-      fill_turn (packed_keys k) c.loop-i.out c.loop-i.i v.2 _ 0 (rw (key_length k.items k.count (omega (arith, m.full, m.fits))) t) (omega (arith, v.1))
-          (sym (key_entry k.items k.count c.loop-i.i t)),
-    )
+  omega (arith, t),
+  simp length-set v.1,
+  fill_turn (packed_keys k) c.loop-i.out c.loop-i.i v.2 _ 0 (rw (key_length k.items k.count (omega (arith, m.full, m.fits))) t) (omega (arith, v.1))
+      (sym (key_entry k.items k.count c.loop-i.i t)),
+)
 
 pub returns : goal.returns
 returns c = let k = c.moved_keys-k.result in let m = c.moved_keys-k.ensures in let v = c.loop-i.invariant in let e : c.loop-i.i ≡ k.count = omega (arith, v.0, c.loop-i-test.false) in

@@ -1,6 +1,5 @@
 -- `moves::moved::wide_positions` meets its contract. The room filled so far, with what is left, is the positions (`fill_turn`).
 use mathlib.Core.Path.{◌≡◌}
-use Prim.Native.Nat.{◌-◌}
 use native.Mathlib.Omega.{arith}
 use lib.ListN.{length}
 use Rattle.keys.proofs.Turns.{fill_turn, fill_end}

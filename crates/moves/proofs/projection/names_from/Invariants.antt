@@ -8,7 +8,7 @@ use Rattle.sheet.specs.KeyAnswers.{projected_numbers}
 use Rattle.moves.proofs.projection.names_from.Given as goal
 
 abbrev pub invariant-loop-i : goal.invariant-loop-i
-invariant-loop-i l =     (l.i ≤ length l.a) × (l.n ≡ l.at + l.i * 2) × (length l.out ≡ 128)
+invariant-loop-i l = (l.i ≤ length l.a) × (l.n ≡ l.at + l.i * 2) × (length l.out ≡ 128)
     × (take l.n l.out ++ projected_numbers (names_from (l.first + l.i) (drop l.i l.a)) ≡ take l.at l.initial.out ++ projected_numbers (names_from l.first l.a))
 
 abbrev pub decreases-loop-i : goal.decreases-loop-i

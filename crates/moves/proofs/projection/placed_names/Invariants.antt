@@ -8,7 +8,7 @@ use Rattle.sheet.specs.KeyAnswers.{projected_numbers}
 use Rattle.moves.proofs.projection.placed_names.Given as goal
 
 abbrev pub invariant-loop-i : goal.invariant-loop-i
-invariant-loop-i l =     (l.i ≤ length l.o) × (length l.out ≡ 128)
+invariant-loop-i l = (l.i ≤ length l.o) × (length l.out ≡ 128)
     × (take (l.i + l.i) l.out ++ projected_numbers (placed_names (drop l.i l.o) (drop l.i l.places)) ≡ projected_numbers (placed_names l.o l.places))
 
 abbrev pub decreases-loop-i : goal.decreases-loop-i

@@ -10,8 +10,8 @@ use Rattle.needs.proofs.status.get_repartition_requirement_status.Goals as goal
 
 pub returns : goal.returns
 returns c k need count facts = let a = c.args in λ j. record {
-      child = k;
-      roundrobin_beneficial = is_set (sym facts j).gains;
-      roundrobin_beneficial_stats = (c.rows_gain-stats.ensures ∙ ap (λ (f : ChildFacts). rows_gain a.s f) (sym facts)) j;
-      hash_necessary = (c.hash_necessary-necessary.ensures ∙ (λ i. is_keyed (sym need i) && (ltb 1 (sym count i) || a.aligned))) j;
-    }
+  child = k;
+  roundrobin_beneficial = is_set (sym facts j).gains;
+  roundrobin_beneficial_stats = (c.rows_gain-stats.ensures ∙ ap (λ (f : ChildFacts). rows_gain a.s f) (sym facts)) j;
+  hash_necessary = (c.hash_necessary-necessary.ensures ∙ (λ i. is_keyed (sym need i) && (ltb 1 (sym count i) || a.aligned))) j;
+}

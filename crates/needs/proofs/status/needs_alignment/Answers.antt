@@ -1,7 +1,6 @@
 -- `needs::status::needs_alignment` meets its contract: the children from i on ask as all of them do, since none before i asks.
 use mathlib.Core.Path.{refl, sym, ap, ◌∙◌}
 use mathlib.Core.List.{List, map}
-use Prim.Native.Nat.{◌-◌}
 use native.Mathlib.Omega.{arith}
 use Rattle.exchange.specs.declared.status.Asked.{Asked}
 use Rattle.exchange.specs.Status.{needs_alignment}

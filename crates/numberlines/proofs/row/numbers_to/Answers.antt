@@ -1,5 +1,5 @@
 -- `numberlines::row::numbers_to` meets its contract. What was stored so far stands on the line so far (`numbers_more`).
-use Prim.Native.Nat.{◌+◌, ◌-◌, ◌<◌}
+use Prim.Native.Nat.{◌+◌, ◌<◌}
 use mathlib.Core.Path.{◌≡◌, refl, subst}
 use native.Mathlib.Omega.{arith}
 use lib.ListN.{length, length-set}
@@ -37,8 +37,7 @@ loop-i-smaller c = omega (arith, c.loop-i-test.true)
 
 pub loop-i-preserved : goal.loop-i-preserved
 loop-i-preserved c =
-    let read : NumberAt c.args.most c.args.s.now (c.loop-i.p + 1) c.in-Number.value c.in-Number.end 44 = subst (λ (x : Found). NumberTo c.args.most c.args.s.now (c.loop-i.p + 1) 44 x) c.in-Number.is c.number_to.ensures in
-    (
+    let read : NumberAt c.args.most c.args.s.now (c.loop-i.p + 1) c.in-Number.value c.in-Number.end 44 = subst (λ (x : Found). NumberTo c.args.most c.args.s.now (c.loop-i.p + 1) 44 x) c.in-Number.is c.number_to.ensures in (
       numbers_more _ _ _ _ _ _ _ _ c.loop-i.invariant.0 _ _ (read),
       omega (arith, c.loop-i-test.true),
       simp length-set c.loop-i.invariant.2,

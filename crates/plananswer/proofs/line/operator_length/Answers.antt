@@ -14,30 +14,30 @@ pub returns-clause-exact : goal.returns-clause-exact
 unfolding row_line
 returns-clause-exact c = let x = c.args.x in let l : c.field_length.result ≡ length (field_text (limit_field (limit_of (get_or x 4 0) (get_or x 5 0)))) =
     c.field_length.ensures.exact ∙ ap (λ (f : Field). length (field_text f)) (c.limit_state-state.ensures (get_or x 5 0)) in omega (
-        arith,
-        operator_long (operator_of (unpacked x)) (children_of x),
-        c.number_length.ensures.exact,
-        c.number_length-2.ensures.exact,
-        c.number_length-3.ensures.exact,
-        c.number_length-4.ensures.exact,
-        c.number_length-5.ensures.exact,
-        c.number_length-6.ensures.exact,
-        c.number_length-7.ensures.exact,
-        c.number_length-8.ensures.exact,
-      )
+      arith,
+      operator_long (operator_of (unpacked x)) (children_of x),
+      c.number_length.ensures.exact,
+      c.number_length-2.ensures.exact,
+      c.number_length-3.ensures.exact,
+      c.number_length-4.ensures.exact,
+      c.number_length-5.ensures.exact,
+      c.number_length-6.ensures.exact,
+      c.number_length-7.ensures.exact,
+      c.number_length-8.ensures.exact,
+    )
 
 pub returns-clause-few : goal.returns-clause-few
 unfolding row_line
 returns-clause-few c = let x = c.args.x in let l : c.field_length.result ≡ length (field_text (limit_field (limit_of (get_or x 4 0) (get_or x 5 0)))) =
     c.field_length.ensures.exact ∙ ap (λ (f : Field). length (field_text f)) (c.limit_state-state.ensures (get_or x 5 0)) in omega (
-        arith,
-        c.number_length.ensures.few,
-        c.number_length-2.ensures.few,
-        c.number_length-3.ensures.few,
-        c.number_length-4.ensures.few,
-        c.field_length.ensures.few,
-        c.number_length-5.ensures.few,
-        c.number_length-6.ensures.few,
-        c.number_length-7.ensures.few,
-        c.number_length-8.ensures.few,
-      )
+      arith,
+      c.number_length.ensures.few,
+      c.number_length-2.ensures.few,
+      c.number_length-3.ensures.few,
+      c.number_length-4.ensures.few,
+      c.field_length.ensures.few,
+      c.number_length-5.ensures.few,
+      c.number_length-6.ensures.few,
+      c.number_length-7.ensures.few,
+      c.number_length-8.ensures.few,
+    )

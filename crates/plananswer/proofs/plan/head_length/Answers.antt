@@ -5,19 +5,19 @@ use Rattle.plananswer.proofs.plan.head_length.Goals as goal
 
 pub returns-clause-exact : goal.returns-clause-exact
 returns-clause-exact c = let a = c.args in omega (
-        arith,
-        head_long a.changed a.window a.interleave a.tracked,
-        c.number_length.ensures.exact,
-        c.number_length-2.ensures.exact,
-        c.number_length-3.ensures.exact,
-        c.number_length-4.ensures.exact,
-      )
+  arith,
+  head_long a.changed a.window a.interleave a.tracked,
+  c.number_length.ensures.exact,
+  c.number_length-2.ensures.exact,
+  c.number_length-3.ensures.exact,
+  c.number_length-4.ensures.exact,
+)
 
 pub returns-clause-few : goal.returns-clause-few
 returns-clause-few c = omega (
-        arith,
-        c.number_length.ensures.few,
-        c.number_length-2.ensures.few,
-        c.number_length-3.ensures.few,
-        c.number_length-4.ensures.few,
-      )
+  arith,
+  c.number_length.ensures.few,
+  c.number_length-2.ensures.few,
+  c.number_length-3.ensures.few,
+  c.number_length-4.ensures.few,
+)

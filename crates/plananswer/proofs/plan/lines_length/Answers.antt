@@ -1,5 +1,4 @@
 -- `lines_length` meets its contract: the length so far, with that of the lines from row `i` on, is that of all lines.
-use Prim.Native.Nat.{◌-◌}
 use native.Mathlib.Omega.{arith}
 use mathlib.Core.Path.{ap}
 use lib.ListN.{length}

@@ -7,8 +7,8 @@ use Rattle.plananswer.proofs.plan.plan_text_length.Goals as goal
 pub returns : goal.returns
 unfolding rows_text
 returns c = let a = c.args in omega (
-      arith,
-      c.head_length.ensures.exact,
-      c.lines_length.ensures.exact,
-      length-append (head_line a.changed a.window a.interleave a.tracked) (lines_of row_line a.rows.now),
-    )
+  arith,
+  c.head_length.ensures.exact,
+  c.lines_length.ensures.exact,
+  length-append (head_line a.changed a.window a.interleave a.tracked) (lines_of row_line a.rows.now),
+)

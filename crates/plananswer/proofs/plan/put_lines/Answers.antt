@@ -1,5 +1,4 @@
 -- `put_lines` meets its contract: the lines from row `i` on are left to write.
-use Prim.Native.Nat.{◌-◌}
 use Rattle.lines.proofs.Pieces.{writing_first, writing_room, writing_more, writing_done}
 use Rattle.plananswer.specs.RowTexts.{row_line}
 use Rattle.plananswer.proofs.RowLines.{lines_pieces}

@@ -1,6 +1,5 @@
 -- `plansheet::facts::copy_values` meets its contract: what is stored, with the values from i on, is the whole.
 use mathlib.Core.Path.{refl, sym, ◌∙◌}
-use Prim.Native.Nat.{◌-◌}
 use native.Mathlib.Omega.{arith}
 use lib.ListN.{length-set}
 use Rattle.plansheet.proofs.Overs.{copy_more, copy_done}

@@ -2,7 +2,7 @@
 use mathlib.Core.Path.{◌≡◌, refl, sym, ap, subst, ◌∙◌}
 use mathlib.Core.List.{List}
 use mathlib.Core.Option.{Option}
-use Prim.Native.Nat.{◌-◌, ◌≤◌, ◌<◌}
+use Prim.Native.Nat.{◌≤◌, ◌<◌}
 use native.Mathlib.Omega.{arith}
 use lib.ListN.{length, set}
 use Rattle.text.specs.Text.{Field, line_at, after}
@@ -40,7 +40,7 @@ returns-then-m-eq1 c =
     let told : L.Refused c.number_of-m.result ≡ read_by (line_number fact_line c.loop-next.n ((after c.args.s.now c.loop-next.p)) ((line_at 88 c.args.s.now c.loop-next.p))) ((after c.args.s.now c.loop-next.p)) ((line_at 88 c.args.s.now c.loop-next.p)) = ap L.Refused (c.number_of-m.ensures ∙ ap number_of c.in_default.is) ∙ sym c.in_default.is ∙ c.read_fact-r.ensures.answer c.loop-next.n in
     let number : line_number fact_line c.loop-next.n ((after c.args.s.now c.loop-next.p)) ((line_at 88 c.args.s.now c.loop-next.p)) ≡ c.number_of-m.result = (turned fact_line c.loop-next.n ((after c.args.s.now c.loop-next.p)) ((line_at 88 c.args.s.now c.loop-next.p)) _ (told)).0 in
     let both =
-        head_done number_rows _ numbers_made fact_line _ _ _ _ _ _ _ _ c.loop-next.invariant.0 (one_none fact_line c.loop-next.n ((after c.args.s.now c.loop-next.p)) ((line_at 88 c.args.s.now c.loop-next.p)) (number ∙ c.if-m-eq1.true)) in
+    head_done number_rows _ numbers_made fact_line _ _ _ _ _ _ _ _ c.loop-next.invariant.0 (one_none fact_line c.loop-next.n ((after c.args.s.now c.loop-next.p)) ((line_at 88 c.args.s.now c.loop-next.p)) (number ∙ c.if-m-eq1.true)) in
     record { answer = both.0; left = rw (alone c.if-m-eq1.true) both.1 }
 
 pub shape_of-fields-in_default : goal.shape_of-fields-in_default

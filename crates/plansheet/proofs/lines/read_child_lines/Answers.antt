@@ -1,6 +1,5 @@
 -- `plansheet::lines::read_child_lines` meets its contract: F lines, X rows and the Y line, each where the one before ends (`Wholes`).
 use mathlib.Core.Path.{sym, ap, ◌∙◌}
-use Prim.Native.Nat.{◌-◌}
 use native.Mathlib.Omega.{arith}
 use Rattle.plansheet.specs.PlanLines.{child_shape, child_line, fact_line}
 use Rattle.plansheet.specs.ReadRows.{number_rows, run_from}
@@ -68,5 +67,5 @@ returns-clause-held c =
     let o = child in
     let x = rows in
     let n = counted_long child_shape c.args.children 0 c.args.line c.args.at _ o.rs o.ls _ _ o.is in (λ b g h.
-          let k = sym (facts_on (c.args.s.now) c.args.children c.args.line c.args.at b _ _ _ _ _ o _ _ _ _ _ x) ∙ h in
-          children_held c.args.children (c.args.s.now) b c.args.line c.args.at _ _ _ _ _ o _ _ _ _ _ x _ _ n g k (c.read_masks.ensures.held b o.rs x.rs g k))
+    let k = sym (facts_on (c.args.s.now) c.args.children c.args.line c.args.at b _ _ _ _ _ o _ _ _ _ _ x) ∙ h in
+    children_held c.args.children (c.args.s.now) b c.args.line c.args.at _ _ _ _ _ o _ _ _ _ _ x _ _ n g k (c.read_masks.ensures.held b o.rs x.rs g k))

@@ -63,6 +63,6 @@ returns-clause-held c =
     let vals : row_values (take (c.in-Line.count - 0) c.node_line-b.new.fields) ≡ values (took).fs = single_values node_shape (c.args.s.now) c.args.line c.args.at _ _ (took) c.args.fields.now _ c.node_line-b.ensures.stored (room) in
     let long : c.in-Line.count ≡ 4 = single_long node_shape (c.args.s.now) c.args.line c.args.at _ _ (took) in
     let e = node_on (c.args.s.now) c.args.children c.args.line c.args.at _ _ (took) in (λ g f.
-          let k = sym e ∙ f in
-          facts_held c.args.children (c.args.s.now) (took).fs _ _ g k c.args.node.now _ _ _ _ _ _ _
-          (c.copy_values.ensures ∙ ap (sets c.args.node.now 0) (vals)) (sym (took).counts ∙ long) (c.read_child_lines.ensures.held (took).fs g k))
+    let k = sym e ∙ f in
+    facts_held c.args.children (c.args.s.now) (took).fs _ _ g k c.args.node.now _ _ _ _ _ _ _
+    (c.copy_values.ensures ∙ ap (sets c.args.node.now 0) (vals)) (sym (took).counts ∙ long) (c.read_child_lines.ensures.held (took).fs g k))

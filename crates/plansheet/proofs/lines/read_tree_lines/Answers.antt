@@ -55,5 +55,5 @@ returns-clause-left c =
     let vals : row_values (take (c.in-Line.count - 0) c.settings_line-r.new.fields) ≡ values (took).fs = single_values settings_shape (c.args.s.now) 1 0 _ _ (took) c.args.fields.now _ c.settings_line-r.ensures.stored (room) in
     let long : c.in-Line.count ≡ 9 = single_long settings_shape (c.args.s.now) 1 0 _ _ (took) in
     rw (head_on (c.args.s.now) _ _ (took)) (tree_left (c.args.s.now) (run_from plan_line 1 (c.args.s.now) 2 c.in-Line.next) c.args.head.now _ c.args.rows.now c.read_plan_tree.new.rows
-          (c.copy_values.ensures ∙ ap (sets c.args.head.now 0) (vals ∙ ap values (sym (head_is (c.args.s.now) _ _ (took)))))
-          (ap length (head_is (c.args.s.now) _ _ (took)) ∙ sym (took).counts ∙ long) c.read_plan_tree.ensures.left)
+    (c.copy_values.ensures ∙ ap (sets c.args.head.now 0) (vals ∙ ap values (sym (head_is (c.args.s.now) _ _ (took)))))
+    (ap length (head_is (c.args.s.now) _ _ (took)) ∙ sym (took).counts ∙ long) c.read_plan_tree.ensures.left)

@@ -1,5 +1,4 @@
 -- `plansheet::operator::wide_bounds` meets its contract. Each bound so far is wide.
-use Prim.Native.Nat.{◌-◌}
 use mathlib.Core.Bool.{true≢false}
 use mathlib.Core.Path.{sym}
 use native.Mathlib.Omega.{arith}

@@ -42,9 +42,9 @@ returns-clause-answer c =
     let part : length (take (c.args.children - 0) c.args.facts.now) ≡ c.args.children = let z : c.args.children - 0 ≡ c.args.children = omega arith in
     rw z (length-take-le c.args.children c.args.facts.now (omega (arith, c.requires.filled.rooms.few, c.requires.in_bounds.0))) in
     let a = c.args in (λ st t g e r.
-          let w = worked_rooms t a.rows.now r.rest a.worked r.stands r.place in
-          c.facts_fit.ensures st w.operator (node_facts (values g.node)) w.below w.rest e (sym w.count ∙ sym r.many ∙ sym (part)) w.stands
-          ∙ rooms_fit t g a.rows.now a.facts.now a.xs.now a.masks.now a.worked a.children a.n r c.if-xs-n.false _ c.sets_of-many.ensures st)
+    let w = worked_rooms t a.rows.now r.rest a.worked r.stands r.place in
+    c.facts_fit.ensures st w.operator (node_facts (values g.node)) w.below w.rest e (sym w.count ∙ sym r.many ∙ sym (part)) w.stands
+    ∙ rooms_fit t g a.rows.now a.facts.now a.xs.now a.masks.now a.worked a.children a.n r c.if-xs-n.false _ c.sets_of-many.ensures st)
 
 pub returns-clause-indexed : goal.returns-clause-indexed
 returns-clause-indexed c =

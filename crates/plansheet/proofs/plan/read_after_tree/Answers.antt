@@ -87,7 +87,7 @@ returns-clause-answer c =
     let a = c.args in read_facts (child_count t) a.line a.at (parts 10 (drop a.at a.s.now)) ≡ sheet (lines).lines = λ t rest h. let a = c.args in ap (λ (k : ℕ). read_facts k a.line a.at (parts 10 (drop a.at a.s.now))) (sym (many t rest h)) ∙ (lines).is in
     let g = lines in
     let j = c.judge_plan.ensures in (λ t rest h l.
-          j.answer t g.lines l (rooms t rest h) ∙ ap (λ (y : Reading FactLines). plan_by (with_facts ((settings_of c.args.head.now)) t y)) (sym (facts_are t rest h)))
+    j.answer t g.lines l (rooms t rest h) ∙ ap (λ (y : Reading FactLines). plan_by (with_facts ((settings_of c.args.head.now)) t y)) (sym (facts_are t rest h)))
 
 pub returns-clause-held : goal.returns-clause-held
 returns-clause-held c =
@@ -105,8 +105,8 @@ returns-clause-held c =
     let a = c.args in read_facts (child_count t) a.line a.at (parts 10 (drop a.at a.s.now)) ≡ sheet (lines).lines = λ t rest h. let a = c.args in ap (λ (k : ℕ). read_facts k a.line a.at (parts 10 (drop a.at a.s.now))) (sym (many t rest h)) ∙ (lines).is in
     let a = c.args in let g = lines in
     let j = c.judge_plan.ensures in (λ t rest x h l f.
-          let q = ap (with_facts ((settings_of c.args.head.now)) t) (sym (facts_are t rest h)) ∙ f in
-          let i = j.indexed x (j.answer t g.lines l (rooms t rest h) ∙ ap plan_by q) in
-          plan_held t g.lines a.rows.now rest c.remove_dist_changing_operators-worked.result c.children_at-children.result c.in-Read.n a.node.now _ a.facts.now _ a.xs.now _ a.masks.now _
-          h (worked t rest h).0 (many t rest h) (few) g.counted c.requires.in_bounds.3 c.requires.in_bounds.5 (c.read_fact_lines-f.ensures.held g.lines g.is)
-          c.requires.in_bounds.2 ((settings_of c.args.head.now)) x (judged_is ((settings_of c.args.head.now)) t g.lines x q) i.0 _ i.1)
+    let q = ap (with_facts ((settings_of c.args.head.now)) t) (sym (facts_are t rest h)) ∙ f in
+    let i = j.indexed x (j.answer t g.lines l (rooms t rest h) ∙ ap plan_by q) in
+    plan_held t g.lines a.rows.now rest c.remove_dist_changing_operators-worked.result c.children_at-children.result c.in-Read.n a.node.now _ a.facts.now _ a.xs.now _ a.masks.now _
+    h (worked t rest h).0 (many t rest h) (few) g.counted c.requires.in_bounds.3 c.requires.in_bounds.5 (c.read_fact_lines-f.ensures.held g.lines g.is)
+    c.requires.in_bounds.2 ((settings_of c.args.head.now)) x (judged_is ((settings_of c.args.head.now)) t g.lines x q) i.0 _ i.1)

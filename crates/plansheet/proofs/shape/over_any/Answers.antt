@@ -1,6 +1,5 @@
 -- `plansheet::shape::over_any` meets its contract. The fields from i on are over their largest exactly where all of them are (`Overs`).
 use mathlib.Core.Path.{refl, sym, ◌∙◌}
-use Prim.Native.Nat.{◌-◌}
 use native.Mathlib.Omega.{arith}
 use Rattle.plansheet.proofs.Overs.{over_short, over_done, over_here, over_later}
 use Rattle.plansheet.proofs.shape.over_any.Goals as goal

@@ -16,7 +16,6 @@ use Rattle.plansheet.proofs.Shaped.{fields_row_lem}
 use Rattle.plansheet.proofs.Turns.{Taken, taken, turned}
 use Rattle.plansheet.proofs.FineLines.{fine_long, fine_rows, tree_small}
 use Rattle.plansheet.proofs.PlainTrees.{row_read, row_refused}
-use borrow.Author.Rules.{rules}
 use Rattle.linekinds.specs.declared.line.Read.TheVariants as L
 use Rattle.plansheet.specs.declared.tree.TreeRow.TheVariants as R
 use Rattle.plansheet.proofs.tree.judged_row.Goals as goal
@@ -57,7 +56,7 @@ returns-clause-answer c =
     let row_is : c.operator_row-row.result ≡ operator_row (c.args.seen + 1) (fields_of ((line_at c.args.letter (c.args.s.now) c.args.at))) = c.operator_row-row.ensures ∙ ap (fields_row (c.args.seen + 1)) (rows_are) ∙ fields_row_lem (c.args.seen + 1) (took).fs
     ∙ ap (λ (x : Option (List Field)). operator_row (c.args.seen + 1) (fields_of x)) (sym (took).is) in
     let i = row_is in ap (λ (n : ℕ). R.Row n c.in-Line.next) (ap (λ (x : List ℕ). get_or x 10 0) i)
-          ∙ row_read (number_at ((tree_line (shape_of c.args.letter c.args.bounds.now c.args.sizes.now c.args.codes.now) c.args.rules.now c.args.most)) c.args.seen (c.args.s.now) c.args.at) ((after (c.args.s.now) c.args.at)) ((line_at c.args.letter (c.args.s.now) c.args.at)) _ _ (sym c.in-Line.is ∙ c.tree_line-r.ensures.answer)
+    ∙ row_read (number_at ((tree_line (shape_of c.args.letter c.args.bounds.now c.args.sizes.now c.args.codes.now) c.args.rules.now c.args.most)) c.args.seen (c.args.s.now) c.args.at) ((after (c.args.s.now) c.args.at)) ((line_at c.args.letter (c.args.s.now) c.args.at)) _ _ (sym c.in-Line.is ∙ c.tree_line-r.ensures.answer)
 
 pub returns-clause-stored : goal.returns-clause-stored
 returns-clause-stored c =

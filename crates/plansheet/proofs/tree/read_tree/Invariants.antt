@@ -1,7 +1,6 @@
 -- `plansheet::tree::read_tree` meets its contract. What is read from here, with the rows held in front, is the whole run (`Turns`).
 use mathlib.Core.Path.{◌≡◌}
 use Prim.Native.Nat.{◌+◌, ◌-◌, ◌*◌, ◌≤◌}
-use borrow.Author.Rules.{rules}
 use lib.ListN.{length}
 use Rattle.linekinds.specs.Lines.{Kind}
 use Rattle.plansheet.specs.Shapes.{tree_line}
@@ -11,7 +10,7 @@ use Rattle.plansheet.proofs.Turns.{from, Head}
 use Rattle.plansheet.proofs.tree.read_tree.Given as goal
 
 abbrev pub invariant-loop-owed : goal.invariant-loop-owed
-invariant-loop-owed l =     let k : Kind = tree_line (shape_of l.letter l.bounds l.sizes l.codes) l.rules l.most in
+invariant-loop-owed l = let k : Kind = tree_line (shape_of l.letter l.bounds l.sizes l.codes) l.rules l.most in
     Head (operator_rows 1) k l.s (from k l.s 1 0 l.line l.at) l.initial.rows l.rows l.p l.l l.n l.owed × (l.n ≤ l.most) × (l.owed ≤ 1 + 8 * l.n) × (length l.fields ≡ length l.initial.fields)
 
 abbrev pub decreases-loop-owed : goal.decreases-loop-owed

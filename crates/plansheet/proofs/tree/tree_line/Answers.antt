@@ -9,7 +9,6 @@ use Rattle.text.proofs.Answers.{Passed, passed, rows_held}
 use Rattle.plansheet.specs.Shapes.{tree_line}
 use Rattle.plansheet.specs.ReadRows.{shape_of, tree_number}
 use Rattle.plansheet.proofs.Shaped.{codes_number, passed_long, not_line, line_refused, line_turned, line_read_lem, tree_codes}
-use borrow.Author.Rules.{rules}
 use borrow.Enum.Refused.{opened}
 use Rattle.plansheet.proofs.tree.tree_line.Goals as goal
 

@@ -1,7 +1,6 @@
 -- `plansheet::tree::tree_number` meets its contract. One law for each way out (`Shaped`).
 use mathlib.Core.Path.{sym, ◌∙◌}
 use Rattle.plansheet.proofs.Shaped.{tree_limited, tree_most, tree_wide, tree_shape, tree_kind, tree_fit, tree_unfit}
-use borrow.Author.Rules.{rules}
 use Rattle.plansheet.proofs.tree.tree_number.Goals as goal
 
 pub returns-then-exchange_limited : goal.returns-then-exchange_limited

@@ -3,12 +3,11 @@ use mathlib.Core.Path.{◌≡◌, ap, subst, ◌∙◌}
 use mathlib.Core.List.{List, []}
 use Prim.Native.Nat.{ℕ, ◌<◌}
 use native.Mathlib.Omega.{arith}
-use lib.ListN.{length, get_or, set, length-set}
+use lib.ListN.{get_or, set, length-set}
 use lib.Seq.{get_or-set_same, set-set}
 use Rattle.numberlines.specs.declared.row.Plain.{Plain}
 use Rattle.plansheet.specs.PlainTrees.{PlainShape, OperatorHeld, OperatorRead}
 use Rattle.plansheet.proofs.PlainTrees.{quick_held, quick_row}
-use borrow.Author.Rules.{rules}
 use Rattle.plansheet.proofs.tree.tree_row.Goals as goal
 use Rattle.plansheet.proofs.tree.tree_row.Goals.{then-seen-quick+in_default, else-seen-quick}
 
@@ -31,7 +30,7 @@ returns-in-Line-clause-answer c =
     let shape : let a = c.args in PlainShape a.letter a.bounds.now a.sizes.now a.codes.now = c.requires.plain_shape.0 (omega (arith, c.if-seen-quick.true)) in
     let a = c.args in let d = held in
     let f : a.seen < a.most = omega (arith, c.if-seen-quick.true, c.requires.plain_shape) in quick_row a.letter a.bounds.now a.sizes.now a.codes.now a.rules.now a.most a.seen a.s.now a.at (shape) c.requires.in_bounds.2 f _ _ d _
-          (ap (λ (r : List ℕ). get_or r 10 0) (get_or-set_same a.rows.now a.seen c.operator_read-r.new.row [] (omega (arith, c.if-seen-quick.true, c.requires.plain_shape))))
+    (ap (λ (r : List ℕ). get_or r 10 0) (get_or-set_same a.rows.now a.seen c.operator_read-r.new.row [] (omega (arith, c.if-seen-quick.true, c.requires.plain_shape))))
 
 pub returns-in-Line-clause-stored : goal.returns-in-Line-clause-stored
 returns-in-Line-clause-stored c =
@@ -45,9 +44,9 @@ pub returns-clause-stored : goal.returns-clause-stored
 returns-clause-stored c =
     let a = c.args in
     let over : (x : List ℕ) → set c.if-seen-quick.rows a.seen x ≡ set a.rows.now a.seen x =
-        λ x. elim c.if-seen-quick.branch [
-          then-seen-quick+in_default w ↦ ap (λ (rs : List (List ℕ)). set rs a.seen x) w.rows-is ∙ set-set a.rows.now a.seen w.operator_read-r.new.row x
-        | else-seen-quick w ↦ ap (λ (rs : List (List ℕ)). set rs a.seen x) w.rows-is
-        ]
+    λ x. elim c.if-seen-quick.branch [
+      | then-seen-quick+in_default w ↦ ap (λ (rs : List (List ℕ)). set rs a.seen x) w.rows-is ∙ set-set a.rows.now a.seen w.operator_read-r.new.row x
+      | else-seen-quick w ↦ ap (λ (rs : List (List ℕ)). set rs a.seen x) w.rows-is
+    ]
     in
     λ z. c.judged_row.ensures.stored z ∙ over _

@@ -81,4 +81,4 @@ returns-clause-held c =
     let n : c.line_count-n.result ≡ line_count a.k t.fs = c.line_count-n.ensures ∙ ap (count_by a.k) (seventh) ∙ counted a.s.now _ _ _ a.k t in
     let rest : Run = lines_from a.s.now a.k 1 (line_count a.k t.fs - 1) c.in-Packed.next in
     let g : HeldLines a.s.now a.k 1 rest c.read_lists.new.lists c.read_lists.new.counts = rw n at e.held in rw w (held_whole a.s.now a.k t.fs rest _ _ g
-          (head_still a.k _ _ _ _ t.fs e.kept (held_here a.k a.lists.now a.counts.now 0 _ _ a.s.now 0 _ t (omega (arith, c.requires.1, lists_some a.k)) (omega (arith, c.requires.2, lists_some a.k)))))
+    (head_still a.k _ _ _ _ t.fs e.kept (held_here a.k a.lists.now a.counts.now 0 _ _ a.s.now 0 _ t (omega (arith, c.requires.1, lists_some a.k)) (omega (arith, c.requires.2, lists_some a.k)))))

@@ -1,7 +1,6 @@
 -- `sheet::read::read_lists` meets its contract. What was read, before what is left, is the whole (`SheetTurns`).
 use mathlib.Core.Path.{◌≡◌, refl, ap, ◌∙◌}
 use mathlib.Core.List.{[]}
-use Prim.Native.Nat.{◌-◌}
 use native.Mathlib.Omega.{arith}
 use lib.ListN.{length-set}
 use Rattle.sheet.specs.SheetLines.{turned_number}
@@ -10,11 +9,11 @@ use Rattle.sheet.proofs.read.read_lists.Goals as goal
 
 pub loop-i-init : goal.loop-i-init
 loop-i-init c = let a = c.args in let h = c.requires in (
-      refl,
-      omega arith,
-      head_first a.s.now a.k a.n a.at a.lists.now a.counts.now h.1,
-      record { lists_long = refl; counts_long = refl; full = h.5; list = refl; count = refl },
-    )
+  refl,
+  omega arith,
+  head_first a.s.now a.k a.n a.at a.lists.now a.counts.now h.1,
+  record { lists_long = refl; counts_long = refl; full = h.5; list = refl; count = refl },
+)
 
 pub offset_bounds-lists-i : goal.offset_bounds-lists-i
 offset_bounds-lists-i c = omega (arith, c.loop-i-test.true, c.requires.2)
@@ -62,11 +61,11 @@ loop-i-smaller c = omega (arith, c.loop-i-test.true)
 
 pub loop-i-preserved : goal.loop-i-preserved
 loop-i-preserved c = let a = c.args in let v = c.loop-i.invariant in let e = c.read_list-r.ensures in let g = c.loop-i-test.true in let t = taken a.s.now a.k c.loop-i.i c.loop-i.p _ _ _ _ e c.in-Packed.is in (
-      omega (arith, v.0, c.read_list-r.auto.rows),
-      omega (arith, v.1),
-      head_more a.s.now a.k a.n _ c.loop-i.i c.loop-i.p c.loop-i.l c.loop-i.lists c.loop-i.counts v.2 _ _ _ g (omega (arith, c.requires.3, v.3.lists_long)) (omega (arith, c.requires.4, v.3.counts_long)) t,
-      kept_count a.k _ c.loop-i.counts c.loop-i.i [] _ a.lists.now a.counts.now v.1 (kept_list a.k c.loop-i.lists c.loop-i.counts c.loop-i.i _ 0 a.lists.now a.counts.now v.1 v.3 e.full),
-    )
+  omega (arith, v.0, c.read_list-r.auto.rows),
+  omega (arith, v.1),
+  head_more a.s.now a.k a.n _ c.loop-i.i c.loop-i.p c.loop-i.l c.loop-i.lists c.loop-i.counts v.2 _ _ _ g (omega (arith, c.requires.3, v.3.lists_long)) (omega (arith, c.requires.4, v.3.counts_long)) t,
+  kept_count a.k _ c.loop-i.counts c.loop-i.i [] _ a.lists.now a.counts.now v.1 (kept_list a.k c.loop-i.lists c.loop-i.counts c.loop-i.i _ 0 a.lists.now a.counts.now v.1 v.3 e.full),
+)
 
 pub shape_of-rows : goal.shape_of-rows
 shape_of-rows c = c.loop-i.invariant.0

@@ -7,7 +7,7 @@ use Rattle.sheet.proofs.SheetTurns.{Head}
 use Rattle.sheet.proofs.read.read_lists.Given as goal
 
 abbrev pub invariant-loop-i : goal.invariant-loop-i
-invariant-loop-i l =     (length l.rows ≡ length l.initial.rows) × (1 ≤ l.i) × Head l.s l.k l.n (lines_from l.s l.k 1 (l.n - 1) l.at) l.i l.p l.l l.lists l.counts × HeadKept l.initial.lists l.initial.counts l.lists l.counts
+invariant-loop-i l = (length l.rows ≡ length l.initial.rows) × (1 ≤ l.i) × Head l.s l.k l.n (lines_from l.s l.k 1 (l.n - 1) l.at) l.i l.p l.l l.lists l.counts × HeadKept l.initial.lists l.initial.counts l.lists l.counts
 
 abbrev pub decreases-loop-i : goal.decreases-loop-i
 decreases-loop-i l = l.n - l.i

@@ -1,6 +1,5 @@
 -- `rows_fit` meets its contract: what the rows from `i` on give is what all of them give.
 use mathlib.Core.Path.{◌≡◌, refl, sym, ◌∙◌}
-use Prim.Native.Nat.{◌-◌}
 use native.Mathlib.Omega.{arith}
 use lib.ListN.{length}
 use Rattle.text.proofs.Limits.{uneven, fits_end, fits_state, fits_value, fits_next}

@@ -1,5 +1,4 @@
 -- `field_end` meets its contract: the place of the first comma or LF from `i` on is that from `at` on.
-use Prim.Native.Nat.{◌-◌}
 use mathlib.Core.Path.{refl}
 use native.Mathlib.Omega.{arith}
 use Rattle.text.proofs.Scanning.{span_end, span_comma, span_lf, span_next}

@@ -1,5 +1,4 @@
 -- `more_digits` meets its contract: the field that goes on at `i` after `n` is the whole one, and the byte at `i` says how.
-use Prim.Native.Nat.{◌-◌}
 use native.Mathlib.Omega.{arith}
 use Rattle.text.proofs.Digits.{going_first, going_end, Byte, byte_comma, byte_lf, byte_low, byte_high, byte_zero, byte_over, byte_digit}
 use Rattle.text.proofs.field.more_digits.Goals as goal

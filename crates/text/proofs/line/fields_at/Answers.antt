@@ -1,5 +1,4 @@
 -- `fields_at` meets its contract: what the fields from `i` on give, after those stored and counted, is what all of them give.
-use Prim.Native.Nat.{◌-◌}
 use mathlib.Core.Path.{sym, ◌∙◌}
 use native.Mathlib.Omega.{arith}
 use Rattle.text.proofs.Scanning.{goes_on}

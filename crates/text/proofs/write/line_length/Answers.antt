@@ -1,5 +1,4 @@
 -- `line_length` meets its contract: the length so far, with that of the rows from `i` on, is the line's.
-use Prim.Native.Nat.{◌-◌}
 use native.Mathlib.Omega.{arith}
 use Rattle.text.proofs.Measuring.{adding_first, adding_more, adding_done}
 use Rattle.text.proofs.write.line_length.Goals as goal

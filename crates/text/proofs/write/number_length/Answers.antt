@@ -1,5 +1,4 @@
 -- `number_length` meets its contract: the powers of ten up to `n` are counted.
-use Prim.Native.Nat.{◌-◌}
 use native.Mathlib.Omega.{arith}
 use Rattle.text.proofs.Decimal.{decimal_below}
 use Rattle.text.proofs.Measuring.{counting_first, counting_more, counted}

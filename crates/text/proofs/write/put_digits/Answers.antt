@@ -1,6 +1,5 @@
 -- `put_digits` meets its contract: what is left of the digits stands before the place `i`.
 use mathlib.Core.Path.{refl}
-use Prim.Native.Nat.{◌-◌}
 use native.Mathlib.Omega.{arith}
 use lib.ListN.{length-set}
 use Rattle.text.proofs.Decimal.{decimal_some}

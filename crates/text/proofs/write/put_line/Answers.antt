@@ -1,7 +1,6 @@
 -- `put_line` meets its contract: what is left of the line is written from `p` on.
 use mathlib.Core.Path.{◌∙◌}
 use mathlib.Core.List.{map}
-use Prim.Native.Nat.{◌-◌}
 use native.Mathlib.Omega.{arith}
 use Rattle.text.specs.Write.{row_field}
 use Rattle.text.proofs.Lengths.{line_length}
