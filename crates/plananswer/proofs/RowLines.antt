@@ -10,13 +10,13 @@ use lib.Dec.{eqb}
 use lib.ListN.{length, get_or, take, drop, length-append}
 use lib.Seq.{sets, sets-eq, take_at}
 use Rattle.text.specs.Text.{Field, number, empty}
-use Rattle.text.specs.Write.{decimal, field_text, fields_text, line_text}
+use Rattle.text.specs.Write.{decimal, field_text, fields_text}
 use Rattle.text.proofs.Lengths.{line_length}
 use Rattle.exchange.specs.Trees.{node, none, ◌∷ᶠ◌, trees, Operator, Plan, Plans}
 use Rattle.exchange.specs.Rows.{limit_mark, limit_number, limit_of, row_of, flatten, flattens}
 use Rattle.exchange.specs.Ensure.{Answer}
 use Rattle.plansheet.specs.PlanTexts.{limit_field as marked_limit}
-use Rattle.lines.proofs.Pieces.{joined, pieces, pieces_later}
+use Rattle.lines.proofs.Pieces.{pieces, pieces_later}
 use Rattle.plananswer.specs.PlanTexts.{limit_field, operator_fields, operator_line, plan_lines, plans_lines, plan_answer_text}
 use Rattle.plananswer.specs.RowTexts.{of_row, lines_of, row_line, head_line, rows_text}
 
@@ -82,22 +82,6 @@ pub lines_pieces : (line : List ℕ → List ℕ) (xs : List (List ℕ)) → lin
 unfolding lines_of pieces
 lines_pieces line [] = refl
 lines_pieces line (x ∷ xs) = ap (λ (t : List ℕ). line x ++ t) (lines_pieces line xs ∙ sym (pieces_later (line_piece line (x ∷ xs)) 0 (length xs)))
-
--- ---- a line field by field
-
--- a comma and each field, and an LF
-abbrev pub field_parts : List Field → List (List ℕ)
-field_parts [] = (10 ∷ []) ∷ []
-field_parts (f ∷ fs) = (44 ∷ field_text f) ∷ field_parts fs
-
-fields_joined : (fs : List Field) → fields_text fs ++ (10 ∷ []) ≡ joined (field_parts fs)
-unfolding fields_text
-fields_joined [] = refl
-fields_joined (f ∷ fs) = append_assoc (44 ∷ field_text f) (fields_text fs) (10 ∷ []) ∙ ap (λ (t : List ℕ). 44 ∷ (field_text f ++ t)) (fields_joined fs)
-
-pub line_joined : (letter : ℕ) (fs : List Field) → line_text letter fs ≡ joined ((letter ∷ []) ∷ field_parts fs)
-unfolding line_text
-line_joined letter fs = ap (λ (t : List ℕ). letter ∷ t) (fields_joined fs)
 
 -- ---- lengths
 

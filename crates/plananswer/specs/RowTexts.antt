@@ -1,10 +1,11 @@
 -- Cited by the contracts: lines from rows, and the answer's text from the numbers of its d line and the rows of its tree.
 -- That the rows of a tree give its lines is proved in proofs/RowLines.antt.
 use Rattle.std.specs.Prelude.{ℕ, List, [], ◌∷◌, ◌++◌}
+use Rattle.text.specs.Text.{Field}
 use Rattle.sheet.specs.KeyAnswers.{numbers_line}
 use Rattle.exchange.specs.Trees.{Operator}
 use Rattle.exchange.specs.Rows.{unpacked, children_of, operator_of}
-use Rattle.plananswer.specs.PlanTexts.{operator_line}
+use Rattle.plananswer.specs.PlanTexts.{operator_fields, operator_line}
 
 -- what is said of the operator, and the number of its children, that a row stands for
 abbrev pub of_row : {A : Type 0} → (Operator → ℕ → A) → List ℕ → A
@@ -14,6 +15,10 @@ of_row f x = f (operator_of (unpacked x)) (children_of x)
 unfoldable pub lines_of : {A : Type 0} → (A → List ℕ) → List A → List ℕ
 lines_of line [] = []
 lines_of line (x ∷ xs) = line x ++ lines_of line xs
+
+-- the fields of a row's t line
+abbrev pub row_fields : List ℕ → List Field
+row_fields x = of_row operator_fields x
 
 -- a row's t line
 unfoldable pub row_line : List ℕ → List ℕ

@@ -1,12 +1,12 @@
-// The t line of an operator's row: the state of its limit, its exact length, its bytes.
-ghost use Rattle.std.specs.Prelude.{◌≡◌, ℕ, ◌+◌, ◌≤◌, length};
-ghost use Rattle.text.specs.Write.{field_of, Wrote};
+// The t line of an operator's row: its fields, its exact length, its bytes.
+ghost use Rattle.std.specs.Prelude.{◌≡◌, map, ℕ, ◌+◌, ◌≤◌, length};
+ghost use Rattle.text.specs.Write.{field_of, row_field, Wrote};
 ghost use Rattle.exchange.specs.Rows.{limit_of};
 ghost use Rattle.plananswer.specs.PlanTexts.{limit_field};
-ghost use Rattle.plananswer.specs.RowTexts.{row_line};
+ghost use Rattle.plananswer.specs.RowTexts.{row_fields, row_line};
 
 use exchange::row::{CHILDREN, COUNT, ID, KEEPS, KIND, LIMIT, LIMITED, MASK, ORDER, Row, TRACKED};
-use text::write::{field_length, number_length, put_byte, put_field};
+use text::write::{field_length, number_length, put_line};
 
 // The state of a limit's field, by its mark: 1, empty, where there is none.
 pub(crate) fn limit_state(limited: u64) -> u64
@@ -16,6 +16,24 @@ pub(crate) fn limit_state(limited: u64) -> u64
         return 1;
     }
     0
+}
+
+// The fields of a row's t line, a state and a value each.
+fn operator_fields(x: Row) -> [[u64; 2]; 9]
+    ensures { map row_field result ≡ row_fields x }
+{
+    let state = limit_state(x[LIMITED]);
+    [
+        [0, x[ID]],
+        [0, x[KIND]],
+        [0, x[COUNT]],
+        [0, x[KEEPS]],
+        [state, x[LIMIT]],
+        [0, x[ORDER]],
+        [0, x[MASK]],
+        [0, x[TRACKED]],
+        [0, x[CHILDREN]],
+    ]
 }
 
 // The length of a row's t line.
@@ -30,20 +48,11 @@ pub(crate) fn operator_length(x: Row) -> usize
     11 + a + b + c
 }
 
-// A row's t line, each field straight from the row: to gather them first takes longer.
+// A row's t line.
 pub(crate) fn put_operator(out: &mut [u8], at: usize, x: Row) -> usize
     requires { at + length (row_line x) ≤ length out.old }
     ensures { Wrote out.old at (row_line x) out.new result }
 {
-    let a = put_byte(out, at, 116);
-    let b = put_field(out, a, 0, x[ID]);
-    let c = put_field(out, b, 0, x[KIND]);
-    let d = put_field(out, c, 0, x[COUNT]);
-    let e = put_field(out, d, 0, x[KEEPS]);
-    let f = put_field(out, e, limit_state(x[LIMITED]), x[LIMIT]);
-    let g = put_field(out, f, 0, x[ORDER]);
-    let h = put_field(out, g, 0, x[MASK]);
-    let i = put_field(out, h, 0, x[TRACKED]);
-    let j = put_field(out, i, 0, x[CHILDREN]);
-    put_byte(out, j, 10)
+    let fields = operator_fields(x);
+    put_line(out, at, 116, &fields)
 }

@@ -13,8 +13,8 @@ use Rattle.sheet.proofs.KeyRows.{either_false}
 use Rattle.exchange.specs.FactRows.{fact_row}
 use Rattle.exchange.specs.Found.{child_of, form_number}
 use Rattle.exchange.specs.Fit.{is_repeated, none_repeated}
-use Rattle.fits.specs.FitRows.{row_fits_by, rows_fit_by, fact_rows_fit}
-use Rattle.fits.proofs.Fitting.{fits_known, same}
+use Rattle.plansheet.specs.FitRows.{row_fits_by, rows_fit_by, fact_rows_fit}
+use Rattle.plansheet.proofs.Fitting.{fits_known, same}
 
 unfoldable has : ℕ → List ℕ → Bool
 has x [] = false

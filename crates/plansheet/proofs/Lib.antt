@@ -11,6 +11,8 @@ pub mod Wholes
 pub mod RunCases
 pub mod RunBytes
 pub mod OneTree
+pub mod Fitting
+pub mod FitTrees
 pub mod Crowded
 pub mod PlanFitted
 pub mod PlanWhole

@@ -26,7 +26,7 @@ use Rattle.plansheet.specs.PlanLines.{two_to}
 use Rattle.plansheet.specs.PlanSheets.{FactLines, children_rows, fact_rows, facts_of, child_count, beneath}
 use Rattle.plansheet.specs.ReadRows.{number_rows}
 use Rattle.plansheet.specs.PlanRooms.{PlanRooms}
-use Rattle.fits.proofs.FitTrees.{worked_fits_lem, fit_all, places_many}
+use Rattle.plansheet.proofs.FitTrees.{worked_fits_lem, fit_all, places_many}
 use Rattle.plansheet.proofs.Crowded.{crowd_unfit}
 
 -- ---- the worked node

@@ -5,5 +5,6 @@ pub mod PlanTexts
 pub mod ReadRows
 pub mod PlainFacts
 pub mod ReadPlans
+pub mod FitRows
 pub mod PlanRooms
 pub mod PlainTrees

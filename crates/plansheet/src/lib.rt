@@ -2,6 +2,7 @@
 #![tactic(auto)]
 
 pub mod facts;
+pub mod fit;
 pub mod line;
 pub mod lines;
 pub mod operator;

@@ -19,7 +19,7 @@ use exchange::row::{Row, children_at};
 use exchange::settings::{Checked, Settings};
 use exchange::status::ChildRow;
 use exchange::worked::remove_dist_changing_operators;
-use fits::fit::facts_fit;
+use crate::fit::facts_fit;
 
 // A sheet stands in the rooms lent: its settings, the tree's lines, the place of the worked node, its children and the X rows; or a refusal and its line.
 #[derive(Clone, Copy)]

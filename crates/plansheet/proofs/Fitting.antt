@@ -17,7 +17,7 @@ use Rattle.exchange.specs.declared.fact.Fact.TheVariants.{Row, Missing}
 use Rattle.exchange.specs.FactRows.{fact_row}
 use Rattle.exchange.specs.Found.{child_of, form_number, later, row_for, found_of}
 use Rattle.exchange.specs.Fit.{within_bits, all_within_bits, is_repeated, none_repeated}
-use Rattle.fits.specs.FitRows.{count_fits_by, child_fits_by, row_fits_by, rows_fit_by, found_at}
+use Rattle.plansheet.specs.FitRows.{count_fits_by, child_fits_by, row_fits_by, rows_fit_by, found_at}
 
 -- ---- bits
 

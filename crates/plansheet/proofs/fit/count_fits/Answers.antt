@@ -1,8 +1,8 @@
 -- `fits::fit::count_fits` meets its contract. One law for each way out (`Fitting`).
 use mathlib.Core.Path.{sym, ◌∙◌}
 use native.Mathlib.Omega.{arith}
-use Rattle.fits.proofs.Fitting.{count_related, count_exchange, count_merge, count_split, count_other, count_own}
-use Rattle.fits.proofs.fit.count_fits.Goals as goal
+use Rattle.plansheet.proofs.Fitting.{count_related, count_exchange, count_merge, count_split, count_other, count_own}
+use Rattle.plansheet.proofs.fit.count_fits.Goals as goal
 
 pub returns-then-relationship_of-eq1 : goal.returns-then-relationship_of-eq1
 returns-then-relationship_of-eq1 c = let a = c.args in count_related a.target a.form a.count a.order a.own a.sorted (sym c.relationship_of.ensures ∙ c.if-relationship_of-eq1.true)

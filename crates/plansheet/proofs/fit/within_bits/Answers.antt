@@ -1,7 +1,7 @@
 -- `fits::fit::within_bits` meets its contract: halving the mask and counting down keeps the answer (`Fitting`).
 use mathlib.Core.Path.{sym, ◌∙◌}
-use Rattle.fits.proofs.Fitting.{within_zero, within_more, within_done}
-use Rattle.fits.proofs.fit.within_bits.Goals as goal
+use Rattle.plansheet.proofs.Fitting.{within_zero, within_more, within_done}
+use Rattle.plansheet.proofs.fit.within_bits.Goals as goal
 
 pub returns-then-m-eq0 : goal.returns-then-m-eq0
 returns-then-m-eq0 c = let l = c.loop-k in sym (l.invariant ∙ rw c.if-m-eq0.true (within_zero l.k))

@@ -22,7 +22,7 @@ use Rattle.exchange.specs.Fit.{child_numbered, row_fits_child, row_fits, rows_fi
 use Rattle.exchange.proofs.Stored.{past, first_at}
 use Rattle.exchange.proofs.PlacesRead.{stored_part}
 use Rattle.exchange.proofs.TreeRows.{first_row, flattens_cons, row_node}
-use Rattle.fits.specs.FitRows.{count_fits_by, child_fits_by, row_fits_by, rows_fit_by, fact_rows_fit, Placed}
+use Rattle.plansheet.specs.FitRows.{count_fits_by, child_fits_by, row_fits_by, rows_fit_by, fact_rows_fit, Placed}
 
 pub children_long : (m : ℕ) (ts : Plans) (facts : List (List ℕ)) → length (children_from m ts (map child_facts facts)) ≡ trees ts
 unfolding children_from

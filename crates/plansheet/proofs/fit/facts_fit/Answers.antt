@@ -9,8 +9,8 @@ use Rattle.exchange.specs.Trees.{trees, Plans}
 use Rattle.exchange.specs.Rows.{flattens}
 use Rattle.exchange.specs.Places.{places_of}
 use Rattle.exchange.specs.Fit.{all_within_bits}
-use Rattle.fits.proofs.FitTrees.{tests_say, placed, places_part, places_many}
-use Rattle.fits.proofs.fit.facts_fit.Goals as goal
+use Rattle.plansheet.proofs.FitTrees.{tests_say, placed, places_part, places_many}
+use Rattle.plansheet.proofs.fit.facts_fit.Goals as goal
 
 pub rows_fit-requires-clause-facts_len : goal.rows_fit-requires-clause-facts_len
 rows_fit-requires-clause-facts_len c =

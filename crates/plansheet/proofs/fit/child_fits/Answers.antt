@@ -3,8 +3,8 @@ use mathlib.Core.Path.{◌≡◌, sym, ap, ◌∙◌}
 use lib.ListN.{get_or}
 use Rattle.exchange.specs.declared.row.Node.{Node}
 use Rattle.exchange.specs.Rows.{node_at}
-use Rattle.fits.specs.FitRows.{count_fits_by}
-use Rattle.fits.proofs.fit.child_fits.Goals as goal
+use Rattle.plansheet.specs.FitRows.{count_fits_by}
+use Rattle.plansheet.proofs.fit.child_fits.Goals as goal
 
 pub returns-then-not-count_fits : goal.returns-then-not-count_fits
 returns-then-not-count_fits c =

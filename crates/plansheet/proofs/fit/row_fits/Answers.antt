@@ -1,8 +1,8 @@
 -- `fits::fit::row_fits` meets its contract. One law for each way out (`Fitting`).
 use mathlib.Core.Path.{◌∙◌}
 use native.Mathlib.Omega.{arith}
-use Rattle.fits.proofs.Fitting.{row_form, row_zero, row_beyond, row_known}
-use Rattle.fits.proofs.fit.row_fits.Goals as goal
+use Rattle.plansheet.proofs.Fitting.{row_form, row_zero, row_beyond, row_known}
+use Rattle.plansheet.proofs.fit.row_fits.Goals as goal
 
 pub returns-then-x-gt15 : goal.returns-then-x-gt15
 returns-then-x-gt15 c = let a = c.args in row_form a.target a.rows.now a.places.now a.facts.now c.args.x c.if-x-gt15.true

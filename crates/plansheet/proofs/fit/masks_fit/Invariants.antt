@@ -3,7 +3,7 @@ use mathlib.Core.Path.{◌≡◌}
 use Prim.Native.Nat.{◌≤◌, ◌-◌}
 use lib.ListN.{length, drop}
 use Rattle.exchange.specs.Fit.{all_within_bits}
-use Rattle.fits.proofs.fit.masks_fit.Given as goal
+use Rattle.plansheet.proofs.fit.masks_fit.Given as goal
 
 abbrev pub invariant-loop-i : goal.invariant-loop-i
 invariant-loop-i l = (l.i ≤ length l.masks) × (all_within_bits l.n l.masks ≡ all_within_bits l.n (drop l.i l.masks))

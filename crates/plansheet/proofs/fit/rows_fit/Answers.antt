@@ -6,9 +6,9 @@ use native.Mathlib.Omega.{arith}
 use lib.ListN.{length, get_or, take, length-take}
 use lib.Seq.{get_or-take}
 use Rattle.exchange.specs.Found.{child_of, form_number, row_for}
-use Rattle.fits.specs.FitRows.{row_fits_by}
-use Rattle.fits.proofs.Fitting.{fits_known, good_more, good_all, bad_row, bad_pair, found_here, found_else}
-use Rattle.fits.proofs.fit.rows_fit.Goals as goal
+use Rattle.plansheet.specs.FitRows.{row_fits_by}
+use Rattle.plansheet.proofs.Fitting.{fits_known, good_more, good_all, bad_row, bad_pair, found_here, found_else}
+use Rattle.plansheet.proofs.fit.rows_fit.Goals as goal
 
 pub loop-i-init : goal.loop-i-init
 loop-i-init c = (omega arith, (λ j h. absurd (omega arith)))

@@ -8,7 +8,7 @@ ghost use Rattle.exchange.specs.Rows.{flattens};
 ghost use Rattle.exchange.specs.Runs.{StandAll};
 ghost use Rattle.exchange.specs.Found.{index_of};
 ghost use Rattle.exchange.specs.Fit.{within_bits, all_within_bits, worked_fits};
-ghost use Rattle.fits.specs.FitRows.{count_fits_by, child_fits_by, row_fits_by, fact_rows_fit, Placed, found_at};
+ghost use Rattle.plansheet.specs.FitRows.{count_fits_by, child_fits_by, row_fits_by, fact_rows_fit, Placed, found_at};
 
 use exchange::fact::{CHILD, CONST, COUNT, FORM, Fact, FactRow, ORDER, fact_row};
 use exchange::form::{relationship_of, split_of, top_of};

@@ -1,7 +1,7 @@
 -- `fits::fit::within_bits` meets its contract: halving the mask and counting down keeps the answer (`Fitting`).
 use mathlib.Core.Path.{◌≡◌}
 use Rattle.exchange.specs.Fit.{within_bits}
-use Rattle.fits.proofs.fit.within_bits.Given as goal
+use Rattle.plansheet.proofs.fit.within_bits.Given as goal
 
 abbrev pub invariant-loop-k : goal.invariant-loop-k
 invariant-loop-k l = within_bits l.n l.mask ≡ within_bits l.k l.m

@@ -1,8 +1,8 @@
 -- `fits::fit::masks_fit` meets its contract: the masks from i on fit exactly where all do (`Fitting`).
 use mathlib.Core.Path.{refl, sym, ◌∙◌}
 use native.Mathlib.Omega.{arith}
-use Rattle.fits.proofs.Fitting.{masks_bad, masks_good, masks_end}
-use Rattle.fits.proofs.fit.masks_fit.Goals as goal
+use Rattle.plansheet.proofs.Fitting.{masks_bad, masks_good, masks_end}
+use Rattle.plansheet.proofs.fit.masks_fit.Goals as goal
 
 pub loop-i-init : goal.loop-i-init
 loop-i-init c = (omega arith, refl)
