@@ -11,6 +11,7 @@ ghost use Rattle.sheet.specs.KeySheets.{sheet};
 ghost use Rattle.plansheet.specs.PlanSheets.{PlanSheet, FactLines, settings_of, facts_of, plan_sheet, judged_plan, with_facts, child_count, read_facts, read_plan};
 ghost use Rattle.plansheet.specs.PlanRooms.{PlanRooms, Filled, TreeStands, RoomFor, Suffices, plan_by, tree_refused, facts_refused, PlanHeld};
 
+use crate::fit::facts_fit;
 use crate::line::sets_of;
 use crate::lines::{Facts, read_fact_lines, read_tree_lines};
 use crate::tree::Rows;
@@ -19,7 +20,6 @@ use exchange::row::{Row, children_at};
 use exchange::settings::{Checked, Settings};
 use exchange::status::ChildRow;
 use exchange::worked::remove_dist_changing_operators;
-use crate::fit::facts_fit;
 
 // A sheet stands in the rooms lent: its settings, the tree's lines, the place of the worked node, its children and the X rows; or a refusal and its line.
 #[derive(Clone, Copy)]
