@@ -1,5 +1,5 @@
 /*
- * Lochkave: decisions on sheets, from bytes to bytes. Link target/staticlib/liblochkave.a, which `rt staticlib lochkave` writes.
+ * Lochkave: decisions on sheets, from bytes to bytes. Link target/staticlib/liblochkave.a, which `tools/staticlib lochkave` writes.
  *
  * Every function takes a sheet of `sheet_len` bytes and an output of `out_len` bytes. The two must not overlap. A length may be 0; the
  * pointer is then not read, but must not be null. Any bytes may be handed over as a sheet.
