@@ -1,36 +1,15 @@
 // Decides the sheet on standard input: the answer goes to standard output, or `e,number,line`. It reads at most 1 MiB.
 #![tactic(auto)]
 
-ghost use Rattle.std.specs.Prelude.{◌≡◌, ◌≤◌, IfOk, length};
+ghost use Rattle.std.specs.Prelude.{◌≡◌, length};
 
+use input::{large_buffer, read_full};
 use std::io;
-use std::io::Read;
 
 fn mebibyte() -> [u8; 1048576]
     ensures { 1048576 ≡ length result }
 {
     [0; 1048576]
-}
-
-fn large_buffer() -> [u8; 65536]
-    ensures { 65536 ≡ length result }
-{
-    [0; 65536]
-}
-
-// Reads until the room is full or the input ends: how many bytes stand at the room's front.
-fn read_full(input: &mut impl Read, room: &mut [u8]) -> io::Result<usize>
-    ensures { IfOk result (λ n. n ≤ length room.new) }
-{
-    let mut done: usize = 0;
-    while done < room.len() {
-        let n = input.read(&mut room[done..])?;
-        if n == 0 {
-            break;
-        }
-        done += n;
-    }
-    Ok(done)
 }
 
 fn length_of(res: u64) -> usize {

@@ -4,10 +4,10 @@
 // Where no case follows, it writes `?` and ends.
 #![tactic(auto)]
 
-ghost use Rattle.std.specs.Prelude.{◌≡◌, ◌≤◌, IfOk, length};
+ghost use Rattle.std.specs.Prelude.{◌≡◌, length};
 
+use input::{large_buffer, read_full};
 use std::io;
-use std::io::Read;
 
 // What the room is filled with before a call; no answer has it.
 const FILLED: u8 = 126;
@@ -16,27 +16,6 @@ fn mebibyte() -> [u8; 1048576]
     ensures { 1048576 ≡ length result }
 {
     [0; 1048576]
-}
-
-fn large_buffer() -> [u8; 65536]
-    ensures { 65536 ≡ length result }
-{
-    [0; 65536]
-}
-
-// Reads until the room is full or the input ends: how many bytes stand at the room's front.
-fn read_full(input: &mut impl Read, room: &mut [u8]) -> io::Result<usize>
-    ensures { IfOk result (λ n. n ≤ length room.new) }
-{
-    let mut done: usize = 0;
-    while done < room.len() {
-        let n = input.read(&mut room[done..])?;
-        if n == 0 {
-            break;
-        }
-        done += n;
-    }
-    Ok(done)
 }
 
 fn wide(b: u8) -> usize {
