@@ -12,7 +12,9 @@ use denote.Enum.Declared.{tag_of}
 use borrow.Author.Tests.{le-leb, le-ltb}
 use lib.Dec.{eqb}
 use lib.ListN.{length, get_or, set}
-use Rattle.text.specs.Text.{Field, number, empty, row, line_at, after}
+use Rattle.text.specs.declared.field.Field.{Field}
+use Rattle.text.specs.declared.field.Field.TheVariants.{Number as number, Empty as empty}
+use Rattle.text.specs.Text.{row, line_at, after}
 use Rattle.text.specs.Bounds.{row_within, fits_rows}
 use Rattle.linekinds.specs.Lines.{Kind, fields_of}
 use Rattle.linekinds.specs.Reading.{Small, row_values, read_by}

@@ -14,7 +14,9 @@ use lib.Dec.{eqb, leb, ltb}
 use lib.ListN.{length, get_or, take, drop, length-drop, length-map, take-append-drop, drop_of_length-le, replicate}
 use mathlib.Core.List.{◌++◌, append-nil}
 use borrow.Author.Tests.{eqb-true, eqb-false, eq-eqb, ne_eqb, lt-ltb, le-ltb, le-leb, lt-leb}
-use Rattle.text.specs.Text.{Field, number, value_of, state_of, row, greatest}
+use Rattle.text.specs.declared.field.Field.{Field}
+use Rattle.text.specs.declared.field.Field.TheVariants.{Number as number}
+use Rattle.text.specs.Text.{value_of, state_of, row, greatest}
 use Rattle.text.specs.Bounds.{fits, fits_rows, allows, allows_all, judged}
 use Rattle.text.specs.declared.bounds.Judged.{Judged}
 use Rattle.text.specs.declared.bounds.Judged.TheVariants as J

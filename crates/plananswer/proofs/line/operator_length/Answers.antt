@@ -2,7 +2,7 @@
 use mathlib.Core.Path.{◌≡◌, ap, ◌∙◌}
 use native.Mathlib.Omega.{arith}
 use lib.ListN.{length, get_or}
-use Rattle.text.specs.Text.{Field}
+use Rattle.text.specs.declared.field.Field.{Field}
 use Rattle.text.specs.Write.{field_text}
 use Rattle.exchange.specs.Rows.{limit_of, unpacked, children_of, operator_of}
 use Rattle.plananswer.specs.PlanTexts.{limit_field}
