@@ -1,8 +1,7 @@
 // A child's tree in its last form, after order handling.
-ghost use Rattle.std.specs.Prelude.{◌≡◌, map, ◌≤◌, length, take};
+ghost use Rattle.std.specs.Prelude.{◌≡◌, map, ◌≤◌, length};
 ghost use Rattle.exchange.specs.FactRows.{node_facts, child_facts, fact_row};
 ghost use Rattle.exchange.specs.Forms.{form_of};
-ghost use Rattle.exchange.specs.Found.{index_of};
 ghost use Rattle.exchange.specs.Rows.{node_of, operator_of};
 ghost use Rattle.exchange.specs.Runs.{Ready, Readys, Maps, MapsAll};
 ghost use Rattle.exchange.specs.Built.{built};
@@ -10,7 +9,7 @@ ghost use Rattle.exchange.specs.Order.{output_fetch};
 ghost use Rattle.exchange.specs.LastForm.{finished_child, finished_each, EachFinished, known_by};
 
 use crate::child::{build_child, row_in};
-use crate::fact::{self, FactRow};
+use crate::fact::{self, ChildForm, FactRow, FactRows};
 use crate::kind;
 use crate::order::{Known, handle_order};
 use crate::ordered::put_handled;
@@ -76,28 +75,23 @@ pub fn finish_child(
     b: NodeRow,
     worked: Node,
     children: u64,
-    child: u64,
-    form: u64,
+    c: ChildForm,
     need: u64,
     f: ChildRow,
-    index: &[u64],
-    rows: &[FactRow],
-    n: usize,
+    xs: FactRows,
     src: &[Row],
     at: usize,
     mid: &mut [Row],
     dst: &mut [Row],
     to: usize,
 ) -> Step
-    requires le_child { (1 ≤ child) × (child ≤ 8) × (form ≤ 15) × (n ≤ length rows.now) }
-    requires index_value { index.now ≡ index_of (take n rows.now) }
     requires worked_value { (node_of (operator_of worked) ≡ worked) × ((child_facts f).entries ≤ 8) }
-    requires ready { Ready (built (map fact_row (take n rows.now)) child (form_of form)) src.now at (length mid.old) 0 }
-    requires ready_2 { Ready (finished_child (map fact_row (take n rows.now)) child (form_of form) need (child_facts f) s (node_facts b) (operator_of worked) children) src.now at (length dst.old) to }
-    ensures { Maps (finished_child (map fact_row (take n rows.now)) child (form_of form) need (child_facts f) s (node_facts b) (operator_of worked) children) src.now at dst.old to dst.new result }
+    requires ready { Ready (built (map fact_row xs.rows.now) c.child (form_of c.form)) src.now at (length mid.old) 0 }
+    requires ready_2 { Ready (finished_child (map fact_row xs.rows.now) c.child (form_of c.form) need (child_facts f) s (node_facts b) (operator_of worked) children) src.now at (length dst.old) to }
+    ensures { Maps (finished_child (map fact_row xs.entry.rows.now) c.child (form_of c.form) need (child_facts f) s (node_facts b) (operator_of worked) children) src.now at dst.old to dst.new result }
 {
-    let read = build_child(index, rows, n, child, form, src, at, &mut *mid, 0);
-    let x = row_in(index, rows, n, child, form);
+    let read = build_child(xs, c, src, at, &mut *mid, 0);
+    let x = row_in(xs, c);
     let top = row::node_at(&*mid, 0);
     let h = handle_order(known(s, b, worked.kind, children, need, top.tracked, f, x));
     let put = put_handled(h, output_fetch(worked), &*mid, 0, &mut *dst, to);
@@ -117,27 +111,28 @@ pub fn finish_children(
     left: u64,
     forms: &[u64],
     facts: &[ChildRow],
-    index: &[u64],
-    rows: &[FactRow],
-    n: usize,
+    xs: FactRows,
     src: &[Row],
     at: usize,
     mid: &mut [Row],
     dst: &mut [Row],
     to: usize,
 ) -> Step
-    requires each_finished { EachFinished forms.now facts.now rows.now index.now n child left worked (length src.now) (length mid.old) }
-    requires readys { Readys (finished_each (map fact_row (take n rows.now)) forms.now facts.now s (node_facts b) (operator_of worked) children child) src.now at left (length dst.old) to }
-    ensures { MapsAll (finished_each (map fact_row (take n rows.now)) forms.now facts.now s (node_facts b) (operator_of worked) children child) src.now at left dst.old to dst.new result }
+    requires each_finished { EachFinished forms.now facts.now child left worked (length src.now) (length mid.old) }
+    requires readys { Readys (finished_each (map fact_row xs.rows.now) forms.now facts.now s (node_facts b) (operator_of worked) children child) src.now at left (length dst.old) to }
+    ensures { MapsAll (finished_each (map fact_row xs.entry.rows.now) forms.now facts.now s (node_facts b) (operator_of worked) children child) src.now at left dst.old to dst.new result }
 {
     if left == 0 {
         return Step { at: at, to: to };
     }
     let i = (child - 1) as usize;
     let need = row::node_at(src, at).need;
+    let c = ChildForm {
+        child: child,
+        form: forms[i],
+    };
     let m = finish_child(
-        s, b, worked, children, child, forms[i], need, facts[i], index, rows, n, src, at,
-        &mut *mid, &mut *dst, to,
+        s, b, worked, children, c, need, facts[i], xs, src, at, &mut *mid, &mut *dst, to,
     );
     let a = m.at;
     let z = m.to;
@@ -150,9 +145,7 @@ pub fn finish_children(
         left - 1,
         forms,
         facts,
-        index,
-        rows,
-        n,
+        xs,
         src,
         a,
         mid,

@@ -16,5 +16,4 @@ pub mod replace;
 pub mod row;
 pub mod settings;
 pub mod status;
-pub mod step;
 pub mod worked;
