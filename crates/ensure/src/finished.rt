@@ -10,18 +10,17 @@ ghost use Rattle.exchange.specs.FactRows.{node_facts};
 ghost use Rattle.exchange.specs.Rows.{node_of, operator_of, flatten, row_of};
 ghost use Rattle.exchange.specs.Ensure.{interleaved, child_states, finished, answered};
 ghost use Rattle.ensure.specs.Outcomes.{facts_by, Ends};
-ghost use Rattle.ensure.specs.Lent.{Known, Came};
+ghost use Rattle.ensure.specs.Lent.{Came};
 
 use crate::interleave::becomes_interleave;
-use crate::outcome::Ensured;
+use crate::outcome::Answered;
 use crate::update::mark_number;
-use exchange::fact::FactRow;
+use exchange::facts::PlanFacts;
 use exchange::finish::finish_children;
 use exchange::kind;
 use exchange::partitioning::{self, NodeRow};
 use exchange::row::{self, Node, Row};
 use exchange::settings::Settings;
-use exchange::status::ChildRow;
 use nodes::interleave_one;
 
 // The worked node's row, as an interleave where it becomes one.
@@ -52,22 +51,16 @@ fn window_mark(kind: u64, b: NodeRow) -> u64
 // The answer of the worked node at `at` and its children in their forms, at the front of `dst`.
 pub fn finish_worked(
     s: Settings,
-    b: NodeRow,
-    masks: &[u64],
+    f: PlanFacts,
     forms: &[u64],
-    facts: &[ChildRow],
-    index: &[u64],
-    rows: &[FactRow],
-    n: usize,
     src: &[Row],
     at: usize,
     mid: &mut [Row],
     dst: &mut [Row],
-) -> Ensured
-    requires known { Known facts.now rows.now index.now n }
-    requires facts_len_bound { (length facts.now ≤ 8) × (length src.now + 2 ≤ length mid.old) }
-    requires came { Came s (facts_by b facts.now (take n rows.now) masks.now) src.now at (length facts.now) forms.now (length dst.old) }
-    ensures { (t : Plan) (rest : List (List ℕ)) (cs : List ChildState) → drop at src.now ≡ flatten t ++ rest → child_states s (facts_by b facts.now (take n rows.now) masks.now) t ≡ enforced cs → forms.now ≡ form_numbers cs → Ends (answered (finished s (facts_by b facts.now (take n rows.now) masks.now) (root t) cs)) result dst.old dst.new }
+) -> Result<Answered, Unenforced>
+    requires roomy { length src.now + 2 ≤ length mid.old }
+    requires came { Came s (facts_by f.node f.children.now f.xs.rows.now f.masks.now) src.now at (length f.children.now) forms.now (length dst.old) }
+    ensures { (t : Plan) (rest : List (List ℕ)) (cs : List ChildState) → drop at src.now ≡ flatten t ++ rest → child_states s (facts_by f.entry.node f.entry.children.now f.entry.xs.rows.now f.entry.masks.now) t ≡ enforced cs → forms.now ≡ form_numbers cs → Ends (answered (finished s (facts_by f.entry.node f.entry.children.now f.entry.xs.rows.now f.entry.masks.now) (root t) cs)) result dst.old dst.new }
 {
     let below = at + 1;
     let worked = row::node_at(src, at);
@@ -77,7 +70,7 @@ pub fn finish_worked(
     let m = finish_children(
         s, b, worked, k, 1, k, forms, facts, index, rows, n, src, below, mid, &mut *dst, 1,
     );
-    Ensured::Answered {
+    Ok(Answered {
         changed: 1,
         window: window_mark(worked.kind, b),
         interleave: mark_number(i),

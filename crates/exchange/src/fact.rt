@@ -43,7 +43,7 @@ const NOWHERE: usize = 128;
 pub struct ChildForm {
     pub child: u64,
     pub form: u64,
-    pub ghost within: { (1 ≤ child) × ((child ≤ 8) × (form ≤ 15)) },
+    pub ghost within: { (1 ≤ child) × (child ≤ 8) × (form ≤ 15) },
 }
 
 // The X rows with their index.

@@ -3,6 +3,7 @@
 
 pub mod child;
 pub mod fact;
+pub mod facts;
 pub mod finish;
 pub mod form;
 pub mod kind;

@@ -1,5 +1,5 @@
 // The forms of the worked node's children: their steps, and then the relationship rounds.
-ghost use Rattle.std.specs.Prelude.{◌≡◌, List, [], map, ◌≤◌, length};
+ghost use Rattle.std.specs.Prelude.{◌≡◌, List, [], map, length};
 ghost use Rattle.exchange.specs.Trees.{Operator};
 ghost use Rattle.exchange.specs.Facts.{NodeFacts};
 ghost use Rattle.exchange.specs.States.{Child};
@@ -12,25 +12,22 @@ ghost use Rattle.exchange.specs.Turns.{answer, told};
 
 use crate::relationship::enforce_distribution_relationships;
 use crate::step::ensure_children;
-use exchange::fact::FactRows;
+use exchange::facts::PlanFacts;
 use exchange::partitioning::Worked;
 use exchange::relationship::Unenforced;
 use exchange::settings::Settings;
-use exchange::status::ChildRow;
 
 pub fn child_forms(
     s: Settings,
     w: Worked,
-    masks: &[u64],
+    f: PlanFacts,
     needs: &[u64],
     counts: &[u64],
-    facts: &[ChildRow],
-    xs: FactRows,
     forms: &mut [u64],
 ) -> Result<(), Unenforced>
-    requires counts_len { (length counts.now ≡ length needs.now) × (length facts.now ≡ length needs.now) × (length needs.now ≤ 8) × (length forms.old ≡ length needs.now) }
-    ensures { (o : Operator) (b : NodeFacts) (ks : List Child) → SameNode w o b → SameChildren (asked_by 1 needs.now counts.now facts.now) ks → answer result forms.new ≡ told (relate s (record { node = b; children = []; rows = map fact_row xs.entry.rows.now; masks = masks.now }) (ensure_children s o b (map fact_row xs.entry.rows.now) (get_repartition_requirement_status s ks))) }
+    requires counts_len { (length counts.now ≡ length needs.now) × (length f.children.now ≡ length needs.now) × (length forms.old ≡ length needs.now) }
+    ensures { (o : Operator) (b : NodeFacts) (ks : List Child) → SameNode w o b → SameChildren (asked_by 1 needs.now counts.now f.entry.children.now) ks → answer result forms.new ≡ told (relate s (record { node = b; children = []; rows = map fact_row f.entry.xs.rows.now; masks = f.entry.masks.now }) (ensure_children s o b (map fact_row f.entry.xs.rows.now) (get_repartition_requirement_status s ks))) }
 {
-    ensure_children(s, w, needs, counts, facts, xs, &mut *forms).ok_or(Unenforced::Missing)?;
-    enforce_distribution_relationships(masks, needs, forms, xs)
+    ensure_children(s, w, needs, counts, f.children, f.xs, &mut *forms).ok_or(Unenforced::Missing)?;
+    enforce_distribution_relationships(f.masks, needs, forms, f.xs)
 }

@@ -32,7 +32,6 @@ returns-then-left-eq0 c = λ cs s. let a = c.args in let l = c.loop-mask in roun
 pub any_givable-requires : goal.any_givable-requires
 any_givable-requires c = let p = c.requires in let l = c.loop-mask in record { needs_len_bound = (p.needs_len_bound.0, l.invariant.0 ∙ p.needs_len_bound.1, l.invariant.1) }
 
-
 pub shape_of-forms-then-not-any_givable : goal.shape_of-forms-then-not-any_givable
 shape_of-forms-then-not-any_givable c = c.loop-mask.invariant.0
 
@@ -41,8 +40,6 @@ returns-then-not-any_givable c = λ cs s. let a = c.args in let l = c.loop-mask 
 
 pub round-requires : goal.round-requires
 round-requires c = let p = c.requires in let l = c.loop-mask in record { needs_len_bound = (p.needs_len_bound.0, l.invariant.0 ∙ p.needs_len_bound.1, l.invariant.1) }
-
-
 
 pub shape_of-forms-in_err-ok_or : goal.shape_of-forms-in_err-ok_or
 shape_of-forms-in_err-ok_or c = omega (arith, c.loop-mask.invariant.0, c.round.auto.forms)

@@ -43,11 +43,12 @@ loop-i-preserved c = let a = c.args in let p = c.requires.counts_len in let l = 
     let t = asked_turn a.needs.now a.counts.now a.facts.now p.0 p.1 l.i c.loop-i-test.true in
     let e = c.ensure_child.ensures (worked_for a.w) (node_for a.w) (child_for x) (record { kind = refl; facts = refl }) (record { number = refl; need = refl; count = refl; facts = refl }) in
     let go = stepped a.s a.w a.aligned a.xs.rows.now in
-    let rest = each_form go (left a.needs.now a.counts.now a.facts.now (l.i + 1)) in
-    (simp length-set l.invariant.0,
-    each_turn _ l.forms l.i c.in_ok-forms.field-0 (omega (arith, l.invariant.0)) rest
-    (l.invariant.1 ∙ ap (λ (xs : List Asked). prepend (take l.i l.forms) (each_form go xs)) t
-    ∙ ap (λ (o : Answer ℕ). prepend (take l.i l.forms) (with_forms o rest)) (sym e ∙ c.in_ok-forms.was)))
+    let rest = each_form go (left a.needs.now a.counts.now a.facts.now (l.i + 1)) in (
+      simp length-set l.invariant.0,
+      each_turn _ l.forms l.i c.in_ok-forms.field-0 (omega (arith, l.invariant.0)) rest
+          (l.invariant.1 ∙ ap (λ (xs : List Asked). prepend (take l.i l.forms) (each_form go xs)) t
+          ∙ ap (λ (o : Answer ℕ). prepend (take l.i l.forms) (with_forms o rest)) (sym e ∙ c.in_ok-forms.was)),
+    )
 
 pub returns : goal.returns
 unfolding each_form
