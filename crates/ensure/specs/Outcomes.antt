@@ -5,6 +5,7 @@ use Rattle.std.proofs.lemmas.List.Edits.{sets}
 use Rattle.ensure.specs.declared.outcome.Answered.{Answered}
 use Rattle.exchange.specs.declared.relationship.Unenforced.{Unenforced}
 use Rattle.exchange.specs.declared.relationship.Unenforced.TheVariants.{Stuck, Missing}
+use Rattle.exchange.specs.declared.facts.PlanFacts.{PlanFacts}
 use Rattle.exchange.specs.Facts.{Facts}
 use Rattle.exchange.specs.FactRows.{node_facts, child_facts, fact_row}
 use Rattle.exchange.specs.Rows.{flatten}
@@ -13,6 +14,9 @@ use Rattle.exchange.specs.Ensure.{Ensured as Decided, missing_row, unenforceable
 -- the facts by their rows: B, F, X and the masks
 abbrev pub facts_by : List ℕ → List (List ℕ) → List (List ℕ) → List ℕ → Facts
 facts_by b facts rows masks = record { node = node_facts b; children = map child_facts facts; rows = map fact_row rows; masks = masks }
+
+abbrev pub facts_of : PlanFacts → Facts
+facts_of f = facts_by f.node f.children.now f.xs.rows.now f.masks.now
 
 -- how it ends: the d line's numbers, and how many t lines there are
 abbrev pub Ensured : Type 0

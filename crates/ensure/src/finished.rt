@@ -1,5 +1,5 @@
 // The answer, once the forms of the worked node's children are known.
-ghost use Rattle.std.specs.Prelude.{◌≡◌, cond, ◌&&◌, List, ◌++◌, ℕ, ◌+◌, ◌<◌, ◌≤◌, eqb, length, take, drop, set};
+ghost use Rattle.std.specs.Prelude.{◌≡◌, cond, ◌&&◌, List, ◌++◌, ℕ, ◌+◌, ◌<◌, ◌≤◌, eqb, length, drop, set, Ok};
 ghost use Rattle.exchange.specs.Trees.{root, Plan};
 ghost use Rattle.exchange.specs.Settings.{is_set};
 ghost use Rattle.exchange.specs.States.{ChildState};
@@ -9,13 +9,12 @@ ghost use Rattle.exchange.specs.Operators.{mark};
 ghost use Rattle.exchange.specs.FactRows.{node_facts};
 ghost use Rattle.exchange.specs.Rows.{node_of, operator_of, flatten, row_of};
 ghost use Rattle.exchange.specs.Ensure.{interleaved, child_states, finished, answered};
-ghost use Rattle.ensure.specs.Outcomes.{facts_by, Ends};
+ghost use Rattle.ensure.specs.Outcomes.{facts_of, Ends};
 ghost use Rattle.ensure.specs.Lent.{Came};
 
 use crate::interleave::becomes_interleave;
 use crate::outcome::Answered;
-use crate::update::mark_number;
-use exchange::facts::PlanFacts;
+use exchange::facts::{Finishing, PlanFacts};
 use exchange::finish::finish_children;
 use exchange::kind;
 use exchange::partitioning::{self, NodeRow};
@@ -39,13 +38,7 @@ fn put_worked(rows: &mut [Row], worked: Node, children: u64, interleaves: bool)
 fn window_mark(kind: u64, b: NodeRow) -> u64
     ensures { result ≡ mark (eqb kind 7 && is_set (node_facts b).window) }
 {
-    if kind != kind::WINDOW {
-        return 0;
-    }
-    if b[partitioning::WINDOW] != 1 {
-        return 0;
-    }
-    1
+    u64::from(kind == kind::WINDOW && b[partitioning::WINDOW] == 1)
 }
 
 // The answer of the worked node at `at` and its children in their forms, at the front of `dst`.
@@ -57,23 +50,27 @@ pub fn finish_worked(
     at: usize,
     mid: &mut [Row],
     dst: &mut [Row],
-) -> Result<Answered, Unenforced>
+) -> Answered
     requires roomy { length src.now + 2 ≤ length mid.old }
-    requires came { Came s (facts_by f.node f.children.now f.xs.rows.now f.masks.now) src.now at (length f.children.now) forms.now (length dst.old) }
-    ensures { (t : Plan) (rest : List (List ℕ)) (cs : List ChildState) → drop at src.now ≡ flatten t ++ rest → child_states s (facts_by f.entry.node f.entry.children.now f.entry.xs.rows.now f.entry.masks.now) t ≡ enforced cs → forms.now ≡ form_numbers cs → Ends (answered (finished s (facts_by f.entry.node f.entry.children.now f.entry.xs.rows.now f.entry.masks.now) (root t) cs)) result dst.old dst.new }
+    requires came { Came s (facts_of f) src.now at (length f.children.now) forms.now (length dst.old) }
+    ensures { (t : Plan) (rest : List (List ℕ)) (cs : List ChildState) → drop at src.now ≡ flatten t ++ rest → child_states s (facts_of f.entry) t ≡ enforced cs → forms.now ≡ form_numbers cs → Ends (answered (finished s (facts_of f.entry) (root t) cs)) (Ok result) dst.old dst.new }
 {
     let below = at + 1;
     let worked = row::node_at(src, at);
     let k = row::children_at(src, at);
-    let i = becomes_interleave(s, worked.kind, index, rows, n, forms);
+    let i = becomes_interleave(s, worked.kind, f.xs, forms);
     put_worked(&mut *dst, worked, k, i);
-    let m = finish_children(
-        s, b, worked, k, 1, k, forms, facts, index, rows, n, src, below, mid, &mut *dst, 1,
-    );
-    Ok(Answered {
+    let w = Finishing {
+        settings: s,
+        facts: f,
+        node: worked,
+        children: k,
+    };
+    let m = finish_children(w, forms, 1, k, src, below, mid, &mut *dst, 1);
+    Answered {
         changed: 1,
-        window: window_mark(worked.kind, b),
-        interleave: mark_number(i),
+        window: window_mark(worked.kind, f.node),
+        interleave: u64::from(i),
         tracked: worked.tracked,
         lines: m.to,
     }

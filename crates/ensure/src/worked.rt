@@ -1,18 +1,18 @@
 // ensure_distribution from the worked node on.
-ghost use Rattle.std.specs.Prelude.{◌≡◌, List, ◌++◌, ℕ, ◌+◌, ◌≤◌, length, take, drop};
+ghost use Rattle.std.specs.Prelude.{◌≡◌, List, ◌++◌, ℕ, ◌+◌, ◌≤◌, length, drop};
 ghost use Rattle.exchange.specs.Trees.{Plan};
 ghost use Rattle.exchange.specs.Rows.{flatten};
 ghost use Rattle.exchange.specs.Ensure.{child_states, ensure_worked};
 ghost use Rattle.exchange.specs.Turns.{answer, told};
-ghost use Rattle.ensure.specs.Outcomes.{facts_by, Ends};
+ghost use Rattle.ensure.specs.Outcomes.{facts_of, Ends};
 ghost use Rattle.ensure.specs.Lent.{Stood, Worked as WorkedAt};
 
 use crate::finished::finish_worked;
 use crate::outcome::Answered;
 use exchange::facts::PlanFacts;
-use exchange::partitioning::{NodeRow, Worked};
+use exchange::partitioning::Worked;
 use exchange::places::child_places;
-use exchange::relationship::Enforcing;
+use exchange::relationship::Unenforced;
 use exchange::row::{self, Row};
 use exchange::settings::Settings;
 use forms::decide::child_forms;
@@ -24,16 +24,16 @@ fn worked_forms(
     src: &[Row],
     at: usize,
     forms: &mut [u64],
-) -> Enforcing
+) -> Result<(), Unenforced>
     requires forms_len { length forms.old ≡ length f.children.now }
     requires stood { Stood src.now at (length f.children.now) }
-    ensures { (t : Plan) (rest : List (List ℕ)) → drop at src.now ≡ flatten t ++ rest → answer result forms.new ≡ told (child_states s (facts_by f.entry.node f.entry.children.now f.entry.xs.rows.now f.entry.masks.now) t) }
+    ensures { (t : Plan) (rest : List (List ℕ)) → drop at src.now ≡ flatten t ++ rest → answer result forms.new ≡ told (child_states s (facts_of f.entry) t) }
 {
     let below = at + 1;
-    let k = facts.len();
+    let k = f.children.len();
     let w = Worked {
         kind: row::node_at(src, at).kind,
-        facts: b,
+        facts: f.node,
     };
     let mut places = [0u64; 8];
     let mut needs = [0u64; 8];
@@ -47,18 +47,7 @@ fn worked_forms(
         &mut counts,
         0,
     );
-    child_forms(
-        s,
-        w,
-        masks,
-        &needs[..k],
-        &counts[..k],
-        facts,
-        index,
-        rows,
-        n,
-        forms,
-    )
+    child_forms(s, w, f, &needs[..k], &counts[..k], forms)
 }
 
 // Decides on the worked node at `at`, with a place for each of its children in `forms`.
@@ -73,19 +62,11 @@ fn ensure_by_forms(
 ) -> Result<Answered, Unenforced>
     requires forms_len { length forms.old ≡ length f.children.now }
     requires roomy { length src.now + 2 ≤ length mid.old }
-    requires worked_at { WorkedAt s (facts_by f.node f.children.now f.xs.rows.now f.masks.now) src.now at (length f.children.now) (length dst.old) }
-    ensures { (t : Plan) (rest : List (List ℕ)) → drop at src.now ≡ flatten t ++ rest → Ends (ensure_worked s (facts_by f.entry.node f.entry.children.now f.entry.xs.rows.now f.entry.masks.now) t) result dst.old dst.new }
+    requires worked_at { WorkedAt s (facts_of f) src.now at (length f.children.now) (length dst.old) }
+    ensures { (t : Plan) (rest : List (List ℕ)) → drop at src.now ≡ flatten t ++ rest → Ends (ensure_worked s (facts_of f.entry) t) result dst.old dst.new }
 {
-    let done = worked_forms(s, b, masks, facts, index, rows, n, src, at, &mut *forms);
-    if let Enforcing::Missing = done {
-        return Ensured::Missing;
-    }
-    if let Enforcing::Stuck = done {
-        return Ensured::Unenforceable;
-    }
-    finish_worked(
-        s, b, masks, &*forms, facts, index, rows, n, src, at, mid, dst,
-    )
+    worked_forms(s, f, src, at, &mut *forms)?;
+    Ok(finish_worked(s, f, &*forms, src, at, mid, dst))
 }
 
 // Decides on the worked node at `at`, which has as many children as there are facts.
@@ -98,23 +79,10 @@ pub fn ensure_worked(
     dst: &mut [Row],
 ) -> Result<Answered, Unenforced>
     requires roomy { length src.now + 2 ≤ length mid.old }
-    requires worked_at { WorkedAt s (facts_by f.node f.children.now f.xs.rows.now f.masks.now) src.now at (length f.children.now) (length dst.old) }
-    ensures { (t : Plan) (rest : List (List ℕ)) → drop at src.now ≡ flatten t ++ rest → Ends (ensure_worked s (facts_by f.entry.node f.entry.children.now f.entry.xs.rows.now f.entry.masks.now) t) result dst.old dst.new }
+    requires worked_at { WorkedAt s (facts_of f) src.now at (length f.children.now) (length dst.old) }
+    ensures { (t : Plan) (rest : List (List ℕ)) → drop at src.now ≡ flatten t ++ rest → Ends (ensure_worked s (facts_of f.entry) t) result dst.old dst.new }
 {
-    let k = facts.len();
+    let k = f.children.len();
     let mut forms = [0u64; 8];
-    ensure_by_forms(
-        s,
-        b,
-        masks,
-        facts,
-        index,
-        rows,
-        n,
-        src,
-        at,
-        &mut forms[..k],
-        mid,
-        dst,
-    )
+    ensure_by_forms(s, f, src, at, &mut forms[..k], mid, dst)
 }
