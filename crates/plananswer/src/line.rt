@@ -1,10 +1,11 @@
 // The t line of an operator's row: its fields, its exact length, its bytes.
 ghost use Rattle.std.specs.Prelude.{◌≡◌, map, ◌+◌, ◌≤◌, length, get_or};
-ghost use Rattle.text.specs.Write.{row_field, Wrote};
+ghost use Rattle.text.specs.Write.{row_field};
 ghost use Rattle.exchange.specs.Rows.{limit_of};
 ghost use Rattle.plananswer.specs.PlanTexts.{limit_field};
 ghost use Rattle.plananswer.specs.RowTexts.{row_fields, row_line};
 
+use crate::rows::RowLine;
 use exchange::row::{CHILDREN, COUNT, ID, KEEPS, KIND, LIMIT, LIMITED, MASK, ORDER, Row, TRACKED};
 use text::field::Field;
 use text::write::{field_length, number_length, put_line};
@@ -50,10 +51,12 @@ pub(crate) fn operator_length(x: Row) -> usize
 }
 
 // A row's t line.
-pub(crate) fn put_operator(out: &mut [u8], at: usize, x: Row) -> usize
-    requires { at + length (row_line x) ≤ length out.old }
-    ensures { Wrote out.old at (row_line x) out.new result }
-{
-    let fields = operator_fields(x);
-    put_line(out, at, 116, &fields)
+pub(crate) struct AnswerLine;
+
+impl RowLine<Row> for AnswerLine {
+    ghost text = { row_line };
+
+    fn put(out: &mut [u8], at: usize, row: &Row) -> usize {
+        put_line(out, at, 116, &operator_fields(*row))
+    }
 }
