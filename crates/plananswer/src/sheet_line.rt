@@ -5,10 +5,10 @@ ghost use Rattle.sheet.specs.KeyAnswers.{numbers_line};
 ghost use Rattle.plansheet.specs.PlanTexts.{settings_numbers, row_fields};
 ghost use Rattle.plananswer.specs.SheetTexts.{tree_row_line, child_row_line, fact_row_line};
 
-use crate::line::limit_state;
+use crate::line::limit_field;
 use crate::rows::RowLine;
 use exchange::fact::FactRow;
-use exchange::row::{CHILDREN, COUNT, KEEPS, KIND, LIMIT, LIMITED, NEED, ORDER, Row, TRACKED};
+use exchange::row::{CHILDREN, COUNT, KEEPS, KIND, NEED, ORDER, Row, TRACKED};
 use exchange::settings::Settings;
 use exchange::status::ChildRow;
 use lines::line::put_numbers;
@@ -37,12 +37,12 @@ pub(crate) fn put_settings(out: &mut [u8], at: usize, s: Settings) -> usize
 fn tree_fields(x: Row) -> [[u64; 2]; 8]
     ensures { map row_field result ≡ row_fields x }
 {
-    let state = limit_state(x[LIMITED]);
+    let limit = limit_field(x);
     [
         [0, x[KIND]],
         [0, x[COUNT]],
         [0, x[KEEPS]],
-        [state, x[LIMIT]],
+        [limit.state(), limit.value()],
         [0, x[ORDER]],
         [0, x[TRACKED]],
         [0, x[NEED]],

@@ -20,7 +20,7 @@ use Rattle.exchange.specs.Fit.{worked_fits, facts_fit}
 use Rattle.exchange.proofs.Stored.{past, first_at}
 use Rattle.exchange.proofs.TreeRows.{flatten_node, row_children}
 use Rattle.exchange.proofs.WorkedNode.{worked_at}
-use Rattle.text.specs.Text.{Field}
+use Rattle.text.specs.declared.field.Field.{Field}
 use Rattle.linekinds.specs.KeyLines.{values}
 use Rattle.plansheet.specs.PlanLines.{two_to}
 use Rattle.plansheet.specs.PlanSheets.{FactLines, children_rows, fact_rows, facts_of, child_count, beneath}

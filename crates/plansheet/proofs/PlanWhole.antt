@@ -8,7 +8,8 @@ use native.Mathlib.Omega.{arith}
 use lib.Dec.{eqb}
 use lib.ListN.{length, get_or, take, drop, length-map, get_or-append}
 use lib.Seq.{sets, sets-eq, take_at, length-sets}
-use Rattle.text.specs.Text.{Field, parts, value_of}
+use Rattle.text.specs.declared.field.Field.{Field}
+use Rattle.text.specs.Text.{parts, value_of}
 use Rattle.text.specs.Lines.{first_of, next_of}
 use Rattle.exchange.specs.Trees.{Plan}
 use Rattle.exchange.specs.declared.settings.Settings.{Settings}
