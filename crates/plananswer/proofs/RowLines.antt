@@ -9,15 +9,10 @@ use native.Mathlib.Numerals.{add-one}
 use native.Mathlib.Omega.{arith}
 use lib.Dec.{eqb}
 use lib.ListN.{length, get_or, take, drop, length-append}
-<<<<<<< HEAD
 use lib.Seq.{sets, sets-eq, take_at, drop-cons}
 use Rattle.std.proofs.lemmas.List.{drop_all}
-use Rattle.text.specs.Text.{Field, number, empty}
-=======
-use lib.Seq.{sets, sets-eq, take_at}
 use Rattle.text.specs.declared.field.Field.{Field}
 use Rattle.text.specs.declared.field.Field.TheVariants.{Number as number, Empty as empty}
->>>>>>> 56fc02098d944c8aa0f8cb295331179fd8e49e38
 use Rattle.text.specs.Write.{decimal, field_text, fields_text}
 use Rattle.text.proofs.Lengths.{line_length}
 use Rattle.exchange.specs.Trees.{node, none, ◌∷ᶠ◌, trees, Operator, Plan, Plans}

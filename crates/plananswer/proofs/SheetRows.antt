@@ -2,17 +2,12 @@
 -- Assumes nothing.
 use mathlib.Core.Path.{◌≡◌, refl, sym, ap, ap₂, ◌∙◌}
 use mathlib.Core.List.{List, [], ◌∷◌, ◌++◌, map, append-nil}
-<<<<<<< HEAD
 use Prim.Native.Nat.{ℕ, zero, suc, ◌+◌}
 use native.Mathlib.Omega.{arith}
 use lib.ListN.{length, get_or, drop}
 use lib.Seq.{drop-cons}
 use Rattle.std.proofs.lemmas.List.{drop_all}
-use Rattle.text.specs.Text.{Field}
-=======
-use Prim.Native.Nat.{ℕ}
 use Rattle.text.specs.declared.field.Field.{Field}
->>>>>>> 56fc02098d944c8aa0f8cb295331179fd8e49e38
 use Rattle.text.specs.Write.{line_text}
 use Rattle.sheet.specs.KeyAnswers.{numbers_line}
 use Rattle.exchange.specs.declared.settings.Settings.{Settings}
