@@ -13,10 +13,7 @@ fn list_fits(list: &[u64]) -> bool
 pub(crate) fn keys_fit(fields: usize, rules: usize, lists: &[[u64; 64]]) -> bool
     ensures { Decides result (KeyRooms fields rules lists.now) }
 {
-    fields >= 256
-        && rules >= 32
-        && lists.len() >= 17
-        && lists.iter().all(|list| list_fits(list))
+    fields >= 256 && rules >= 32 && lists.len() >= 17 && lists.iter().all(|list| list_fits(list))
 }
 
 // The rows, masks and index of a D sheet, and the rows of its answer.
