@@ -13,7 +13,7 @@ ghost use Rattle.bench.specs.Orders.{report_for, left_for, right_for};
 
 use keys::list::entry;
 use keys::reorder::{GONE, Reordered, try_reorder};
-use text::line::{Line, line_at};
+use text::line::line_at;
 use text::write::{line_length, put_line};
 
 // A line that was found, with the place after it; all 0 where there is none.
@@ -26,24 +26,12 @@ pub struct Found {
     pub largest: u64,
 }
 
-fn widened(n: usize) -> u64
-    ensures { result ≡ n }
-{
-    n as u64
-}
-
 #[unsafe(no_mangle)]
 pub extern "C" fn bench_line_at(s: &[u8], at: usize, letter: u8, out: &mut [[u64; 2]]) -> Found
     ensures answer { result ≡ found (after s.now at) (line_at letter s.now at) }
     ensures stored { out.new ≡ stored_in out.old (line_fields letter (line (drop at s.now))) }
 {
-    let Line::Fields {
-        count,
-        worst,
-        largest,
-        next,
-    } = line_at(s, at, letter, out)
-    else {
+    let Some(f) = line_at(s, at, letter, out) else {
         return Found {
             next: 0,
             count: 0,
@@ -52,10 +40,10 @@ pub extern "C" fn bench_line_at(s: &[u8], at: usize, letter: u8, out: &mut [[u64
         };
     };
     Found {
-        next: widened(next),
-        count: widened(count),
-        worst,
-        largest,
+        next: f.next as u64,
+        count: f.count as u64,
+        worst: f.worst,
+        largest: f.largest,
     }
 }
 
@@ -71,7 +59,7 @@ pub extern "C" fn bench_put_line(out: &mut [u8], at: usize, letter: u8, rows: &[
     if out.len() - at < line_length(rows) {
         return 0;
     }
-    widened(put_line(out, at, letter, rows))
+    put_line(out, at, letter, rows) as u64
 }
 
 fn store(out: &mut [u64], i: usize, value: u64)

@@ -1,4 +1,4 @@
--- The forms of a worked node's children are those of its states (`told_worked`), and by what they came to the whole ends (`ends_missing`, `ends_stuck`, `ends_finished`).
+-- The forms of a worked node's children are those of its states (`told_worked`), and by what they came to the whole ends (`ends_unenforced`, `ends_finished`).
 -- Assumes nothing.
 use Prim.Native.Nat.{ℕ, ◌+◌, ◌≤◌, ◌<◌}
 use mathlib.Core.Path.{◌≡◌, refl, sym, ap, ◌∙◌}
@@ -6,14 +6,11 @@ use mathlib.Core.Option.{Option, some, none as nothing}
 use mathlib.Core.List.{List, [], ◌∷◌, ◌++◌, map}
 use native.Mathlib.Omega.{arith}
 use lib.ListN.{length, drop, take}
-use mathlib.Core.Logic.{⊎_elim}
-use types.Run.{OneOf}
-use denote.Enum.Declared.{tag_of}
-use Rattle.exchange.specs.contracts.relationship.Enforcing as E
+use Rattle.std.specs.Prelude.{⊤, Result, Ok, Err}
 use Rattle.exchange.specs.declared.settings.Settings.{Settings}
 use Rattle.exchange.specs.declared.partitioning.Worked.{Worked}
-use Rattle.exchange.specs.declared.relationship.Enforcing.{Enforcing}
-use Rattle.exchange.specs.declared.relationship.Enforcing.TheVariants.{Enforced, Stuck, Missing as Lacking}
+use Rattle.exchange.specs.declared.relationship.Unenforced.{Unenforced}
+use Rattle.exchange.specs.declared.relationship.Unenforced.TheVariants.{Stuck, Missing}
 use Rattle.exchange.specs.Trees.{node, trees, root, Operator, Plan}
 use Rattle.exchange.specs.Facts.{Facts, NodeFacts}
 use Rattle.exchange.specs.FactRows.{node_facts, fact_row, asked_by}
@@ -30,9 +27,7 @@ use Rattle.exchange.specs.Turns.{lacking, unable, given, answer, told}
 use Rattle.exchange.specs.Ensure.{answered, relate, child_states, finished, ensured_by, ensure_worked}
 use Rattle.exchange.proofs.Marking.{root_read, below_stands, children_read}
 use Rattle.exchange.proofs.PlacesRead.{stored_children}
-use Rattle.ensure.specs.declared.outcome.Ensured.{Ensured}
-use Rattle.ensure.specs.declared.outcome.Ensured.TheVariants.{Missing, Unenforceable}
-use Rattle.ensure.specs.Outcomes.{facts_by, Ends}
+use Rattle.ensure.specs.Outcomes.{Ensured, facts_by, Ends}
 use Rattle.ensure.specs.Lent.{Came, Stood, Worked as WorkedAt}
 use Rattle.ensure.proofs.Finishing.{root_in}
 
@@ -53,12 +48,6 @@ module _ (src : List (List ℕ)) (at count : ℕ) (p : Stood src at count) where
       children : (u : Plan) (more : List (List ℕ)) → drop at src ≡ flatten u ++ more → trees (below u) ≡ children_at src at
       children (node o ts) more e = children_read src at o ts more e
 
--- neither a row missing nor stuck
-pub enforced_left : (r : Enforcing) → OneOf (0 ∷ 1 ∷ []) (tag_of E.the_type r) → OneOf (0 ∷ 2 ∷ []) (tag_of E.the_type r) → r ≡ Enforced
-enforced_left Enforced h k = refl
-enforced_left Stuck h k = ⊎_elim (λ z. absurd (omega arith)) (λ z. absurd (omega arith)) k
-enforced_left Lacking h k = ⊎_elim (λ z. absurd (omega arith)) (λ z. absurd (omega arith)) h
-
 -- the rounds read rows and masks alone
 relate_same : (s : Settings) (f g : Facts) (x : Option (List ChildState)) → f.rows ≡ g.rows → f.masks ≡ g.masks → relate s f x ≡ relate s g x
 relate_same s f g nothing r m = refl
@@ -71,7 +60,7 @@ module _ (s : Settings) (b : List ℕ) (facts rows : List (List ℕ)) (masks : L
   module _ (w : Worked) (kind : w.kind ≡ (node_at src at).kind) (is : w.facts ≡ b) (p : Stood src at (length facts)) (few : length facts ≤ 8)
       (needs needs₁ counts counts₁ : List ℕ) (n : length facts ≤ length needs) (m : length facts ≤ length counts)
       (asked : ListsAll needs_of src (at + 1) (length facts) needs 0 needs₁) (counted : ListsAll counts_of src (at + 1) (length facts) counts 0 counts₁) where
-    pub told_worked : (r : Enforcing) (forms : List ℕ)
+    pub told_worked : (r : Result ⊤ Unenforced) (forms : List ℕ)
         → ((o : Operator) (c : NodeFacts) (ks : List Child) → SameNode w o c → SameChildren (asked_by 1 (take (length facts) needs₁) (take (length facts) counts₁) facts) ks
         → answer r forms ≡ told (relate s (record { node = c; children = []; rows = map fact_row rows; masks = masks }) (ensure_children s o c (map fact_row rows) (get_repartition_requirement_status s ks))))
         → (t : Plan) (rest : List (List ℕ)) → drop at src ≡ flatten t ++ rest → answer r forms ≡ told (child_states s f t)
@@ -90,12 +79,12 @@ module _ (s : Settings) (b : List ℕ) (facts rows : List (List ℕ)) (masks : L
 
   -- ---- by what the states came to
 
-  by_missing : (o : Operator) (x : Outcome) (d : List (List ℕ)) → lacking ≡ told x → Ends (ensured_by s f o x) Missing d d
+  by_missing : (o : Operator) (x : Outcome) (d : List (List ℕ)) → lacking ≡ told x → Ends (ensured_by s f o x) (Err Missing) d d
   by_missing o row_missing d e = (refl, refl)
   by_missing o stuck d e = absurd (let y : ◌≡◌ {A = ℕ} 0 1 = cc in omega arith)
   by_missing o (enforced cs) d e = absurd (let y : ◌≡◌ {A = ℕ} 0 1 = cc in omega arith)
 
-  by_stuck : (o : Operator) (x : Outcome) (d : List (List ℕ)) → unable ≡ told x → Ends (ensured_by s f o x) Unenforceable d d
+  by_stuck : (o : Operator) (x : Outcome) (d : List (List ℕ)) → unable ≡ told x → Ends (ensured_by s f o x) (Err Stuck) d d
   by_stuck o row_missing d e = absurd (let y : ◌≡◌ {A = ℕ} 0 1 = cc in omega arith)
   by_stuck o stuck d e = (refl, refl)
   by_stuck o (enforced cs) d e = absurd (let y : ◌≡◌ {A = ℕ} 0 1 = cc in omega arith)
@@ -117,16 +106,14 @@ module _ (s : Settings) (b : List ℕ) (facts rows : List (List ℕ)) (masks : L
   worked_finished : (t : Plan) (cs : List ChildState) → child_states s f t ≡ enforced cs → ensure_worked s f t ≡ answered (finished s f (root t) cs)
   worked_finished (node o ts) cs e = ap (ensured_by s f o) e
 
-  module _ (r : Enforcing) (forms : List ℕ) (says : (t : Plan) (rest : List (List ℕ)) → drop at src ≡ flatten t ++ rest → answer r forms ≡ told (child_states s f t)) where
-    pub ends_missing : r ≡ Lacking → (d : List (List ℕ)) (t : Plan) (rest : List (List ℕ)) → drop at src ≡ flatten t ++ rest → Ends (ensure_worked s f t) Missing d d
-    ends_missing e d (node o ts) rest h = by_missing o (child_states s f (node o ts)) d (ap (λ (x : Enforcing). answer x forms) (sym e) ∙ says (node o ts) rest h)
+  module _ (r : Result ⊤ Unenforced) (forms : List ℕ) (says : (t : Plan) (rest : List (List ℕ)) → drop at src ≡ flatten t ++ rest → answer r forms ≡ told (child_states s f t)) where
+    pub ends_unenforced : (e : Unenforced) → r ≡ Err e → (d : List (List ℕ)) (t : Plan) (rest : List (List ℕ)) → drop at src ≡ flatten t ++ rest → Ends (ensure_worked s f t) (Err e) d d
+    ends_unenforced Missing e d (node o ts) rest h = by_missing o (child_states s f (node o ts)) d (ap (λ (x : Result ⊤ Unenforced). answer x forms) (sym e) ∙ says (node o ts) rest h)
+    ends_unenforced Stuck e d (node o ts) rest h = by_stuck o (child_states s f (node o ts)) d (ap (λ (x : Result ⊤ Unenforced). answer x forms) (sym e) ∙ says (node o ts) rest h)
 
-    pub ends_stuck : r ≡ Stuck → (d : List (List ℕ)) (t : Plan) (rest : List (List ℕ)) → drop at src ≡ flatten t ++ rest → Ends (ensure_worked s f t) Unenforceable d d
-    ends_stuck e d (node o ts) rest h = by_stuck o (child_states s f (node o ts)) d (ap (λ (x : Enforcing). answer x forms) (sym e) ∙ says (node o ts) rest h)
-
-    module _ (e : r ≡ Enforced) where
+    module _ (u : ⊤) (e : r ≡ Ok u) where
       gave_at : (t : Plan) (rest : List (List ℕ)) → drop at src ≡ flatten t ++ rest → Gave (child_states s f t) forms
-      gave_at t rest h = gave (child_states s f t) forms (ap (λ (x : Enforcing). answer x forms) (sym e) ∙ says t rest h)
+      gave_at t rest h = gave (child_states s f t) forms (ap (λ (x : Result ⊤ Unenforced). answer x forms) (sym e) ∙ says t rest h)
 
       pub came_worked : (room : ℕ) → WorkedAt s f src at (length facts) room → Came s f src at (length facts) forms room
       came_worked room p =

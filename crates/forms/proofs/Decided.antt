@@ -9,8 +9,7 @@ use lib.ListN.{length, take, get_or}
 use lib.Seq.{take_all}
 use Rattle.exchange.specs.declared.settings.Settings.{Settings}
 use Rattle.exchange.specs.declared.status.Asked.{Asked}
-use Rattle.exchange.specs.declared.step.Stepped.{Stepped}
-use Rattle.exchange.specs.declared.step.Stepped.TheVariants.{Done}
+use Rattle.std.specs.Prelude.{⊤, Option as Answer, Some}
 use Rattle.exchange.specs.Facts.{Facts}
 use Rattle.exchange.specs.States.{ChildState}
 use Rattle.exchange.specs.Relationships.{enforce_distribution_relationships}
@@ -27,10 +26,10 @@ same_by [] = done
 same_by (a ∷ asks) = also {a = a} {k = child_for a} (record { number = refl; need = refl; count = refl; facts = refl }) (same_by asks)
 
 -- what the steps say of their forms
-pub steps_give : (d : Stepped) (gs : List ℕ) (n : ℕ) (x : Option (List ℕ)) → d ≡ Done → resulting d (take n gs) ≡ x → length gs ≡ n → some gs ≡ x
-steps_give d gs n x e h l =
+pub steps_give : (d : Answer ⊤) (u : ⊤) (gs : List ℕ) (n : ℕ) (x : Option (List ℕ)) → d ≡ Some u → resulting d (take n gs) ≡ x → length gs ≡ n → some gs ≡ x
+steps_give d u gs n x e h l =
     let whole : take n gs ≡ gs = take_all n gs (omega arith) in
-    round_done d gs x e (rw whole at h)
+    round_done d u gs x e (rw whole at h)
 
 some_same : {A : Type 0} (x y : A) → some x ≡ some y → x ≡ y
 some_same x y e = cc

@@ -10,7 +10,9 @@ use borrow.Author.Tests.{eq-eqb, le-leb, le-ltb}
 use lib.Dec.{eqb}
 use lib.ListN.{length, take, drop, set, length-map, take-append-drop}
 use lib.Seq.{length-take-le}
-use Rattle.text.specs.Text.{Field, number, line_at, after}
+use Rattle.text.specs.declared.field.Field.{Field}
+use Rattle.text.specs.declared.field.Field.TheVariants.{Number as number}
+use Rattle.text.specs.Text.{line_at, after}
 use Rattle.text.specs.Write.{fields_text, line_text}
 use Rattle.text.specs.Bounds.{allows_all, widest}
 use Rattle.text.proofs.Limits.{all_largest}

@@ -9,7 +9,7 @@ use borrow.Author.Tests.{le-ltb}
 use lib.Dec.{ltb}
 use lib.ListN.{length, get_or, take, drop, set, length-append, length-drop}
 use lib.Seq.{drop-cons}
-use Rattle.text.specs.Text.{number}
+use Rattle.text.specs.declared.field.Field.TheVariants.{Number as number}
 use Rattle.text.specs.Write.{decimal, field_text, fields_text}
 use Rattle.text.proofs.Decimal.{decimal_one, decimal_more}
 use Rattle.text.proofs.Lengths.{fields_append}

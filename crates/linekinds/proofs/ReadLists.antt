@@ -10,7 +10,9 @@ use borrow.Author.Tests.{ne_eqb, eqb-true, eqb-false, leb-true}
 use lib.Dec.{eqb, leb}
 use lib.ListN.{length, take}
 use lib.Seq.{length-take-le}
-use Rattle.text.specs.Text.{Field, number, empty, malformed, state_of, value_of, greatest}
+use Rattle.text.specs.declared.field.Field.{Field}
+use Rattle.text.specs.declared.field.Field.TheVariants.{Number as number, Empty as empty, Malformed as malformed}
+use Rattle.text.specs.Text.{state_of, value_of, greatest}
 use Rattle.text.specs.Bounds.{allows_all}
 use Rattle.text.proofs.Limits.{all_largest}
 use Rattle.linekinds.specs.Lines.{plain, whole_entries, line_number, fields_of}

@@ -2,7 +2,8 @@
 -- Renders document 01, "Lines in order", and "`I,op,mode` then L, G, S, H, N, W, V".
 use Rattle.std.specs.Prelude.{ℕ, ◌≡◌, List, cond, eqb, length, take}
 use Rattle.std.proofs.Math.Option.{Option}
-use Rattle.text.specs.Text.{Field, line_at, after}
+use Rattle.text.specs.declared.field.Field.{Field}
+use Rattle.text.specs.Text.{line_at, after}
 use Rattle.linekinds.specs.Lines.{Kind, line_number, fields_of}
 use Rattle.linekinds.specs.KeyLines.{values}
 use Rattle.linekinds.specs.Reading.{kind_of, packed_by}

@@ -1,7 +1,8 @@
 -- What a quick reading of a line finds: text that stands there, as it would be written. Where it finds something else, nothing is said.
 -- Document 01, the paragraph that begins "A sheet is ASCII lines ended by LF".
 use Rattle.std.specs.Prelude.{ℕ, ◌+◌, ◌-◌, ◌*◌, ◌%◌, ◌≤◌, ◌<◌, ◌≡◌, true, false, List, [], ◌∷◌, ◌++◌, map, length, get_or, take, drop, set}
-use Rattle.text.specs.Text.{number, line_at, after}
+use Rattle.text.specs.declared.field.Field.TheVariants.{Number as number}
+use Rattle.text.specs.Text.{line_at, after}
 use Rattle.text.specs.Write.{decimal, fields_text}
 use Rattle.keys.specs.Expressions.{packed}
 use Rattle.linekinds.specs.KeyLines.{defined_expr, undefined_exprs, over}

@@ -1,7 +1,7 @@
 -- What the reading functions answer, and the line kind that a code and a letter stand for.
 use Rattle.std.specs.Prelude.{ℕ, ◌≤◌, ◌<◌, ◌-◌, ◌*◌, List, [], ◌∷◌, ◌++◌, map, ◌≡◌, Bool, false, cond, not, ◌&&◌, ◌||◌, eqb, leb, ltb, length, get_or, take, drop}
 use Rattle.std.proofs.Math.Option.{Option}
-use Rattle.text.specs.Text.{Field}
+use Rattle.text.specs.declared.field.Field.{Field}
 use Rattle.keys.specs.Expressions.{packed}
 use Rattle.linekinds.specs.Lines.{Kind, most_bytes, most_entries, whole_entries, fields_of}
 use Rattle.linekinds.specs.KeyLines.{undefined_exprs, over, defined_mode, defined_join, fit_children, key_line, input_head, expr_line, rule_line, input_line, direction_line, name_line}

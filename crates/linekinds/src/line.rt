@@ -6,7 +6,7 @@ ghost use Rattle.linekinds.specs.Lines.{line_number};
 ghost use Rattle.linekinds.specs.Reading.{kind_of, read_by};
 
 use crate::kind::{Codes, judge_codes, judge_counts};
-use text::line::{Line, line_at};
+use text::line::line_at;
 
 // A line with its count of fields and the place after it, or the lowest number that turns it back.
 #[derive(Clone, Copy)]
@@ -21,22 +21,19 @@ pub fn read_line(s: &[u8], at: usize, letter: u8, c: Codes, rows: &mut [[u64; 2]
     ensures answer { (seen : ℕ) → result ≡ read_by (line_number (kind_of c letter) seen (after s.now at) (line_at letter s.now at)) (after s.now at) (line_at letter s.now at) }
     ensures stored { rows.new ≡ stored_in rows.old (line_fields letter (line (drop at s.now))) }
 {
-    let Line::Fields {
-        count,
-        worst,
-        largest,
-        next,
-    } = line_at(s, at, letter, rows)
-    else {
+    let Some(f) = line_at(s, at, letter, rows) else {
         return Read::Refused(1);
     };
-    let m = judge_counts(c, count, worst, largest, next);
+    let m = judge_counts(c, f.count, f.worst, f.largest, f.next);
     if m != 0 {
         return Read::Refused(m);
     }
-    let n = judge_codes(c, &rows[0..count]);
+    let n = judge_codes(c, &rows[0..f.count]);
     if n != 0 {
         return Read::Refused(n);
     }
-    Read::Line { count, next }
+    Read::Line {
+        count: f.count,
+        next: f.next,
+    }
 }

@@ -4,7 +4,6 @@ ghost use Rattle.std.specs.Prelude.{◌≡◌, true, ◌≤◌, length};
 ghost use Rattle.linekinds.specs.PlainText.{StandsAt, DigitAt, DigitsFound, FieldFound, EntryFound, EndFound, EntriesFound, NumbersFound, RulesFound, InputFound, ListFound};
 
 use crate::kind::{Codes, defined_expr};
-use text::field::widened;
 
 // A number and the place after it, or something else.
 #[derive(Clone, Copy)]
@@ -48,13 +47,13 @@ fn number_at(s: &[u8], at: usize) -> Found
     if !digit_at(s, at) {
         return Found::Other;
     }
-    let mut n = widened(s[at]) - 48;
+    let mut n = u64::from(s[at]) - 48;
     let mut p = at + 1;
     while digit_at(s, p) {
         if n == 0 {
             return Found::Other;
         }
-        n = n * 10 + (widened(s[p]) - 48);
+        n = n * 10 + (u64::from(s[p]) - 48);
         if n > 65535 {
             return Found::Other;
         }

@@ -8,7 +8,7 @@ use native.Mathlib.Omega.{arith}
 use borrow.Author.Tests.{le-leb}
 use lib.ListN.{length, set}
 use lib.Seq.{sets}
-use Rattle.text.specs.Text.{number}
+use Rattle.text.specs.declared.field.Field.TheVariants.{Number as number}
 use Rattle.text.specs.Bounds.{allows_all, widest}
 use Rattle.linekinds.specs.Reading.{Small}
 use Rattle.linekinds.specs.PlainText.{StandsAt, TextAt, fields_of}

@@ -10,7 +10,8 @@ use borrow.Author.Tests.{ltb-true, ltb-false, lt-ltb, eq-eqb, ne_eqb}
 use lib.Dec.{ltb, eqb}
 use lib.ListN.{length, get_or, drop, length-drop}
 use lib.Seq.{drop-cons, get_or-drop}
-use Rattle.text.specs.Text.{Field, until, line, fields, line_fields, line_at}
+use Rattle.text.specs.declared.field.Field.{Field}
+use Rattle.text.specs.Text.{until, line, fields, line_fields, line_at}
 use Rattle.linekinds.specs.PlainText.{StandsAt, DigitAt}
 use Rattle.numberlines.specs.NumberLines.{Closed, Begins}
 

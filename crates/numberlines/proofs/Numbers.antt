@@ -6,7 +6,7 @@ use mathlib.Core.List.{List, [], ◌∷◌, ◌++◌, map, append-nil}
 use native.Mathlib.Omega.{arith}
 use lib.ListN.{length, set, length-append, drop_of_length-le}
 use lib.Seq.{sets, sets-eq}
-use Rattle.text.specs.Text.{number}
+use Rattle.text.specs.declared.field.Field.TheVariants.{Number as number}
 use Rattle.text.specs.Write.{fields_text}
 use Rattle.text.proofs.Stores.{sets_append}
 use Rattle.linekinds.specs.Reading.{Small}

@@ -8,7 +8,8 @@ use native.Mathlib.Omega.{arith}
 use borrow.Author.Tests.{le-leb}
 use lib.ListN.{length, get_or, set}
 use lib.Seq.{sets}
-use Rattle.text.specs.Text.{Field, number, empty}
+use Rattle.text.specs.declared.field.Field.{Field}
+use Rattle.text.specs.declared.field.Field.TheVariants.{Number as number, Empty as empty}
 use Rattle.text.specs.Write.{fields_text, field_text}
 use Rattle.text.specs.Bounds.{allows_all, widest}
 use Rattle.text.proofs.Lengths.{fields_append}

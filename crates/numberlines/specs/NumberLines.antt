@@ -4,7 +4,9 @@
 use Rattle.std.specs.Prelude.{ℕ, ◌+◌, ◌-◌, ◌≤◌, ◌<◌, ◌≡◌, List, [], ◌∷◌, ◌++◌, map, length, get_or, set}
 use Rattle.std.proofs.Math.Option.{some, none}
 use Rattle.std.proofs.lemmas.List.Edits.{sets}
-use Rattle.text.specs.Text.{Field, number, empty, line_at, after}
+use Rattle.text.specs.declared.field.Field.{Field}
+use Rattle.text.specs.declared.field.Field.TheVariants.{Number as number, Empty as empty}
+use Rattle.text.specs.Text.{line_at, after}
 use Rattle.text.specs.Write.{decimal}
 use Rattle.linekinds.specs.Reading.{Small}
 use Rattle.linekinds.specs.PlainText.{StandsAt, TextAt, fields_of}

@@ -5,7 +5,6 @@ ghost use Rattle.linekinds.specs.PlainText.{DigitAt, TextAt};
 ghost use Rattle.numberlines.specs.NumberLines.{Closed, NumberTo};
 
 use linekinds::plain::Found;
-use text::field::widened;
 
 fn digit(s: &[u8], at: usize) -> bool
     requires { at < length s.now }
@@ -28,7 +27,7 @@ fn longer_to(s: &[u8], at: usize, begun: u64, most: u64, b: u8) -> Found
         if n == 0 {
             return Found::Other;
         }
-        n = n * 10 + (widened(s[p]) - 48);
+        n = n * 10 + (u64::from(s[p]) - 48);
         if n > most {
             return Found::Other;
         }
@@ -48,7 +47,7 @@ pub(crate) fn number_to(s: &[u8], at: usize, most: u64, b: u8) -> Found
     if !digit(s, at) {
         return Found::Other;
     }
-    let n = widened(s[at]) - 48;
+    let n = u64::from(s[at]) - 48;
     let p = at + 1;
     if s[p] == b {
         return Found::Number { value: n, end: p };

@@ -10,7 +10,7 @@ ghost use Rattle.plansheet.specs.ReadRows.{masks_number};
 
 use crate::shape::{over_any, shaped_line};
 use linekinds::line::Read;
-use text::line::{Line, line_at};
+use text::line::line_at;
 
 // The largest number of a plain field; of a row count or a limit.
 pub const PLAIN: u64 = 65535;
@@ -70,23 +70,20 @@ fn plain_line(
     ensures answer { (seen : ℕ) → result ≡ read_by (line_number (fixed_line (plain_shape letter width codes.now)) seen (after s.now at) (line_at letter s.now at)) (after s.now at) (line_at letter s.now at) }
     ensures stored { fields.new ≡ stored_in fields.old (line_fields letter (line (drop at s.now))) }
 {
-    let Line::Fields {
-        count,
-        worst,
-        largest,
-        next,
-    } = line_at(s, at, letter, fields)
-    else {
+    let Some(f) = line_at(s, at, letter, fields) else {
         return Read::Refused(1);
     };
-    let m = masks_number(width, count, worst, largest, next);
+    let m = masks_number(width, f.count, f.worst, f.largest, f.next);
     if m != 0 {
         return Read::Refused(m);
     }
-    if over_any(codes, &fields[0..count]) {
+    if over_any(codes, &fields[0..f.count]) {
         return Read::Refused(4);
     }
-    Read::Line { count, next }
+    Read::Line {
+        count: f.count,
+        next: f.next,
+    }
 }
 
 // The D line.
@@ -160,18 +157,15 @@ pub fn mask_line(s: &[u8], at: usize, n: u64, fields: &mut [[u64; 2]]) -> Read
     ensures stored { fields.new ≡ stored_in fields.old (line_fields 89 (line (drop at s.now))) }
 {
     let sets = sets_of(n);
-    let Line::Fields {
-        count,
-        worst,
-        largest,
-        next,
-    } = line_at(s, at, 89, fields)
-    else {
+    let Some(f) = line_at(s, at, 89, fields) else {
         return Read::Refused(1);
     };
-    let m = masks_number(sets, count, worst, largest, next);
+    let m = masks_number(sets, f.count, f.worst, f.largest, f.next);
     if m != 0 {
         return Read::Refused(m);
     }
-    Read::Line { count, next }
+    Read::Line {
+        count: f.count,
+        next: f.next,
+    }
 }

@@ -1,6 +1,7 @@
 // Reads the lines of a D sheet into the rooms lent: the D line and the tree, then B, F, X and Y.
 ghost use Rattle.std.specs.Prelude.{◌≡◌, List, ◌+◌, ◌≤◌, length, drop};
-ghost use Rattle.text.specs.Text.{Field, parts};
+ghost use Rattle.text.specs.declared.field.Field.{Field};
+ghost use Rattle.text.specs.Text.{parts};
 ghost use Rattle.sheet.specs.KeySheets.{sheet};
 ghost use Rattle.plansheet.specs.PlanLines.{plan_line};
 ghost use Rattle.plansheet.specs.PlanSheets.{FactLines, operator_rows, read_masks, read_children, read_facts};

@@ -6,10 +6,10 @@ ghost use Rattle.linekinds.specs.Lines.{line_number};
 ghost use Rattle.linekinds.specs.Reading.{row_values, read_by};
 ghost use Rattle.linekinds.specs.ListLines.{number_of};
 ghost use Rattle.plansheet.specs.Shapes.{over_any, fixed_line};
-ghost use Rattle.plansheet.specs.ReadRows.{Bounded, shape_of, judged_number, shape_number};
+ghost use Rattle.plansheet.specs.ReadRows.{Bounded, shape_of, misfit_number, shape_number};
 
 use linekinds::line::Read;
-use text::bounds::{Judged, fixed_at};
+use text::bounds::{Misfit, fixed_at};
 
 // Whether one of the first fields is over its largest number.
 pub fn over_any(largest: &[u64], fields: &[[u64; 2]]) -> bool
@@ -44,14 +44,13 @@ pub fn shape_number(sizes: &[u64], codes: &[u64], next: usize, fields: &[[u64; 2
     0
 }
 
-// The number of a line whose fields are not within their bounds, or that is none of the letter; else 0.
-pub fn judged_number(j: Judged) -> u64
-    ensures { result ≡ judged_number j }
+// The number of a line whose fields are not within their bounds, or that is none of the letter.
+pub fn misfit_number(m: Misfit) -> u64
+    ensures { result ≡ misfit_number m }
 {
-    match j {
-        Judged::Line { count: _, next: _ } => 0,
-        Judged::Unfit => 2,
-        Judged::Wrong => 1,
+    match m {
+        Misfit::Unfit => 2,
+        Misfit::Wrong => 1,
     }
 }
 
@@ -79,13 +78,16 @@ pub fn shaped_line(
     ensures answer { (seen : ℕ) → result ≡ read_by (line_number (fixed_line (shape_of letter bounds.now sizes.now codes.now)) seen (after s.now at) (line_at letter s.now at)) (after s.now at) (line_at letter s.now at) }
     ensures stored { fields.new ≡ stored_in fields.old (line_fields letter (line (drop at s.now))) }
 {
-    let j = fixed_at(s, at, letter, bounds, fields);
-    let Judged::Line { count, next } = j else {
-        return Read::Refused(judged_number(j));
+    let j = match fixed_at(s, at, letter, bounds, fields) {
+        Ok(j) => j,
+        Err(m) => return Read::Refused(misfit_number(m)),
     };
-    let n = shape_number(sizes, codes, next, &fields[0..count]);
+    let n = shape_number(sizes, codes, j.next, &fields[0..j.count]);
     if n != 0 {
         return Read::Refused(n);
     }
-    Read::Line { count, next }
+    Read::Line {
+        count: j.count,
+        next: j.next,
+    }
 }

@@ -10,11 +10,11 @@ ghost use Rattle.plansheet.specs.PlanSheets.{operator_rows};
 ghost use Rattle.plansheet.specs.ReadRows.{Bounded, shape_of, tree_number, fields_row, rows_by, Left, run_from};
 
 use crate::operator::{MOST_CHILDREN, operator_read, quick_rows, rule_fits};
-use crate::shape::{judged_number, number_of, shape_number};
+use crate::shape::{misfit_number, number_of, shape_number};
 use exchange::row::{CHILDREN, Row};
 use linekinds::line::Read;
 use numberlines::row::Plain;
-use text::bounds::{Judged, fixed_at};
+use text::bounds::fixed_at;
 
 // A repartition with a limit.
 fn exchange_limited(kind: u64, state: u64) -> bool
@@ -83,15 +83,18 @@ fn tree_line(
     ensures answer { result ≡ read_by (line_number (tree_line (shape_of letter bounds.now sizes.now codes.now) rules.now most) seen (after s.now at) (line_at letter s.now at)) (after s.now at) (line_at letter s.now at) }
     ensures stored { fields.new ≡ stored_in fields.old (line_fields letter (line (drop at s.now))) }
 {
-    let j = fixed_at(s, at, letter, bounds, fields);
-    let Judged::Line { count, next } = j else {
-        return Read::Refused(judged_number(j));
+    let j = match fixed_at(s, at, letter, bounds, fields) {
+        Ok(j) => j,
+        Err(m) => return Read::Refused(misfit_number(m)),
     };
-    let n = tree_number(sizes, codes, rules, most, seen, next, &fields[0..count]);
+    let n = tree_number(sizes, codes, rules, most, seen, j.next, &fields[0..j.count]);
     if n != 0 {
         return Read::Refused(n);
     }
-    Read::Line { count, next }
+    Read::Line {
+        count: j.count,
+        next: j.next,
+    }
 }
 
 // The mark of a limit by its field's state.

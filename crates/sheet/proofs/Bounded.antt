@@ -9,7 +9,8 @@ use native.Mathlib.Omega.{arith}
 use borrow.Author.Tests.{eqb-true}
 use lib.Dec.{eqb, ltb}
 use lib.ListN.{length, drop}
-use Rattle.text.specs.Text.{Field, parts}
+use Rattle.text.specs.declared.field.Field.{Field}
+use Rattle.text.specs.Text.{parts}
 use Rattle.text.specs.Lines.{first_of, next_of}
 use Rattle.linekinds.specs.Lines.{Kind, Run, read, refused, before, most_bytes, fields_fit, too_many_entries, line_number, fields_of, at_end}
 use Rattle.linekinds.specs.KeyLines.{at, key_line}

@@ -10,7 +10,8 @@ use borrow.Author.Tests.{ne_eqb, eqb-true, eqb-false, ltb-true, ltb-false}
 use lib.Dec.{eqb, ltb}
 use lib.ListN.{length, get_or, take, drop, set, length-set, length-append, get_or-append}
 use lib.Seq.{get_or-append_seam, get_or-set_same, get_or-set_other}
-use Rattle.text.specs.Text.{Field, line_at, after, parts}
+use Rattle.text.specs.declared.field.Field.{Field}
+use Rattle.text.specs.Text.{line_at, after, parts}
 use Rattle.text.specs.Lines.{first_of, next_of}
 use Rattle.text.proofs.Places.{bridge, after_next, after_lines}
 use Rattle.linekinds.specs.Lines.{Run, read, refused, before, behind, line_number}

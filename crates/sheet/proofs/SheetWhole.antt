@@ -10,7 +10,8 @@ use borrow.Author.Tests.{ltb-false, eqb-false}
 use lib.Dec.{eqb, ltb}
 use lib.ListN.{length, get_or, drop, length-drop, length-map, drop_of_length-le}
 use lib.Seq.{get_or-take}
-use Rattle.text.specs.Text.{Field, parts, after, state_of, value_of, greatest}
+use Rattle.text.specs.declared.field.Field.{Field}
+use Rattle.text.specs.Text.{parts, after, state_of, value_of, greatest}
 use Rattle.text.specs.Lines.{first_of}
 use Rattle.text.proofs.Places.{bridge}
 use Rattle.linekinds.specs.Lines.{Run, read, refused, before, line_number, fields_of, at_end}

@@ -9,7 +9,8 @@ use borrow.Author.Tests.{eqb-true, ne_eqb, lt-leb}
 use lib.Dec.{eqb, leb}
 use lib.ListN.{length, get_or, take, drop, length-map}
 use lib.Seq.{get_or-take}
-use Rattle.text.specs.Text.{Field, parts, value_of}
+use Rattle.text.specs.declared.field.Field.{Field}
+use Rattle.text.specs.Text.{parts, value_of}
 use Rattle.text.specs.Lines.{first_of}
 use Rattle.keys.specs.Expressions.{expression, expressions, rule, rules}
 use Rattle.linekinds.specs.Lines.{Run, read, refused, fields_of, at_end}

@@ -20,26 +20,23 @@ pub child_places-requires-clause-left_in_bounds : goal.child_places-requires-cla
 child_places-requires-clause-left_in_bounds c = (omega arith, omega arith, omega arith)
 
 pub slice_bounds-needs-end : goal.slice_bounds-needs-end
-slice_bounds-needs-end c = omega (arith, c.requires.facts_len_bound.0, c.child_places.auto.needs)
+slice_bounds-needs-end c = omega (arith, c.args.f.few, c.child_places.auto.needs)
 
 pub slice_bounds-child_forms-end : goal.slice_bounds-child_forms-end
-slice_bounds-child_forms-end c = sym (length-take-le _ _ (omega (arith, c.requires.facts_len_bound.0, c.child_places.auto.needs)))
+slice_bounds-child_forms-end c = sym (length-take-le _ _ (omega (arith, c.args.f.few, c.child_places.auto.needs)))
 
 pub slice_bounds-counts-end : goal.slice_bounds-counts-end
-slice_bounds-counts-end c = omega (arith, c.requires.facts_len_bound.0, c.child_places.auto.counts)
+slice_bounds-counts-end c = omega (arith, c.args.f.few, c.child_places.auto.counts)
 
 pub slice_bounds-child_forms-end-2 : goal.slice_bounds-child_forms-end-2
-slice_bounds-child_forms-end-2 c = sym (length-take-le _ _ (omega (arith, c.requires.facts_len_bound.0, c.child_places.auto.counts)))
+slice_bounds-child_forms-end-2 c = sym (length-take-le _ _ (omega (arith, c.args.f.few, c.child_places.auto.counts)))
 
-pub child_forms-requires-clause-counts_len : goal.child_forms-requires-clause-counts_len
-child_forms-requires-clause-counts_len c = let a = c.args in let q = c.requires in let k = length a.facts.now in
-    let rules = c.child_places.new.needs in let counts = c.child_places.new.counts in let n : length (take k rules) ≡ k = length-take-le k rules (omega (arith, c.requires.facts_len_bound.0, c.child_places.auto.needs)) in
-    let m : length (take k counts) ≡ k = length-take-le k counts (omega (arith, c.requires.facts_len_bound.0, c.child_places.auto.counts)) in
-    (m ∙ sym n, sym n, omega (arith, n, c.requires.facts_len_bound.0), q.facts_len_bound.1 ∙ sym n)
-
-pub child_forms-requires-clause-n_in_bounds : goal.child_forms-requires-clause-n_in_bounds
-child_forms-requires-clause-n_in_bounds c = let q = c.requires in (q.known.rowed, q.known.indexed)
+pub child_forms-requires : goal.child_forms-requires
+child_forms-requires c = let k = length c.args.f.children.now in
+    let needs = c.child_places.new.needs in let counts = c.child_places.new.counts in let n : length (take k needs) ≡ k = length-take-le k needs (omega (arith, c.args.f.few, c.child_places.auto.needs)) in
+    let m : length (take k counts) ≡ k = length-take-le k counts (omega (arith, c.args.f.few, c.child_places.auto.counts)) in
+    record { counts_len = (m ∙ sym n, sym n, c.requires.forms_len ∙ sym n) }
 
 pub returns : goal.returns
-returns c = let a = c.args in told_worked a.s a.b a.facts.now (take a.n a.rows.now) a.masks.now a.src.now a.at _ (ap (λ (x : Node). x.kind) c.node_at.ensures) refl c.requires.stood c.requires.facts_len_bound.0
-    _ _ _ _ (omega (arith, c.requires.facts_len_bound.0)) (omega (arith, c.requires.facts_len_bound.0)) c.child_places.ensures.1 c.child_places.ensures.2 c.child_forms.result _ c.child_forms.ensures
+returns c = let a = c.args in told_worked a.s a.f.node a.f.children.now a.f.xs.rows.now a.f.masks.now a.src.now a.at _ (ap (λ (x : Node). x.kind) c.node_at.ensures) refl c.requires.stood c.args.f.few
+    _ _ _ _ (omega (arith, c.args.f.few)) (omega (arith, c.args.f.few)) c.child_places.ensures.1 c.child_places.ensures.2 c.child_forms.result _ c.child_forms.ensures

@@ -10,7 +10,7 @@ use Rattle.forms.proofs.relationship.enforce_distribution_relationships.Given as
 
 abbrev pub invariant-loop-mask : goal.invariant-loop-mask
 invariant-loop-mask l = (length l.forms ≡ length l.initial.forms) × ((k : ℕ) → k < length l.needs → get_or l.forms k 0 ≤ 15) × (l.mask ≡ unsatisfied_at l.masks (set_of l.forms))
-    × (rounds_by (map fact_row (take l.n l.rows)) l.masks l.needs (length l.needs) l.initial.forms ≡ rounds_by (map fact_row (take l.n l.rows)) l.masks l.needs l.left l.forms)
+    × (rounds_by (map fact_row l.xs.rows.now) l.masks l.needs (length l.needs) l.initial.forms ≡ rounds_by (map fact_row l.xs.rows.now) l.masks l.needs l.left l.forms)
 
 abbrev pub decreases-loop-mask : goal.decreases-loop-mask
 decreases-loop-mask l = l.left

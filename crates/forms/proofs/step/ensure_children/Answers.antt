@@ -7,4 +7,4 @@ use Rattle.forms.proofs.Each.{children_same}
 use Rattle.forms.proofs.step.ensure_children.Goals as goal
 
 pub returns : goal.returns
-returns c = λ o b ks n h. let a = c.args in c.ensure_each.ensures ∙ children_same a.s (map fact_row (take a.n a.rows.now)) _ a.w o b n h c.needs_alignment-aligned.ensures
+returns c = λ o b ks n h. let a = c.args in c.ensure_each.ensures ∙ children_same a.s (map fact_row a.xs.rows.now) _ a.w o b n h c.needs_alignment-aligned.ensures

@@ -5,7 +5,8 @@ use mathlib.Core.Option.{Option, some}
 use Prim.Native.Nat.{ℕ, ◌-◌, ◌≤◌}
 use native.Mathlib.Omega.{arith}
 use lib.ListN.{length, take, drop, length-map}
-use Rattle.text.specs.Text.{Field, line, line_fields, line_at, after, row}
+use Rattle.text.specs.declared.field.Field.{Field}
+use Rattle.text.specs.Text.{line, line_fields, line_at, after, row}
 use Rattle.text.specs.Read.{stored_in}
 use Rattle.text.proofs.Answers.{rows_held}
 use Rattle.linekinds.specs.Lines.{line_number}

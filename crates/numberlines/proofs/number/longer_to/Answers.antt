@@ -27,12 +27,12 @@ bounds-s-p c =
 pub overflow_sub-n : goal.overflow_sub-n
 overflow_sub-n c =
     let more : DigitAt c.args.s.now c.loop-at.p = c.digit.ensures.0 c.loop-at-test.true in
-    omega (arith, (more).1, c.widened.ensures)
+    omega (arith, (more).1, c.from.ensures)
 
 pub overflow_add-n : goal.overflow_add-n
 overflow_add-n c =
     let more : DigitAt c.args.s.now c.loop-at.p = c.digit.ensures.0 c.loop-at-test.true in
-    omega (arith, (more).2, c.widened.ensures, c.loop-at.invariant.1, c.requires.3)
+    omega (arith, (more).2, c.from.ensures, c.loop-at.invariant.1, c.requires.3)
 
 pub returns-then-n-most : goal.returns-then-n-most
 returns-then-n-most c = λ from t. tt
@@ -51,7 +51,7 @@ pub loop-at-preserved : goal.loop-at-preserved
 loop-at-preserved c =
     let more : DigitAt c.args.s.now c.loop-at.p = c.digit.ensures.0 c.loop-at-test.true in
     let d = more in
-    (digit_next c.args.s.now c.loop-at.p c.requires.0 d, omega arith, λ from t. next_digit _ from c.loop-at.n _ _ (c.loop-at.invariant.2 from t) d (λ e. omega arith) (ap (λ (x : ℕ). c.loop-at.n * 10 + (x - 48)) c.widened.ensures))
+    (digit_next c.args.s.now c.loop-at.p c.requires.0 d, omega arith, λ from t. next_digit _ from c.loop-at.n _ _ (c.loop-at.invariant.2 from t) d (λ e. omega arith) (ap (λ (x : ℕ). c.loop-at.n * 10 + (x - 48)) c.from.ensures))
 
 pub bounds-s-p-2 : goal.bounds-s-p-2
 bounds-s-p-2 c = omega (arith, c.loop-at.invariant.0)

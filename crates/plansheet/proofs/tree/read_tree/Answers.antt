@@ -6,7 +6,8 @@ use Prim.Native.Nat.{ℕ, ◌+◌, ◌-◌, ◌≤◌, ◌<◌}
 use native.Mathlib.Omega.{arith}
 use borrow.Author.Tests.{eq-eqb, ne_eqb}
 use lib.ListN.{length, set}
-use Rattle.text.specs.Text.{Field, line_at, after}
+use Rattle.text.specs.declared.field.Field.{Field}
+use Rattle.text.specs.Text.{line_at, after}
 use Rattle.linekinds.specs.Lines.{line_number, fields_of}
 use Rattle.linekinds.specs.Reading.{read_by}
 use Rattle.plansheet.specs.Shapes.{tree_line, children_at}
