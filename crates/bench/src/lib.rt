@@ -74,10 +74,8 @@ fn store(out: &mut [u64], i: usize, value: u64)
 fn store_moved(all: &[u64], at: &[u8], out: &mut [u64])
     ensures { out.new ≡ sets out.old 0 (permute gone_number all.now at.now) }
 {
-    let mut i: usize = 0;
-    while i < at.len() {
-        store(out, i, entry(GONE, all, at[i]));
-        i += 1;
+    for (i, &p) in at.iter().enumerate() {
+        store(out, i, entry(GONE, all, p));
     }
 }
 
@@ -95,27 +93,14 @@ pub extern "C" fn bench_try_reorder(
     ensures left { left.new ≡ left_for w.now r.now l.now g.now left.old }
     ensures right { right.new ≡ right_for w.now r.now l.now g.now right.old }
 {
-    if r.len() > 32 {
+    if r.len() > 32 || l.len() > 32 || g.len() != l.len() {
         return 0;
     }
-    if l.len() > 32 {
-        return 0;
-    }
-    if g.len() != l.len() {
-        return 0;
-    }
-    let t = try_reorder(w, r, l, g);
-    let o = t.outcome;
-    match o {
-        Reordered::Met => 1,
-        Reordered::Impossible => 3,
-        Reordered::Moved => {
-            let at = t.at;
-            let n = at.count;
-            let items = at.items;
-            store_moved(l, &items[0..n], left);
-            store_moved(g, &items[0..n], right);
-            2
-        }
-    }
+    let tried = try_reorder(w, r, l, g);
+    let Reordered::Moved(at) = tried else {
+        return tried.report();
+    };
+    store_moved(l, at.numbers(), left);
+    store_moved(g, at.numbers(), right);
+    tried.report()
 }

@@ -20,8 +20,7 @@ use Rattle.exchange.proofs.OrderWritten.{stored_there}
 use Rattle.exchange.proofs.Marking.{children_read}
 use Rattle.exchange.proofs.WorkedNode.{worked_at}
 use Rattle.exchange.proofs.AnswerLines.{lines_rows, lines_updates, answer_lines}
-use Rattle.ensure.specs.declared.outcome.Ensured.{Ensured}
-use Rattle.ensure.specs.Outcomes.{Ends}
+use Rattle.ensure.specs.Outcomes.{Ensured, Ends}
 use Rattle.ensure.specs.Lent.{Sheet, Worked as WorkedAt}
 
 ensured_worked : (s : Settings) (f : Facts) (t : Plan) → has_children s f (update_children t) ≡ true → ensured s f t ≡ ensure_worked s f (worked_of t)

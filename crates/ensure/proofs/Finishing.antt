@@ -2,7 +2,8 @@
 -- Assumes nothing.
 use Prim.Native.Nat.{ℕ, suc, ◌+◌, ◌≤◌, ◌<◌}
 use mathlib.Core.Path.{◌≡◌, refl, sym, ap, ap₂, subst, ◌∙◌}
-use mathlib.Core.Bool.{Bool, cond, ◌&&◌}
+use mir.Val.{bool_byte}
+use mathlib.Core.Bool.{Bool, true, false, cond, ◌&&◌}
 use mathlib.Core.List.{List, [], ◌∷◌, ◌++◌, map}
 use native.Mathlib.Omega.{arith}
 use lib.Dec.{eqb}
@@ -33,9 +34,9 @@ use Rattle.exchange.proofs.FormsSmall.{finished_small, finished_long}
 use Rattle.exchange.proofs.ReachedRounds.{states_finished}
 use Rattle.exchange.proofs.Interleaved.{interleave_alike}
 use Rattle.exchange.proofs.FinishedHandled.{handled_finished}
-use Rattle.ensure.specs.declared.outcome.Ensured.TheVariants.{Answered}
-use Rattle.ensure.specs.Outcomes.{facts_by, outcome, Ends}
-use Rattle.ensure.specs.Lent.{Known, Came}
+use Rattle.std.specs.Prelude.{Ok}
+use Rattle.ensure.specs.Outcomes.{Ensured, facts_by, outcome, Ends}
+use Rattle.ensure.specs.Lent.{Came}
 
 pub children_long : (n : ℕ) (ts : Plans) (fs : List ChildFacts) → length (children_from n ts fs) ≡ trees ts
 unfolding children_from
@@ -84,6 +85,15 @@ root_legal src at (node o ts) rest h =
 pub packed_row : (m : Node) (o : Operator) (k : ℕ) → node_of (operator_of m) ≡ m → operator_of m ≡ o → packed m k ≡ row_of o k
 packed_row m o k legal is = ap (λ (x : Node). packed x k) (sym legal) ∙ row_packed (operator_of m) k ∙ ap (λ (x : Operator). row_of x k) is
 
+-- a mark is the number of a test
+pub mark_byte : (b : Bool) (m : ℕ) → m ≡ bool_byte b → m ≡ mark b
+mark_byte true m e = e
+mark_byte false m e = e
+
+-- an answer by its numbers
+abbrev pub answer_of : ℕ → ℕ → ℕ → ℕ → Ensured
+answer_of window interleave tracked lines = Ok (record { changed = 1; window = window; interleave = interleave; tracked = tracked; lines = lines })
+
 pub put_chosen : (i b : Bool) (d d₁ : List (List ℕ)) (x y : Operator) (k : ℕ) → i ≡ b → d₁ ≡ set d 0 (row_of (cond b x y) k) → d₁ ≡ set d 0 (row_of (cond i x y) k)
 put_chosen i b d d₁ x y k e h = h ∙ ap (λ (j : Bool). set d 0 (row_of (cond j x y) k)) (sym e)
 
@@ -111,7 +121,7 @@ module _ (s : Settings) (b : List ℕ) (facts rows : List (List ℕ)) (masks : L
     pub small : (i : ℕ) → i < length forms → get_or forms i 0 ≤ 15
     pub plan : flatten (finished s f (root t) cs).plan ≡ head_row w k ∷ flattens (each_of w k below)
     pub numbers : outcome (answered (finished s f (root t) cs))
-        ≡ Answered 1 (mark (eqb w.kind 7 && is_set (node_facts b).window)) (mark (interleaves w.kind)) w.tracked (length (flatten (finished s f (root t) cs).plan))
+        ≡ answer_of (mark (eqb w.kind 7 && is_set (node_facts b).window)) (mark (interleaves w.kind)) w.tracked (length (flatten (finished s f (root t) cs).plan))
 
   shape_node : (o : Operator) (ts : Plans) (rest : List (List ℕ)) (cs : List ChildState) → drop at src ≡ flatten (node o ts) ++ rest
       → child_states s f (node o ts) ≡ enforced cs → forms ≡ form_numbers cs → length facts ≡ trees ts → Shape (node o ts) rest cs o (trees ts)
@@ -136,7 +146,7 @@ module _ (s : Settings) (b : List ℕ) (facts rows : List (List ℕ)) (masks : L
             ∙ ap₂ (λ (n : ℕ) (us : Plans). row_of (cond (eqb o.kind 9 && (eqb s.union 0 && can_interleave cs)) (interleaved o) o) n ∷ flattens us) (handled_trees s f o (length cs) cs ∙ long) trees_are
             ∙ ap (λ (x : Bool). row_of (cond (eqb o.kind 9 && (eqb s.union 0 && x)) (interleaved o) o) (trees ts) ∷ flattens (each_of o (trees ts) ts)) alike;
         numbers =
-            ap (λ (x : Bool). Answered 1 (mark (eqb o.kind 7 && is_set (node_facts b).window)) (mark (eqb o.kind 9 && (eqb s.union 0 && x))) o.tracked (length (flatten (finished s f o cs).plan))) alike;
+            ap (λ (x : Bool). answer_of (mark (eqb o.kind 7 && is_set (node_facts b).window)) (mark (eqb o.kind 9 && (eqb s.union 0 && x))) o.tracked (length (flatten (finished s f o cs).plan))) alike;
       }
 
   pub shape_of : (t : Plan) (rest : List (List ℕ)) (cs : List ChildState) → drop at src ≡ flatten t ++ rest → child_states s f t ≡ enforced cs
@@ -174,19 +184,13 @@ module _ (s : Settings) (b : List ℕ) (facts rows : List (List ℕ)) (masks : L
           fits = omega (arith, plan_long, p.fits);
         }
 
-    pub came_each : (xs : List (List ℕ)) (index : List ℕ) (n mid : ℕ) → Known facts xs index n → length facts ≤ 8 → length src + 2 ≤ mid
-        → EachFinished forms facts xs index n 1 (children_at src at) (node_at src at) (length src) mid
-    came_each xs index n mid q most roomy =
+    pub came_each : (mid : ℕ) → length src + 2 ≤ mid → EachFinished forms (length facts) 1 (children_at src at) (length src) mid
+    came_each mid roomy =
         record {
           first = omega arith;
           last = omega (arith, came_shape.long);
-          most = omega (arith, came_shape.long, came_counted, most);
           small = came_shape.small;
           told = omega (arith, came_shape.long, came_counted);
-          few = q.few;
-          rowed = q.rowed;
-          indexed = q.indexed;
-          legal = root_legal src at p.tree p.rest p.stands;
           roomy = roomy;
         }
 
@@ -196,14 +200,14 @@ module _ (s : Settings) (b : List ℕ) (facts rows : List (List ℕ)) (masks : L
         → (window interleave : ℕ) (d d₁ d₂ : List (List ℕ)) (r : Step) → d₁ ≡ set d 0 (row_of (cond i (interleaved (operator_of w)) (operator_of w)) k)
         → MapsAll (each_of (operator_of w) k) src (at + 1) k d₁ 1 d₂ r
         → window ≡ mark (eqb w.kind 7 && is_set (node_facts b).window) → interleave ≡ mark i
-        → Ends (answered (finished s f (root t) cs)) (Answered 1 window interleave w.tracked r.to) d d₂
+        → Ends (answered (finished s f (root t) cs)) (answer_of window interleave w.tracked r.to) d d₂
     answer_wrote t rest cs shape window interleave d d₁ d₂ r put maps on in' =
         let sh : Shape t rest cs (operator_of w) k = rw (is, counts) shape in
         let wrote = maps sh.below rest sh.counted sh.stands in
         let long : r.to ≡ length (flatten (finished s f (root t) cs).plan) = omega (arith, wrote.written, ap length sh.plan) in
-        let same : Answered 1 window interleave w.tracked r.to ≡ outcome (answered (finished s f (root t) cs)) =
-        ap₂ (λ (x y : ℕ). Answered 1 x y w.tracked r.to) on (in' ∙ ap mark chosen)
-        ∙ ap (λ (z : ℕ). Answered 1 (mark (eqb w.kind 7 && is_set (node_facts b).window)) (mark (interleaves w.kind)) w.tracked z) long
+        let same : answer_of window interleave w.tracked r.to ≡ outcome (answered (finished s f (root t) cs)) =
+        ap₂ (λ (x y : ℕ). answer_of x y w.tracked r.to) on (in' ∙ ap mark chosen)
+        ∙ ap (λ (z : ℕ). answer_of (mark (eqb w.kind 7 && is_set (node_facts b).window)) (mark (interleaves w.kind)) w.tracked z) long
         ∙ sym sh.numbers in
         let head : d₁ ≡ set d 0 (head_row (operator_of w) k) = put ∙ ap (λ (x : Bool). set d 0 (row_of (cond x (interleaved (operator_of w)) (operator_of w)) k)) chosen in
         (same, wrote.stored ∙ ap (λ (l : List (List ℕ)). sets l 1 (flattens (each_of (operator_of w) k sh.below))) head ∙ ap (sets d 0) (sym sh.plan))

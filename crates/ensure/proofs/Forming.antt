@@ -1,38 +1,35 @@
--- The forms of a worked node's children are those of its states (`told_worked`), and by what they came to the whole ends (`ends_missing`, `ends_stuck`, `ends_finished`).
+-- The forms of a worked node's children are those of its states (`told_worked`), and by what they came to the whole ends (`ends_unenforced`, `ends_finished`).
 -- Assumes nothing.
-use Prim.Native.Nat.{ℕ, ◌+◌, ◌≤◌, ◌<◌}
+use Prim.Native.Nat.{ℕ, ◌+◌, ◌<◌}
 use mathlib.Core.Path.{◌≡◌, refl, sym, ap, ◌∙◌}
 use mathlib.Core.Option.{Option, some, none as nothing}
-use mathlib.Core.List.{List, [], ◌∷◌, ◌++◌, map}
+use mathlib.Core.List.{List, [], ◌++◌, map}
+use native.Mathlib.Nat.{add_comm}
 use native.Mathlib.Omega.{arith}
-use lib.ListN.{length, drop, take}
-use mathlib.Core.Logic.{⊎_elim}
-use types.Run.{OneOf}
-use denote.Enum.Declared.{tag_of}
-use Rattle.exchange.specs.contracts.relationship.Enforcing as E
+use lib.ListN.{length, drop}
+use Rattle.std.specs.Prelude.{⊤, Result, Ok, Err}
 use Rattle.exchange.specs.declared.settings.Settings.{Settings}
 use Rattle.exchange.specs.declared.partitioning.Worked.{Worked}
-use Rattle.exchange.specs.declared.relationship.Enforcing.{Enforcing}
-use Rattle.exchange.specs.declared.relationship.Enforcing.TheVariants.{Enforced, Stuck, Missing as Lacking}
-use Rattle.exchange.specs.Trees.{node, trees, root, Operator, Plan}
+use Rattle.exchange.specs.declared.relationship.Unenforced.{Unenforced}
+use Rattle.exchange.specs.declared.relationship.Unenforced.TheVariants.{Stuck, Missing}
+use Rattle.exchange.specs.Trees.{node, trees, root, Operator, Plan, Plans}
 use Rattle.exchange.specs.Facts.{Facts, NodeFacts}
 use Rattle.exchange.specs.FactRows.{node_facts, fact_row, asked_by}
 use Rattle.exchange.specs.States.{Child, ChildState, children_from}
 use Rattle.exchange.specs.Status.{get_repartition_requirement_status}
 use Rattle.exchange.specs.Step.{ensure_children}
-use Rattle.exchange.specs.Standings.{SameNode, SameChildren, form_numbers}
+use Rattle.exchange.specs.Standings.{SameNode, SameChildren, Numbered, form_numbers}
 use Rattle.exchange.specs.Relationships.{Enforced as Outcome, row_missing, stuck, enforced}
-use Rattle.exchange.specs.Rows.{node_at, children_at, flatten}
+use Rattle.exchange.specs.Rows.{node_at, children_at, flatten, flattens}
 use Rattle.exchange.specs.Runs.{StandAll}
 use Rattle.exchange.specs.Skeleton.{below}
-use Rattle.exchange.specs.Places.{needs_of, counts_of, ListsAll}
+use Rattle.exchange.specs.declared.status.Asked.{Asked}
+use Rattle.exchange.specs.Places.{needs_of, counts_of}
 use Rattle.exchange.specs.Turns.{lacking, unable, given, answer, told}
 use Rattle.exchange.specs.Ensure.{answered, relate, child_states, finished, ensured_by, ensure_worked}
 use Rattle.exchange.proofs.Marking.{root_read, below_stands, children_read}
-use Rattle.exchange.proofs.PlacesRead.{stored_children}
-use Rattle.ensure.specs.declared.outcome.Ensured.{Ensured}
-use Rattle.ensure.specs.declared.outcome.Ensured.TheVariants.{Missing, Unenforceable}
-use Rattle.ensure.specs.Outcomes.{facts_by, Ends}
+use Rattle.exchange.proofs.PlacesRead.{same_children, asked_long, asked_number}
+use Rattle.ensure.specs.Outcomes.{Ensured, facts_by, Ends}
 use Rattle.ensure.specs.Lent.{Came, Stood, Worked as WorkedAt}
 use Rattle.ensure.proofs.Finishing.{root_in}
 
@@ -53,12 +50,6 @@ module _ (src : List (List ℕ)) (at count : ℕ) (p : Stood src at count) where
       children : (u : Plan) (more : List (List ℕ)) → drop at src ≡ flatten u ++ more → trees (below u) ≡ children_at src at
       children (node o ts) more e = children_read src at o ts more e
 
--- neither a row missing nor stuck
-pub enforced_left : (r : Enforcing) → OneOf (0 ∷ 1 ∷ []) (tag_of E.the_type r) → OneOf (0 ∷ 2 ∷ []) (tag_of E.the_type r) → r ≡ Enforced
-enforced_left Enforced h k = refl
-enforced_left Stuck h k = ⊎_elim (λ z. absurd (omega arith)) (λ z. absurd (omega arith)) k
-enforced_left Lacking h k = ⊎_elim (λ z. absurd (omega arith)) (λ z. absurd (omega arith)) h
-
 -- the rounds read rows and masks alone
 relate_same : (s : Settings) (f g : Facts) (x : Option (List ChildState)) → f.rows ≡ g.rows → f.masks ≡ g.masks → relate s f x ≡ relate s g x
 relate_same s f g nothing r m = refl
@@ -68,19 +59,16 @@ module _ (s : Settings) (b : List ℕ) (facts rows : List (List ℕ)) (masks : L
   abbrev f : Facts
   f = facts_by b facts rows masks
 
-  module _ (w : Worked) (kind : w.kind ≡ (node_at src at).kind) (is : w.facts ≡ b) (p : Stood src at (length facts)) (few : length facts ≤ 8)
-      (needs needs₁ counts counts₁ : List ℕ) (n : length facts ≤ length needs) (m : length facts ≤ length counts)
-      (asked : ListsAll needs_of src (at + 1) (length facts) needs 0 needs₁) (counted : ListsAll counts_of src (at + 1) (length facts) counts 0 counts₁) where
-    pub told_worked : (r : Enforcing) (forms : List ℕ)
-        → ((o : Operator) (c : NodeFacts) (ks : List Child) → SameNode w o c → SameChildren (asked_by 1 (take (length facts) needs₁) (take (length facts) counts₁) facts) ks
+  module _ (w : Worked) (kind : w.kind ≡ (node_at src at).kind) (is : w.facts ≡ b) (p : Stood src at (length facts)) (asks : List Asked)
+      (asked : (ts : Plans) (rest : List (List ℕ)) → trees ts ≡ length facts → drop (at + 1) src ≡ flattens ts ++ rest → asks ≡ asked_by 1 (needs_of ts) (counts_of ts) facts) where
+    pub told_worked : (r : Result ⊤ Unenforced) (forms : List ℕ)
+        → ((o : Operator) (c : NodeFacts) (ks : List Child) → SameNode w o c → SameChildren asks ks
         → answer r forms ≡ told (relate s (record { node = c; children = []; rows = map fact_row rows; masks = masks }) (ensure_children s o c (map fact_row rows) (get_repartition_requirement_status s ks))))
         → (t : Plan) (rest : List (List ℕ)) → drop at src ≡ flatten t ++ rest → answer r forms ≡ told (child_states s f t)
     unfolding child_states
     told_worked r forms says (node o ts) rest h =
-        let stands = below_stands src at o ts rest h in
         let many : trees ts ≡ length facts = stood_counted src at (length facts) p (node o ts) rest h in
-        let same : SameChildren (asked_by 1 (take (length facts) needs₁) (take (length facts) counts₁) facts) (children_from 1 ts f.children) =
-        stored_children ts facts (length facts) many refl needs needs₁ counts counts₁ (asked ts rest many stands) n (counted ts rest many stands) m in
+        let same : SameChildren asks (children_from 1 ts f.children) = rw (asked ts rest many (below_stands src at o ts rest h)) (same_children ts facts (sym many)) in
         let this : SameNode w o f.node =
         record { kind = sym (kind ∙ ap (λ (x : Operator). x.kind) (root_read src at (node o ts) rest h)); facts = ap node_facts (sym is) } in
         says o f.node _ this same
@@ -88,14 +76,21 @@ module _ (s : Settings) (b : List ℕ) (facts rows : List (List ℕ)) (masks : L
         (relate_same s (record { node = f.node; children = []; rows = map fact_row rows; masks = masks }) f
         (ensure_children s o f.node (map fact_row rows) (get_repartition_requirement_status s (children_from 1 ts f.children))) refl refl)
 
+    -- as many as there are F rows, numbered from 1
+    pub asks_fit : (length asks ≡ length facts) × Numbered asks
+    asks_fit = go p.tree p.stands p.counted
+      where
+        go : (t : Plan) → drop at src ≡ flatten t ++ p.rest → trees (below t) ≡ length facts → (length asks ≡ length facts) × Numbered asks
+        go (node o ts) h c = rw (asked ts p.rest c (below_stands src at o ts p.rest h)) (asked_long 1 ts facts (sym c), λ k l. asked_number 1 ts facts (sym c) k (omega (arith, l, asked_long 1 ts facts (sym c))) ∙ add_comm 1 k)
+
   -- ---- by what the states came to
 
-  by_missing : (o : Operator) (x : Outcome) (d : List (List ℕ)) → lacking ≡ told x → Ends (ensured_by s f o x) Missing d d
+  by_missing : (o : Operator) (x : Outcome) (d : List (List ℕ)) → lacking ≡ told x → Ends (ensured_by s f o x) (Err Missing) d d
   by_missing o row_missing d e = (refl, refl)
   by_missing o stuck d e = absurd (let y : ◌≡◌ {A = ℕ} 0 1 = cc in omega arith)
   by_missing o (enforced cs) d e = absurd (let y : ◌≡◌ {A = ℕ} 0 1 = cc in omega arith)
 
-  by_stuck : (o : Operator) (x : Outcome) (d : List (List ℕ)) → unable ≡ told x → Ends (ensured_by s f o x) Unenforceable d d
+  by_stuck : (o : Operator) (x : Outcome) (d : List (List ℕ)) → unable ≡ told x → Ends (ensured_by s f o x) (Err Stuck) d d
   by_stuck o row_missing d e = absurd (let y : ◌≡◌ {A = ℕ} 0 1 = cc in omega arith)
   by_stuck o stuck d e = (refl, refl)
   by_stuck o (enforced cs) d e = absurd (let y : ◌≡◌ {A = ℕ} 0 1 = cc in omega arith)
@@ -117,16 +112,14 @@ module _ (s : Settings) (b : List ℕ) (facts rows : List (List ℕ)) (masks : L
   worked_finished : (t : Plan) (cs : List ChildState) → child_states s f t ≡ enforced cs → ensure_worked s f t ≡ answered (finished s f (root t) cs)
   worked_finished (node o ts) cs e = ap (ensured_by s f o) e
 
-  module _ (r : Enforcing) (forms : List ℕ) (says : (t : Plan) (rest : List (List ℕ)) → drop at src ≡ flatten t ++ rest → answer r forms ≡ told (child_states s f t)) where
-    pub ends_missing : r ≡ Lacking → (d : List (List ℕ)) (t : Plan) (rest : List (List ℕ)) → drop at src ≡ flatten t ++ rest → Ends (ensure_worked s f t) Missing d d
-    ends_missing e d (node o ts) rest h = by_missing o (child_states s f (node o ts)) d (ap (λ (x : Enforcing). answer x forms) (sym e) ∙ says (node o ts) rest h)
+  module _ (r : Result ⊤ Unenforced) (forms : List ℕ) (says : (t : Plan) (rest : List (List ℕ)) → drop at src ≡ flatten t ++ rest → answer r forms ≡ told (child_states s f t)) where
+    pub ends_unenforced : (e : Unenforced) → r ≡ Err e → (d : List (List ℕ)) (t : Plan) (rest : List (List ℕ)) → drop at src ≡ flatten t ++ rest → Ends (ensure_worked s f t) (Err e) d d
+    ends_unenforced Missing e d (node o ts) rest h = by_missing o (child_states s f (node o ts)) d (ap (λ (x : Result ⊤ Unenforced). answer x forms) (sym e) ∙ says (node o ts) rest h)
+    ends_unenforced Stuck e d (node o ts) rest h = by_stuck o (child_states s f (node o ts)) d (ap (λ (x : Result ⊤ Unenforced). answer x forms) (sym e) ∙ says (node o ts) rest h)
 
-    pub ends_stuck : r ≡ Stuck → (d : List (List ℕ)) (t : Plan) (rest : List (List ℕ)) → drop at src ≡ flatten t ++ rest → Ends (ensure_worked s f t) Unenforceable d d
-    ends_stuck e d (node o ts) rest h = by_stuck o (child_states s f (node o ts)) d (ap (λ (x : Enforcing). answer x forms) (sym e) ∙ says (node o ts) rest h)
-
-    module _ (e : r ≡ Enforced) where
+    module _ (u : ⊤) (e : r ≡ Ok u) where
       gave_at : (t : Plan) (rest : List (List ℕ)) → drop at src ≡ flatten t ++ rest → Gave (child_states s f t) forms
-      gave_at t rest h = gave (child_states s f t) forms (ap (λ (x : Enforcing). answer x forms) (sym e) ∙ says t rest h)
+      gave_at t rest h = gave (child_states s f t) forms (ap (λ (x : Result ⊤ Unenforced). answer x forms) (sym e) ∙ says t rest h)
 
       pub came_worked : (room : ℕ) → WorkedAt s f src at (length facts) room → Came s f src at (length facts) forms room
       came_worked room p =

@@ -1,10 +1,8 @@
 -- What `ensure_distribution` asks of what it is lent.
-use Rattle.std.specs.Prelude.{ℕ, ◌≤◌, ◌<◌, ◌≡◌, List, [], ◌++◌, length, take, drop, get_or}
+use Rattle.std.specs.Prelude.{ℕ, ◌≤◌, ◌≡◌, List, ◌++◌, length, drop}
 use Rattle.exchange.specs.declared.settings.Settings.{Settings}
 use Rattle.exchange.specs.Trees.{root, trees, Plan}
 use Rattle.exchange.specs.Facts.{Facts}
-use Rattle.exchange.specs.FactRows.{child_facts}
-use Rattle.exchange.specs.Found.{index_of}
 use Rattle.exchange.specs.Rows.{flatten}
 use Rattle.exchange.specs.States.{ChildState}
 use Rattle.exchange.specs.Standings.{form_numbers}
@@ -12,12 +10,6 @@ use Rattle.exchange.specs.Relationships.{enforced}
 use Rattle.exchange.specs.Skeleton.{below}
 use Rattle.exchange.specs.Partitioning.{worked_of}
 use Rattle.exchange.specs.Ensure.{Answer, answered, child_states, finished, ensure_worked}
-
--- facts with entries within their bound, and n rows with their index
-pub record Known (facts rows : List (List ℕ)) (index : List ℕ) (n : ℕ) : Type 0 where
-  pub few : (k : ℕ) → k < length facts → (child_facts (get_or facts k [])).entries ≤ 8
-  pub rowed : n ≤ length rows
-  pub indexed : index ≡ index_of (take n rows)
 
 -- a worked node with `count` children stands at `at`, whose states came to these forms, and the answer fits the room
 pub record Came (s : Settings) (f : Facts) (src : List (List ℕ)) (at count : ℕ) (forms : List ℕ) (room : ℕ) : Type 0 where

@@ -1,5 +1,5 @@
 // The answer, once the forms of the worked node's children are known.
-ghost use Rattle.std.specs.Prelude.{◌≡◌, cond, ◌&&◌, List, ◌++◌, ℕ, ◌+◌, ◌<◌, ◌≤◌, eqb, length, take, drop, set};
+ghost use Rattle.std.specs.Prelude.{◌≡◌, cond, ◌&&◌, List, ◌++◌, ℕ, ◌+◌, ◌<◌, ◌≤◌, eqb, length, drop, set, Ok};
 ghost use Rattle.exchange.specs.Trees.{root, Plan};
 ghost use Rattle.exchange.specs.Settings.{is_set};
 ghost use Rattle.exchange.specs.States.{ChildState};
@@ -9,19 +9,17 @@ ghost use Rattle.exchange.specs.Operators.{mark};
 ghost use Rattle.exchange.specs.FactRows.{node_facts};
 ghost use Rattle.exchange.specs.Rows.{node_of, operator_of, flatten, row_of};
 ghost use Rattle.exchange.specs.Ensure.{interleaved, child_states, finished, answered};
-ghost use Rattle.ensure.specs.Outcomes.{facts_by, Ends};
-ghost use Rattle.ensure.specs.Lent.{Known, Came};
+ghost use Rattle.ensure.specs.Outcomes.{facts_of, Ends};
+ghost use Rattle.ensure.specs.Lent.{Came};
 
 use crate::interleave::becomes_interleave;
-use crate::outcome::Ensured;
-use crate::update::mark_number;
-use exchange::fact::FactRow;
+use crate::outcome::Answered;
+use exchange::facts::{Finishing, PlanFacts};
 use exchange::finish::finish_children;
 use exchange::kind;
 use exchange::partitioning::{self, NodeRow};
 use exchange::row::{self, Node, Row};
 use exchange::settings::Settings;
-use exchange::status::ChildRow;
 use nodes::interleave_one;
 
 // The worked node's row, as an interleave where it becomes one.
@@ -40,47 +38,39 @@ fn put_worked(rows: &mut [Row], worked: Node, children: u64, interleaves: bool)
 fn window_mark(kind: u64, b: NodeRow) -> u64
     ensures { result ≡ mark (eqb kind 7 && is_set (node_facts b).window) }
 {
-    if kind != kind::WINDOW {
-        return 0;
-    }
-    if b[partitioning::WINDOW] != 1 {
-        return 0;
-    }
-    1
+    u64::from(kind == kind::WINDOW && b[partitioning::WINDOW] == 1)
 }
 
 // The answer of the worked node at `at` and its children in their forms, at the front of `dst`.
 pub fn finish_worked(
     s: Settings,
-    b: NodeRow,
-    masks: &[u64],
+    f: PlanFacts,
     forms: &[u64],
-    facts: &[ChildRow],
-    index: &[u64],
-    rows: &[FactRow],
-    n: usize,
     src: &[Row],
     at: usize,
     mid: &mut [Row],
     dst: &mut [Row],
-) -> Ensured
-    requires known { Known facts.now rows.now index.now n }
-    requires facts_len_bound { (length facts.now ≤ 8) × (length src.now + 2 ≤ length mid.old) }
-    requires came { Came s (facts_by b facts.now (take n rows.now) masks.now) src.now at (length facts.now) forms.now (length dst.old) }
-    ensures { (t : Plan) (rest : List (List ℕ)) (cs : List ChildState) → drop at src.now ≡ flatten t ++ rest → child_states s (facts_by b facts.now (take n rows.now) masks.now) t ≡ enforced cs → forms.now ≡ form_numbers cs → Ends (answered (finished s (facts_by b facts.now (take n rows.now) masks.now) (root t) cs)) result dst.old dst.new }
+) -> Answered
+    requires roomy { length src.now + 2 ≤ length mid.old }
+    requires came { Came s (facts_of f) src.now at (length f.children.now) forms.now (length dst.old) }
+    ensures { (t : Plan) (rest : List (List ℕ)) (cs : List ChildState) → drop at src.now ≡ flatten t ++ rest → child_states s (facts_of f.entry) t ≡ enforced cs → forms.now ≡ form_numbers cs → Ends (answered (finished s (facts_of f.entry) (root t) cs)) (Ok result) dst.old dst.new }
 {
     let below = at + 1;
     let worked = row::node_at(src, at);
     let k = row::children_at(src, at);
-    let i = becomes_interleave(s, worked.kind, index, rows, n, forms);
+    let i = becomes_interleave(s, worked.kind, f.xs, forms);
     put_worked(&mut *dst, worked, k, i);
-    let m = finish_children(
-        s, b, worked, k, 1, k, forms, facts, index, rows, n, src, below, mid, &mut *dst, 1,
-    );
-    Ensured::Answered {
+    let w = Finishing {
+        settings: s,
+        facts: f,
+        node: worked,
+        children: k,
+    };
+    let m = finish_children(w, forms, 1, k, src, below, mid, &mut *dst, 1);
+    Answered {
         changed: 1,
-        window: window_mark(worked.kind, b),
-        interleave: mark_number(i),
+        window: window_mark(worked.kind, f.node),
+        interleave: u64::from(i),
         tracked: worked.tracked,
         lines: m.to,
     }

@@ -1,15 +1,11 @@
-// How ensure_distribution ends.
+// How ensure_distribution ends where it has an answer.
 
-// The numbers of the d line and how many rows the answer has; or a row is missing, or relationships can't be enforced.
+// The numbers of the d line, and how many rows the answer has.
 #[derive(Clone, Copy)]
-pub enum Ensured {
-    Answered {
-        changed: u64,
-        window: u64,
-        interleave: u64,
-        tracked: u64,
-        lines: usize,
-    },
-    Missing,
-    Unenforceable,
+pub struct Answered {
+    pub changed: u64,
+    pub window: u64,
+    pub interleave: u64,
+    pub tracked: u64,
+    pub lines: usize,
 }

@@ -2,7 +2,6 @@
 ghost use Rattle.std.specs.Prelude.{◌≡◌};
 ghost use Rattle.exchange.specs.Rows.{operator_of};
 ghost use Rattle.exchange.specs.Runs.{Stands, Becomes, BecomeAll, Says, SaysAll, StandAll};
-ghost use Rattle.exchange.specs.Operators.{mark as mark_of};
 ghost use Rattle.exchange.specs.Children.{any_unspecified, update_each, update_children};
 ghost use Rattle.exchange.specs.Update.{is_unspecified, marks_below, marks_child};
 
@@ -13,10 +12,7 @@ use exchange::row::{self, Node, Row};
 fn unspecified(n: Node) -> bool
     ensures { result ≡ is_unspecified (operator_of n) }
 {
-    if n.tracked != 1 {
-        return false;
-    }
-    n.need == 0
+    n.tracked == 1 && n.need == 0
 }
 
 // Whether any of the `left` trees from `at` on is tracked, with nothing required of it.
@@ -65,15 +61,6 @@ fn marks_child(rows: &[Row], at: usize) -> bool
     marks_below(rows, at + 1, row::children_at(rows, at))
 }
 
-pub fn mark_number(b: bool) -> u64
-    ensures { result ≡ mark_of b }
-{
-    if b {
-        return 1;
-    }
-    0
-}
-
 // The marks of the `left` trees from `at` on.
 fn mark_children(rows: &mut [Row], at: usize, left: u64)
     requires { StandAll rows.old at left }
@@ -83,7 +70,7 @@ fn mark_children(rows: &mut [Row], at: usize, left: u64)
         return;
     }
     let next = row::past_tree(&*rows, at);
-    let m = mark_number(marks_child(&*rows, at));
+    let m = u64::from(marks_child(&*rows, at));
     row::set_mark(&mut *rows, at, m);
     mark_children(&mut *rows, next, left - 1);
 }

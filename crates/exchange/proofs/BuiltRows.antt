@@ -8,7 +8,7 @@ use mathlib.Core.List.{List, [], ◌∷◌, ◌++◌, map, append_assoc}
 use native.Mathlib.Nat.{add-zero}
 use native.Mathlib.Omega.{arith}
 use lib.Dec.{eqb}
-use lib.ListN.{length, take, get_or, set, replicate, length-append}
+use lib.ListN.{length, get_or, set, replicate, length-append}
 use lib.Seq.{sets}
 use borrow.Author.Tests.{eq-eqb, ne_eqb}
 use Rattle.exchange.specs.declared.row.Node.{Node}
@@ -27,20 +27,20 @@ use Rattle.exchange.proofs.TreeRows.{flatten_node, flattens_one, operator_held, 
 use Rattle.exchange.proofs.Forms.{form_apart, form_whole}
 use Rattle.exchange.proofs.FactRows.{row_none, row_placed, row_some}
 
-module _ (rows : List (List ℕ)) (n child form : ℕ) (small : form ≤ 15) where
+module _ (rows : List (List ℕ)) (child form : ℕ) (small : form ≤ 15) where
   sixteen : form_number (form_of form) ≡ form
   sixteen = form_whole form (omega arith)
 
-  pub row_blank : nothing ≡ row_for (take n rows) child form → fact_row (replicate 13 0) ≡ row_in (map fact_row (take n rows)) child (form_of form)
+  pub row_blank : nothing ≡ row_for rows child form → fact_row (replicate 13 0) ≡ row_in (map fact_row rows) child (form_of form)
   unfolding row_in
-  row_blank e = sym (ap or_blank (row_none rows n child (form_of form) (rw sixteen e)))
+  row_blank e = sym (ap or_blank (row_none rows child (form_of form) (rw sixteen e)))
 
-  pub row_there : (p : ℕ) → some p ≡ row_for (take n rows) child form → fact_row (get_or rows p []) ≡ row_in (map fact_row (take n rows)) child (form_of form)
+  pub row_there : (p : ℕ) → some p ≡ row_for rows child form → fact_row (get_or rows p []) ≡ row_in (map fact_row rows) child (form_of form)
   unfolding row_in
-  row_there p e = sym (ap or_blank (row_some rows n child (form_of form) p (rw sixteen e)))
+  row_there p e = sym (ap or_blank (row_some rows child (form_of form) p (rw sixteen e)))
 
-  pub row_within : (p : ℕ) → some p ≡ row_for (take n rows) child form → p < length rows
-  row_within p e = row_placed rows n child (form_of form) p (rw sixteen e)
+  pub row_within : (p : ℕ) → some p ≡ row_for rows child form → p < length rows
+  row_within p e = row_placed rows child (form_of form) p (rw sixteen e)
 
 -- ---- the operators
 

@@ -8,8 +8,8 @@ use Prim.Native.Nat.{ℕ, suc, ◌+◌, ◌≤◌, ◌<◌}
 use native.Mathlib.Numerals.{add-one}
 use native.Mathlib.Omega.{arith}
 use lib.Dec.{eqb}
-use lib.ListN.{length, take, drop, get_or, length-take, drop_of_length-le}
-use lib.Seq.{drop-cons, get_or-take}
+use lib.ListN.{length, drop, get_or, drop_of_length-le}
+use lib.Seq.{drop-cons}
 use Rattle.exchange.specs.Forms.{Form, form_number}
 use Rattle.exchange.specs.Facts.{Row, row_of}
 use Rattle.exchange.specs.Found.{child_of, later, row_for}
@@ -31,7 +31,7 @@ row_found [] child f = refl
 row_found (x ∷ xs) child f =
     row_turn (eqb (child_of x) child && eqb (get_or x 1 0) (form_number f)) x xs (row_for xs child (form_number f)) _ (row_found xs child f)
 
--- ---- a row that was found among the first n
+-- ---- a row that was found
 
 found_in : (xs : List (List ℕ)) (child n p : ℕ) → row_for xs child n ≡ some p → p < length xs
 unfolding row_for
@@ -43,17 +43,15 @@ found_in (x ∷ xs) child n p e = go (eqb (child_of x) child && eqb (get_or x 1 
     go false none e h = absurd (let z : ◌≡◌ {A = ℕ} 0 1 = cc in omega arith)
     go false (some q) e h = let z : suc q ≡ p = cc in omega (arith, h q refl)
 
-module _ (rows : List (List ℕ)) (n child : ℕ) (f : Form) where
-  pub row_none : none ≡ row_for (take n rows) child (form_number f) → row_of (map fact_row (take n rows)) child f ≡ none
-  row_none e = row_found (take n rows) child f ∙ ap (row_at (take n rows)) (sym e)
+module _ (rows : List (List ℕ)) (child : ℕ) (f : Form) where
+  pub row_none : none ≡ row_for rows child (form_number f) → row_of (map fact_row rows) child f ≡ none
+  row_none e = row_found rows child f ∙ ap (row_at rows) (sym e)
 
-  pub row_placed : (p : ℕ) → some p ≡ row_for (take n rows) child (form_number f) → p < length rows
-  row_placed p e = omega (arith, simp length-take at (found_in (take n rows) child (form_number f) p (sym e)))
+  pub row_placed : (p : ℕ) → some p ≡ row_for rows child (form_number f) → p < length rows
+  row_placed p e = found_in rows child (form_number f) p (sym e)
 
-  pub row_some : (p : ℕ) → some p ≡ row_for (take n rows) child (form_number f) → row_of (map fact_row (take n rows)) child f ≡ some (fact_row (get_or rows p []))
-  row_some p e =
-      let small : p < n = omega (arith, simp length-take at (found_in (take n rows) child (form_number f) p (sym e))) in
-      row_found (take n rows) child f ∙ ap (row_at (take n rows)) (sym e) ∙ ap (λ (x : List ℕ). some (fact_row x)) (get_or-take n rows p [] small)
+  pub row_some : (p : ℕ) → some p ≡ row_for rows child (form_number f) → row_of (map fact_row rows) child f ≡ some (fact_row (get_or rows p []))
+  row_some p e = row_found rows child f ∙ ap (row_at rows) (sym e)
 
 -- ---- children by their numbers, from place i on
 

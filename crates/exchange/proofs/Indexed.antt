@@ -3,32 +3,16 @@
 use mathlib.Core.Path.{◌≡◌, refl, sym, ap, ◌∙◌}
 use mathlib.Core.Bool.{Bool, true, false, cond, ◌&&◌}
 use mathlib.Core.Option.{Option, none, some}
-use mathlib.Core.List.{List, [], ◌∷◌, ◌++◌, append_assoc, append-nil}
+use mathlib.Core.List.{List, [], ◌∷◌}
 use Prim.Native.Nat.{ℕ, suc, ◌+◌, ◌*◌, ◌-◌, ◌≤◌, ◌<◌}
 use native.Mathlib.Nat.{add-zero}
 use native.Mathlib.Numerals.{add-one}
 use native.Mathlib.Omega.{arith}
 use lib.Dec.{eqb, leb}
 use borrow.Author.Tests.{le-leb, leb-true, eqb-true, eqb-false}
-use lib.ListN.{length, take, drop, get_or, set, replicate, length-set, length-take, length-replicate, get_or-replicate, replicate-append-replicate, drop_of_length-le}
-use lib.Seq.{drop-cons, set_at, get_or-take, get_or-set_same, get_or-set_other}
+use lib.ListN.{length, drop, get_or, set, replicate, length-set, length-replicate, get_or-replicate, drop_of_length-le}
+use lib.Seq.{drop-cons, get_or-set_same, get_or-set_other}
 use Rattle.exchange.specs.Found.{child_of, form_number, later, row_for, slot, index_from}
-
--- ---- filled with 0
-
-module _ (l k : List ℕ) (i : ℕ) where
-  pub clear_turn : i < length l → k ≡ replicate i 0 ++ drop i l → set k i 0 ≡ replicate (i + 1) 0 ++ drop (i + 1) l
-  clear_turn h e =
-      ap (λ (m : List ℕ). set m i 0) (e ∙ ap (λ (m : List ℕ). replicate i 0 ++ m) (drop-cons l i 0 h))
-      ∙ set_at (replicate i 0) (get_or l i 0) (drop (suc i) l) 0 i (length-replicate i 0)
-      ∙ sym (append_assoc (replicate i 0) (0 ∷ []) (drop (suc i) l))
-      ∙ ap (λ (m : List ℕ). m ++ drop (suc i) l) (replicate-append-replicate i 1 0)
-      ∙ ap (λ (j : ℕ). replicate (i + 1) 0 ++ drop j l) (sym (add-one i))
-
-  pub clear_end : i ≤ length l → length l ≤ i → k ≡ replicate i 0 ++ drop i l → k ≡ replicate (length l) 0
-  clear_end u v e =
-      let same : i ≡ length l = omega arith in
-      e ∙ ap (λ (m : List ℕ). replicate i 0 ++ m) (drop_of_length-le l {i = i} v) ∙ append-nil (replicate i 0) ∙ ap (λ (j : ℕ). replicate j 0) same
 
 -- ---- places
 
@@ -73,29 +57,17 @@ unfolding index_from
 index_none i = refl
 
 -- one row further to the front
-module _ (rows : List (List ℕ)) (n j : ℕ) (k : List ℕ) where
-  pub index_turn : j < n → n ≤ length rows → k ≡ index_from (suc j) (drop (suc j) (take n rows))
-      → set k (slot (child_of (get_or rows j [])) (form_number (get_or rows j []))) (suc j) ≡ index_from j (drop j (take n rows))
-  unfolding index_from
-  index_turn h fits e =
-      let here : j < length (take n rows) = simp length-take (omega arith) in
-      let x : get_or (take n rows) j [] ≡ get_or rows j [] = get_or-take n rows j [] h in
-      rw (e, drop-cons (take n rows) j [] here, x)
-
-module _ (rows : List (List ℕ)) (n i : ℕ) (k : List ℕ) where
-  pub index_again : (s : ℕ) → (i ≡ 0 → ⊥) → i ≤ n → n ≤ length rows → k ≡ index_from i (drop i (take n rows))
-      → s ≡ slot (child_of (get_or rows (i - 1) [])) (form_number (get_or rows (i - 1) []))
-      → set k s (i - 1 + 1) ≡ index_from (i - 1) (drop (i - 1) (take n rows))
-  index_again s more h fits e at =
-      let back : i ≡ suc (i - 1) = omega arith in
-      let e' : k ≡ index_from (suc (i - 1)) (drop (suc (i - 1)) (take n rows)) = e ∙ ap (λ (m : ℕ). index_from m (drop m (take n rows))) back in
-      rw (at, add-one (i - 1)) (index_turn rows n (i - 1) k (omega arith) fits e')
+pub index_again : (rows : List (List ℕ)) (i : ℕ) (k : List ℕ) (s : ℕ) → 0 < i → i ≤ length rows → k ≡ index_from i (drop i rows)
+    → s ≡ slot (child_of (get_or rows (i - 1) [])) (form_number (get_or rows (i - 1) [])) → set k s (i - 1 + 1) ≡ index_from (i - 1) (drop (i - 1) rows)
+unfolding index_from
+index_again rows i k s more fits e at =
+    let here : i - 1 < length rows = omega arith in
+    let back : i ≡ suc (i - 1) = omega arith in
+    rw (e ∙ ap (λ (m : ℕ). index_from m (drop m rows)) back, at, add-one (i - 1), drop-cons rows (i - 1) [] here)
 
 -- of no rows
-pub index_begins : (rows : List (List ℕ)) (i : ℕ) (k : List ℕ) → length k ≡ 129 → replicate (length k) 0 ≡ index_from i (drop i (take i rows))
-index_begins rows i k e =
-    let whole : drop i (take i rows) ≡ [] = drop_of_length-le (take i rows) {i = i} (simp length-take (omega arith)) in
-    rw (e, whole, index_none i)
+pub index_begins : (rows : List (List ℕ)) (i : ℕ) → length rows ≤ i → replicate 129 0 ≡ index_from i (drop i rows)
+index_begins rows i h = rw (drop_of_length-le rows {i = i} h) (sym (index_none i))
 
 -- the place of a row and one more, and 0 of none
 abbrev pub marked : ℕ → Option ℕ → ℕ

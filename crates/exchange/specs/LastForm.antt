@@ -1,16 +1,13 @@
 -- A child in its last form, with the tree that the form makes of it and the order handling of that.
 -- Renders the end of `ensure_distribution` of 000, of one child.
-use Rattle.std.specs.Prelude.{ℕ, ◌+◌, ◌-◌, ◌≤◌, ◌<◌, ◌≡◌, List, [], length, take, get_or}
+use Rattle.std.specs.Prelude.{ℕ, ◌+◌, ◌-◌, ◌≤◌, ◌<◌, List, [], length, get_or}
 use Rattle.exchange.specs.Trees.{none, ◌∷ᶠ◌, root, Operator, Plan, Plans}
-use Rattle.exchange.specs.declared.row.Node.{Node}
 use Rattle.exchange.specs.declared.settings.Settings.{Settings}
 use Rattle.exchange.specs.declared.order.Known.{Known}
 use Rattle.exchange.specs.Forms.{Form, form_of}
 use Rattle.exchange.specs.Facts.{NodeFacts, ChildFacts, Row}
 use Rattle.exchange.specs.FactRows.{child_facts}
 use Rattle.exchange.specs.States.{ChildState}
-use Rattle.exchange.specs.Found.{index_of}
-use Rattle.exchange.specs.Rows.{node_of, operator_of}
 use Rattle.exchange.specs.Built.{row_in, built}
 use Rattle.exchange.specs.Order.{handle_order}
 
@@ -48,16 +45,11 @@ module _ (rows : List Row) (forms : List ℕ) (facts : List (List ℕ)) (s : Set
       finished_child rows child (form_of (get_or forms (child - 1) 0)) (root t).need (child_facts (get_or facts (child - 1) [])) s b worked children t
       ∷ᶠ finished_each (child + 1) ts
 
--- what finishing children asks of forms, facts and rooms: children from a number on, at most 8, forms and entries within their bounds, an index, a worked
--- node that has an operator, and a room for the largest of the children
-pub record EachFinished (forms : List ℕ) (facts rows : List (List ℕ)) (index : List ℕ) (n child left : ℕ) (worked : Node) (src mid : ℕ) : Type 0 where
+-- what finishing children asks of their forms and of a room: children from a number on, each with an F row, forms within their bounds, and a room for the
+-- largest of the children
+pub record EachFinished (forms : List ℕ) (count child left src mid : ℕ) : Type 0 where
   pub first : 1 ≤ child
   pub last : child + left ≤ length forms + 1
-  pub most : length forms ≤ 8
   pub small : (k : ℕ) → k < length forms → get_or forms k 0 ≤ 15
-  pub told : length forms ≤ length facts
-  pub few : (k : ℕ) → k < length facts → (child_facts (get_or facts k [])).entries ≤ 8
-  pub rowed : n ≤ length rows
-  pub indexed : index ≡ index_of (take n rows)
-  pub legal : node_of (operator_of worked) ≡ worked
+  pub told : length forms ≤ count
   pub roomy : src + 2 ≤ mid

@@ -1,9 +1,7 @@
 -- The settings on the D line (the struct `Settings`: target, batch, subset and files are numbers, the others marks), and the bounds that refusal 7 tests.
 -- Renders document 01, "`D,target,roundrobin,split,batch,estimates,subset,files,sort,union`", and what `ensure_distribution` of 000 reads of its `config`.
-use Rattle.std.specs.Prelude.{ℕ, Bool, cond, ◌&&◌, eqb, leb}
+use Rattle.std.specs.Prelude.{ℕ, Bool, cond, ◌&&◌, eqb, leb, Option, Some, None}
 use Rattle.exchange.specs.declared.settings.Settings.{Settings}
-use Rattle.exchange.specs.declared.settings.Checked.{Checked}
-use Rattle.exchange.specs.declared.settings.Checked.TheVariants.{Fine, OutOfRange}
 
 -- a mark is 0 or 1; it is set where it is 1
 abbrev pub is_set : ℕ → Bool
@@ -24,5 +22,5 @@ abbrev pub settings_fit : Settings → Bool
 settings_fit s = leb least_target s.target && (leb s.target most_target && leb least_batch s.batch)
 
 -- the settings, where they fit
-unfoldable pub checked : Settings → Checked
-checked s = cond (settings_fit s) (Fine s) OutOfRange
+unfoldable pub checked : Settings → Option Settings
+checked s = cond (settings_fit s) (Some s) None

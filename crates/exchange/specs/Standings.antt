@@ -1,15 +1,11 @@
 -- The worked node and a child on its way, by their numbers, and a step's answer as a form.
-use Rattle.std.specs.Prelude.{ℕ, ◌≡◌, List, [], ◌∷◌, map}
+use Rattle.std.specs.Prelude.{ℕ, ◌+◌, ◌<◌, ◌≡◌, List, [], ◌∷◌, map, length, get_or, ⊤, Option as Answer, Some, None}
 use Rattle.std.proofs.Math.Option.{Option, some, none as nothing}
 use Rattle.exchange.specs.declared.status.Asked.{Asked}
 use Rattle.exchange.specs.declared.status.RepartitionRequirementStatus.{RepartitionRequirementStatus as Told}
 use Rattle.exchange.specs.Status.{RepartitionRequirementStatus}
 use Rattle.exchange.specs.declared.partitioning.Worked.{Worked}
 use Rattle.exchange.specs.declared.partitioning.Standing.{Standing}
-use Rattle.exchange.specs.declared.step.Formed.{Formed}
-use Rattle.exchange.specs.declared.step.Formed.TheVariants.{Form as form, Missing}
-use Rattle.exchange.specs.declared.step.Stepped.{Stepped}
-use Rattle.exchange.specs.declared.step.Stepped.TheVariants.{Done, Lacking}
 use Rattle.exchange.specs.Trees.{node, none, Operator, Plan}
 use Rattle.exchange.specs.Forms.{Form, form_number, form_of, plain_form}
 use Rattle.exchange.specs.Facts.{NodeFacts, Row}
@@ -26,10 +22,10 @@ node_for w = node_facts w.facts
 abbrev pub state_for : Asked → Standing → ChildState
 state_for a c =
     record {
-      number = a.number;
+      number = c.at.child;
       facts = child_facts a.facts;
       need = a.need;
-      form = form_of c.form;
+      form = form_of c.at.form;
       row = fact_row c.row;
       plan = node (operator_by 0 c.count a.need) none;
     }
@@ -39,17 +35,17 @@ abbrev pub status_by : Child → Told → RepartitionRequirementStatus
 status_by k t = record { child = k; roundrobin_beneficial = t.beneficial; roundrobin_beneficial_stats = t.stats; hash_necessary = t.necessary }
 
 -- the form that a step leaves
-abbrev pub formed : Option ChildState → Formed
-formed nothing = Missing
-formed (some c) = form (form_number c.form)
+abbrev pub formed : Option ChildState → Answer ℕ
+formed nothing = None
+formed (some c) = Some (form_number c.form)
 
 -- the form of that number, where its row is there
-abbrev pub form_by : ℕ → Option Row → Formed
-form_by n nothing = Missing
-form_by n (some x) = form n
+abbrev pub form_by : ℕ → Option Row → Answer ℕ
+form_by n nothing = None
+form_by n (some x) = Some n
 
 -- what passing into the form of that number leaves, of any child with the number
-abbrev pub Passed : ℕ → ℕ → List Row → Formed → Type 0
+abbrev pub Passed : ℕ → ℕ → List Row → Answer ℕ → Type 0
 Passed child number rows r =
     (c : ChildState) (f : Form) (change : Row → Plan → Plan) → c.number ≡ child → form_number f ≡ number → r ≡ formed (pass rows f change c)
 
@@ -74,6 +70,16 @@ pub data SameChildren : List Asked → List Child → Type 0 where
   done : SameChildren [] []
   also : {a : Asked} {asks : List Asked} {k : Child} {ks : List Child} → SameChild a k → SameChildren asks ks → SameChildren (a ∷ asks) (k ∷ ks)
 
+abbrev pub no_child : Asked
+no_child = record { number = 0; need = 0; count = 0; facts = [] }
+
+-- children numbered from 1
+abbrev pub Numbered : List Asked → Type 0
+Numbered asks = (k : ℕ) → k < length asks → (get_or asks k no_child).number ≡ k + 1
+
+abbrev pub asked_needs : List Asked → List ℕ
+asked_needs asks = map (λ a. a.need) asks
+
 -- ---- the forms of all children, none where a row is missing
 
 abbrev pub form_numbers : List ChildState → List ℕ
@@ -83,15 +89,15 @@ abbrev pub form_list : Option (List ChildState) → Option (List ℕ)
 form_list nothing = nothing
 form_list (some cs) = some (form_numbers cs)
 
-abbrev pub resulting : Stepped → List ℕ → Option (List ℕ)
-resulting Done fs = some fs
-resulting Lacking fs = nothing
+abbrev pub resulting : Answer ⊤ → List ℕ → Option (List ℕ)
+resulting (Some _) fs = some fs
+resulting None fs = nothing
 
-abbrev pub with_forms : Formed → Option (List ℕ) → Option (List ℕ)
-with_forms Missing rest = nothing
-with_forms (form n) nothing = nothing
-with_forms (form n) (some ns) = some (n ∷ ns)
+abbrev pub with_forms : Answer ℕ → Option (List ℕ) → Option (List ℕ)
+with_forms None rest = nothing
+with_forms (Some n) nothing = nothing
+with_forms (Some n) (some ns) = some (n ∷ ns)
 
-unfoldable pub each_form : {A : Type 0} → (A → Formed) → List A → Option (List ℕ)
+unfoldable pub each_form : {A : Type 0} → (A → Answer ℕ) → List A → Option (List ℕ)
 each_form f [] = some []
 each_form f (x ∷ xs) = with_forms (f x) (each_form f xs)

@@ -1,11 +1,9 @@
 -- The relationship rounds by the children's numbers: a child's turn in a round is its number, its need, its form and its bit of the mask.
-use Rattle.std.specs.Prelude.{ℕ, zero, suc, ◌+◌, ◌*◌, ◌/◌, ◌%◌, ◌≤◌, ◌≡◌, Bool, true, false, cond, not, ◌&&◌, ◌||◌, List, [], ◌∷◌, eqb}
+use Rattle.std.specs.Prelude.{ℕ, zero, suc, ◌+◌, ◌*◌, ◌/◌, ◌%◌, ◌≤◌, ◌≡◌, Bool, true, false, cond, not, ◌&&◌, ◌||◌, List, [], ◌∷◌, eqb, ⊤, Option as Answer, Some, Result, Ok, Err}
 use Rattle.std.proofs.Math.Option.{Option, some, none as nothing}
-use Rattle.exchange.specs.declared.step.Formed.{Formed}
-use Rattle.exchange.specs.declared.step.Formed.TheVariants.{Form as form}
 use Rattle.exchange.specs.declared.relationship.Turn.{Turn}
-use Rattle.exchange.specs.declared.relationship.Enforcing.{Enforcing}
-use Rattle.exchange.specs.declared.relationship.Enforcing.TheVariants.{Enforced, Stuck, Missing as Absent}
+use Rattle.exchange.specs.declared.relationship.Unenforced.{Unenforced}
+use Rattle.exchange.specs.declared.relationship.Unenforced.TheVariants.{Stuck, Missing}
 use Rattle.exchange.specs.Settings.{is_set}
 use Rattle.exchange.specs.Forms.{form_number, form_of, with_relationship}
 use Rattle.exchange.specs.Facts.{Row, row_of, unsatisfied_at}
@@ -26,9 +24,9 @@ module _ (rows : List Row) where
       && (not (is_set (form_of x.form).relationship) && (is_keyed x.need && not (row_already (row_of rows x.number (form_of x.form)))))
 
   -- the form after the turn
-  abbrev pub turn_form : Turn → Formed
+  abbrev pub turn_form : Turn → Answer ℕ
   turn_form x =
-      cond (turn_givable x) (form_by (form_number (with_relationship (form_of x.form))) (row_of rows x.number (with_relationship (form_of x.form)))) (form x.form)
+      cond (turn_givable x) (form_by (form_number (with_relationship (form_of x.form))) (row_of rows x.number (with_relationship (form_of x.form)))) (Some x.form)
 
   unfoldable pub any_turn : List Turn → Bool
   any_turn [] = false
@@ -59,10 +57,10 @@ pub data Told : Type 0 where
   unable : Told
   given : List ℕ → Told
 
-abbrev pub answer : Enforcing → List ℕ → Told
-answer Enforced fs = given fs
-answer Stuck fs = unable
-answer Absent fs = lacking
+abbrev pub answer : Result ⊤ Unenforced → List ℕ → Told
+answer (Ok _) fs = given fs
+answer (Err Stuck) fs = unable
+answer (Err Missing) fs = lacking
 
 abbrev pub told : Outcome → Told
 told row_missing = lacking

@@ -1,42 +1,42 @@
 // The tree of a child in its form: its new operators, its root, split or not, and what is below it as it stands.
-ghost use Rattle.std.specs.Prelude.{◌≡◌, map, ◌+◌, ◌≤◌, length, take};
+ghost use Rattle.std.specs.Prelude.{◌≡◌, map, ◌+◌, ◌≤◌, length};
 ghost use Rattle.exchange.specs.FactRows.{fact_row};
 ghost use Rattle.exchange.specs.Forms.{form_of};
-ghost use Rattle.exchange.specs.Found.{index_of};
 ghost use Rattle.exchange.specs.Rows.{node_of, operator_of};
 ghost use Rattle.exchange.specs.Runs.{Ready, Maps};
 ghost use Rattle.exchange.specs.Built.{row_in, top_operator, built_root, built_top, under_relationship, built_relationship, top_rows, new_rows, built_rows, built, Put};
 
-use crate::fact::{Fact, FactRow, WIDTH, fact_row};
-use crate::form::{TOP_KEYED, TOP_MERGE, TOP_NONE, form_of, relationship_of, split_of, top_of};
+use crate::fact::{ChildForm, Fact, FactRow, FactRows, WIDTH};
+use crate::form::{
+    SPLIT, TOP_KEYED, TOP_MERGE, TOP_NONE, form_of, relationship_of, split_of, top_of,
+};
 use crate::kind;
 use crate::operator::{new_exchange, new_merge, split_operator};
 use crate::row::{self, Node, Row, Step};
 
 // The row of a child in a form, or one of zeros.
-pub fn row_in(index: &[u64], rows: &[FactRow], n: usize, child: u64, form: u64) -> FactRow
-    requires le_child { (1 ≤ child) × (child ≤ 8) × (form ≤ 15) × (n ≤ length rows.now) }
-    requires index_value { index.now ≡ index_of (take n rows.now) }
-    ensures { fact_row result ≡ row_in (map fact_row (take n rows.now)) child (form_of form) }
+pub fn row_in(xs: FactRows, c: ChildForm) -> FactRow
+    ensures { fact_row result ≡ row_in (map fact_row xs.entry.rows.now) c.child (form_of c.form) }
 {
-    let found = fact_row(index, rows, n, child, form);
-    let Fact::Row { place } = found else {
+    let Fact::Row { place } = xs.fact_row(c) else {
         return [0; WIDTH];
     };
-    rows[place]
+    xs.rows[place]
 }
 
 // The root of the child's tree.
-fn built_root(index: &[u64], rows: &[FactRow], n: usize, child: u64, form: u64, o: Node) -> Node
-    requires le_child { (1 ≤ child) × (child ≤ 8) × (form ≤ 15) × (n ≤ length rows.now) }
-    requires index_value { index.now ≡ index_of (take n rows.now) }
+fn built_root(xs: FactRows, c: ChildForm, o: Node) -> Node
     requires o_value { node_of (operator_of o) ≡ o }
-    ensures { result ≡ node_of (built_root (map fact_row (take n rows.now)) child (form_of form) (operator_of o)) }
+    ensures { result ≡ node_of (built_root (map fact_row xs.entry.rows.now) c.child (form_of c.form) (operator_of o)) }
 {
-    if split_of(form) != 1 {
+    if split_of(c.form) != 1 {
         return o;
     }
-    split_operator(row_in(index, rows, n, child, 1), o)
+    let split = ChildForm {
+        child: c.child,
+        form: SPLIT,
+    };
+    split_operator(row_in(xs, split), o)
 }
 
 // A merge, a keyed exchange or a round robin.
@@ -52,148 +52,94 @@ fn top_operator(top: u64, x: FactRow, under: Node) -> Node
     new_exchange(kind::ROUND_ROBIN, x, under)
 }
 
-fn built_top(index: &[u64], rows: &[FactRow], n: usize, child: u64, form: u64, root: Node) -> Node
-    requires le_child { (1 ≤ child) × (child ≤ 8) × (form ≤ 15) × (n ≤ length rows.now) }
-    requires index_value { index.now ≡ index_of (take n rows.now) }
-    ensures { result ≡ node_of (built_top (map fact_row (take n rows.now)) child (form_of form) (operator_of root)) }
+fn built_top(xs: FactRows, c: ChildForm, root: Node) -> Node
+    ensures { result ≡ node_of (built_top (map fact_row xs.entry.rows.now) c.child (form_of c.form) (operator_of root)) }
 {
-    let top = top_of(form);
-    let before = form_of(split_of(form), top, 0);
-    top_operator(top, row_in(index, rows, n, child, before), root)
+    let top = top_of(c.form);
+    let before = ChildForm {
+        child: c.child,
+        form: form_of(split_of(c.form), top, 0),
+    };
+    top_operator(top, row_in(xs, before), root)
 }
 
 // What stands topmost before a relationship exchange.
-fn under_relationship(
-    index: &[u64],
-    rows: &[FactRow],
-    n: usize,
-    child: u64,
-    form: u64,
-    root: Node,
-) -> Node
-    requires le_child { (1 ≤ child) × (child ≤ 8) × (form ≤ 15) × (n ≤ length rows.now) }
-    requires index_value { index.now ≡ index_of (take n rows.now) }
+fn under_relationship(xs: FactRows, c: ChildForm, root: Node) -> Node
     requires root_value { node_of (operator_of root) ≡ root }
-    ensures { result ≡ node_of (under_relationship (map fact_row (take n rows.now)) child (form_of form) (operator_of root)) }
+    ensures { result ≡ node_of (under_relationship (map fact_row xs.entry.rows.now) c.child (form_of c.form) (operator_of root)) }
 {
-    if top_of(form) == TOP_NONE {
+    if top_of(c.form) == TOP_NONE {
         return root;
     }
-    built_top(index, rows, n, child, form, root)
+    built_top(xs, c, root)
 }
 
-fn built_relationship(
-    index: &[u64],
-    rows: &[FactRow],
-    n: usize,
-    child: u64,
-    form: u64,
-    root: Node,
-) -> Node
-    requires le_child { (1 ≤ child) × (child ≤ 8) × (form ≤ 15) × (n ≤ length rows.now) }
-    requires index_value { index.now ≡ index_of (take n rows.now) }
+fn built_relationship(xs: FactRows, c: ChildForm, root: Node) -> Node
     requires root_value { node_of (operator_of root) ≡ root }
-    ensures { result ≡ node_of (built_relationship (map fact_row (take n rows.now)) child (form_of form) (operator_of root)) }
+    ensures { result ≡ node_of (built_relationship (map fact_row xs.entry.rows.now) c.child (form_of c.form) (operator_of root)) }
 {
-    let under = under_relationship(index, rows, n, child, form, root);
-    new_exchange(kind::KEYED, row_in(index, rows, n, child, form), under)
+    let under = under_relationship(xs, c, root);
+    new_exchange(kind::KEYED, row_in(xs, c), under)
 }
 
 // Writes the top operator, and returns the place past it.
-fn put_top(
-    index: &[u64],
-    rows: &[FactRow],
-    n: usize,
-    child: u64,
-    form: u64,
-    root: Node,
-    dst: &mut [Row],
-    to: usize,
-) -> usize
-    requires le_child { (1 ≤ child) × (child ≤ 8) × (form ≤ 15) × (n ≤ length rows.now) }
-    requires index_value { index.now ≡ index_of (take n rows.now) }
-    requires root_in_bounds { to + length (top_rows (map fact_row (take n rows.now)) child (form_of form) (operator_of root)) ≤ length dst.old }
-    ensures { Put to (top_rows (map fact_row (take n rows.now)) child (form_of form) (operator_of root)) dst.old dst.new result }
+fn put_top(xs: FactRows, c: ChildForm, root: Node, dst: &mut [Row], to: usize) -> usize
+    requires root_in_bounds { to + length (top_rows (map fact_row xs.rows.now) c.child (form_of c.form) (operator_of root)) ≤ length dst.old }
+    ensures { Put to (top_rows (map fact_row xs.entry.rows.now) c.child (form_of c.form) (operator_of root)) dst.old dst.new result }
 {
-    if top_of(form) == TOP_NONE {
+    if top_of(c.form) == TOP_NONE {
         return to;
     }
-    row::put_node(dst, to, built_top(index, rows, n, child, form, root), 1);
+    row::put_node(dst, to, built_top(xs, c, root), 1);
     to + 1
 }
 
 // Writes the operators above the root, and returns the place past them.
-fn put_new(
-    index: &[u64],
-    rows: &[FactRow],
-    n: usize,
-    child: u64,
-    form: u64,
-    root: Node,
-    dst: &mut [Row],
-    to: usize,
-) -> usize
-    requires le_child { (1 ≤ child) × (child ≤ 8) × (form ≤ 15) × (n ≤ length rows.now) }
-    requires index_value { index.now ≡ index_of (take n rows.now) }
+fn put_new(xs: FactRows, c: ChildForm, root: Node, dst: &mut [Row], to: usize) -> usize
     requires root_value { node_of (operator_of root) ≡ root }
-    requires root_in_bounds { to + length (new_rows (map fact_row (take n rows.now)) child (form_of form) (operator_of root)) ≤ length dst.old }
-    ensures { Put to (new_rows (map fact_row (take n rows.now)) child (form_of form) (operator_of root)) dst.old dst.new result }
+    requires root_in_bounds { to + length (new_rows (map fact_row xs.rows.now) c.child (form_of c.form) (operator_of root)) ≤ length dst.old }
+    ensures { Put to (new_rows (map fact_row xs.entry.rows.now) c.child (form_of c.form) (operator_of root)) dst.old dst.new result }
 {
-    if relationship_of(form) != 1 {
-        return put_top(index, rows, n, child, form, root, dst, to);
+    if relationship_of(c.form) != 1 {
+        return put_top(xs, c, root, dst, to);
     }
-    row::put_node(
-        &mut *dst,
-        to,
-        built_relationship(index, rows, n, child, form, root),
-        1,
-    );
-    put_top(index, rows, n, child, form, root, dst, to + 1)
+    row::put_node(&mut *dst, to, built_relationship(xs, c, root), 1);
+    put_top(xs, c, root, dst, to + 1)
 }
 
 // Writes the rows that the form makes of a child's root, and returns the place past them.
 fn put_built(
-    index: &[u64],
-    rows: &[FactRow],
-    n: usize,
-    child: u64,
-    form: u64,
+    xs: FactRows,
+    c: ChildForm,
     o: Node,
     children: u64,
     dst: &mut [Row],
     to: usize,
 ) -> usize
-    requires le_child { (1 ≤ child) × (child ≤ 8) × (form ≤ 15) × (n ≤ length rows.now) }
-    requires index_value { index.now ≡ index_of (take n rows.now) }
     requires o_value { node_of (operator_of o) ≡ o }
-    requires children_in_bounds { to + length (built_rows (map fact_row (take n rows.now)) child (form_of form) (operator_of o) children) ≤ length dst.old }
-    ensures { Put to (built_rows (map fact_row (take n rows.now)) child (form_of form) (operator_of o) children) dst.old dst.new result }
+    requires children_in_bounds { to + length (built_rows (map fact_row xs.rows.now) c.child (form_of c.form) (operator_of o) children) ≤ length dst.old }
+    ensures { Put to (built_rows (map fact_row xs.entry.rows.now) c.child (form_of c.form) (operator_of o) children) dst.old dst.new result }
 {
-    let root = built_root(index, rows, n, child, form, o);
-    let next = put_new(index, rows, n, child, form, root, &mut *dst, to);
+    let root = built_root(xs, c, o);
+    let next = put_new(xs, c, root, &mut *dst, to);
     row::put_node(&mut *dst, next, root, children);
     next + 1
 }
 
 // Writes the tree of the child that stands at `at`, as its form has it.
 pub fn build_child(
-    index: &[u64],
-    rows: &[FactRow],
-    n: usize,
-    child: u64,
-    form: u64,
+    xs: FactRows,
+    c: ChildForm,
     src: &[Row],
     at: usize,
     dst: &mut [Row],
     to: usize,
 ) -> Step
-    requires le_child { (1 ≤ child) × (child ≤ 8) × (form ≤ 15) × (n ≤ length rows.now) }
-    requires index_value { index.now ≡ index_of (take n rows.now) }
-    requires ready { Ready (built (map fact_row (take n rows.now)) child (form_of form)) src.now at (length dst.old) to }
-    ensures { Maps (built (map fact_row (take n rows.now)) child (form_of form)) src.now at dst.old to dst.new result }
+    requires ready { Ready (built (map fact_row xs.rows.now) c.child (form_of c.form)) src.now at (length dst.old) to }
+    ensures { Maps (built (map fact_row xs.entry.rows.now) c.child (form_of c.form)) src.now at dst.old to dst.new result }
 {
     let o = row::node_at(src, at);
     let children = row::children_at(src, at);
-    let next = put_built(index, rows, n, child, form, o, children, &mut *dst, to);
+    let next = put_built(xs, c, o, children, &mut *dst, to);
     row::copy_trees(src, at + 1, children, dst, next)
 }

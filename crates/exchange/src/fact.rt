@@ -1,5 +1,5 @@
 // What is known of a child in a form: X rows in sheet order, with an index beside them.
-ghost use Rattle.std.specs.Prelude.{◌≡◌, ◌<◌, ◌≤◌, length, take, replicate};
+ghost use Rattle.std.specs.Prelude.{◌≡◌, ◌≤◌, length};
 ghost use Rattle.exchange.specs.Found.{slot as slot_at, index_of, row_for, found_of};
 
 // The places of an X row.
@@ -38,6 +38,22 @@ pub const PLACES: usize = 129;
 
 const NOWHERE: usize = 128;
 
+// A child of the worked node, by its number from 1, in a form.
+#[derive(Clone, Copy)]
+pub struct ChildForm {
+    pub child: u64,
+    pub form: u64,
+    pub ghost within: { (1 ≤ child) × (child ≤ 8) × (form ≤ 15) },
+}
+
+// The X rows with their index.
+#[derive(Clone, Copy)]
+pub struct FactRows<'a> {
+    pub index: &'a [u64],
+    pub rows: &'a [FactRow],
+    pub ghost indexed: { index.now ≡ index_of rows.now },
+}
+
 #[derive(Clone, Copy)]
 pub enum Fact {
     Row { place: usize },
@@ -60,41 +76,29 @@ fn slot(child: u64, form: u64) -> usize
     ((child - 1) * 16 + form) as usize
 }
 
-fn clear(index: &mut [u64])
-    ensures { index.new ≡ replicate (length index.old) 0 }
+// The index of the rows, filled from the last of them to the first, so that the first of a child and form counts.
+pub fn index_rows(rows: &[FactRow], index: &mut [u64])
+    requires { length index.old ≡ 129 }
+    ensures { index.new ≡ index_of rows.now }
 {
-    let mut i = 0;
-    while i < index.len() {
-        index[i] = 0;
-        i += 1;
-    }
-}
-
-// The index of the first n rows, filled from the last of them to the first, so that the first of a child and form counts.
-pub fn index_rows(rows: &[FactRow], n: usize, index: &mut [u64])
-    requires { (n ≤ length rows.now) × (length index.old ≡ 129) }
-    ensures { index.new ≡ index_of (take n rows.now) }
-{
-    clear(&mut *index);
-    let mut i = n;
-    while i != 0 {
-        i -= 1;
+    index.fill(0);
+    for i in (0..rows.len()).rev() {
         let at = slot(rows[i][CHILD], rows[i][FORM]);
         index[at] = i as u64 + 1;
     }
 }
 
-// The first of the n rows that is of the child and the form.
-pub fn fact_row(index: &[u64], rows: &[FactRow], n: usize, child: u64, form: u64) -> Fact
-    requires le_child { (1 ≤ child) × (child ≤ 8) × (form ≤ 15) }
-    requires index_value { index.now ≡ index_of (take n rows.now) }
-    ensures { found_of result ≡ row_for (take n rows.now) child form }
-{
-    let mark = index[slot(child, form)];
-    if mark == 0 {
-        return Fact::Missing;
-    }
-    Fact::Row {
-        place: (mark - 1) as usize,
+impl<'a> FactRows<'a> {
+    // The first row that is of the child and the form.
+    pub fn fact_row(self, at: ChildForm) -> Fact
+        ensures { found_of result ≡ row_for self.entry.rows.now at.child at.form }
+    {
+        let mark = self.index[slot(at.child, at.form)];
+        if mark == 0 {
+            return Fact::Missing;
+        }
+        Fact::Row {
+            place: (mark - 1) as usize,
+        }
     }
 }

@@ -1,8 +1,7 @@
 // A child's tree in its last form, after order handling.
-ghost use Rattle.std.specs.Prelude.{◌≡◌, map, ◌≤◌, length, take};
+ghost use Rattle.std.specs.Prelude.{◌≡◌, [], map, ◌+◌, ◌-◌, ◌≤◌, length, get_or};
 ghost use Rattle.exchange.specs.FactRows.{node_facts, child_facts, fact_row};
 ghost use Rattle.exchange.specs.Forms.{form_of};
-ghost use Rattle.exchange.specs.Found.{index_of};
 ghost use Rattle.exchange.specs.Rows.{node_of, operator_of};
 ghost use Rattle.exchange.specs.Runs.{Ready, Readys, Maps, MapsAll};
 ghost use Rattle.exchange.specs.Built.{built};
@@ -10,34 +9,26 @@ ghost use Rattle.exchange.specs.Order.{output_fetch};
 ghost use Rattle.exchange.specs.LastForm.{finished_child, finished_each, EachFinished, known_by};
 
 use crate::child::{build_child, row_in};
-use crate::fact::{self, FactRow};
-use crate::kind;
+use crate::fact::{self, ChildForm, FactRow};
+use crate::facts::Finishing;
 use crate::order::{Known, handle_order};
 use crate::ordered::put_handled;
-use crate::partitioning::{self, NodeRow};
 use crate::row::{self, Node, Row, Step};
-use crate::settings::Settings;
 use crate::status::{self, ChildRow};
+use crate::{kind, partitioning};
 
-fn known(
-    s: Settings,
-    b: NodeRow,
-    kind: u64,
-    children: u64,
-    need: u64,
-    tracked: u64,
-    f: ChildRow,
-    x: FactRow,
-) -> Known
-    ensures { result ≡ known_by s (node_facts b) kind children need tracked (child_facts f) (fact_row x) }
+// What is known of a child with that need, mark and F row, in the form of that X row.
+fn known(w: Finishing, need: u64, tracked: u64, f: ChildRow, x: FactRow) -> Known
+    ensures { result ≡ known_by w.entry.settings (node_facts w.entry.facts.node) w.entry.node.kind w.entry.children need tracked (child_facts f) (fact_row x) }
 {
+    let b = w.facts.node;
     Known {
-        sort: s.sort,
+        sort: w.settings.sort,
         friendly: b[partitioning::FRIENDLY],
-        kind: kind,
-        children: children,
-        need: need,
-        tracked: tracked,
+        kind: w.node.kind,
+        children: w.children,
+        need,
+        tracked,
         maintains: f[status::MAINTAINS],
         entries: f[status::ENTRIES],
         met: x[fact::MET],
@@ -57,50 +48,34 @@ fn output_fetch(worked: Node) -> Node
         return worked;
     }
     Node {
-        id: worked.id,
-        kind: worked.kind,
-        count: worked.count,
-        keeps: worked.keeps,
         limited: 0,
         limit: 0,
-        order: worked.order,
-        mask: worked.mask,
-        tracked: worked.tracked,
-        need: worked.need,
+        ..worked
     }
 }
 
 // Writes the child that stands at `at` as its form and its order handling have it. Its tree is built at the front of `mid` first.
 pub fn finish_child(
-    s: Settings,
-    b: NodeRow,
-    worked: Node,
-    children: u64,
-    child: u64,
-    form: u64,
+    w: Finishing,
+    c: ChildForm,
     need: u64,
-    f: ChildRow,
-    index: &[u64],
-    rows: &[FactRow],
-    n: usize,
     src: &[Row],
     at: usize,
     mid: &mut [Row],
     dst: &mut [Row],
     to: usize,
 ) -> Step
-    requires le_child { (1 ≤ child) × (child ≤ 8) × (form ≤ 15) × (n ≤ length rows.now) }
-    requires index_value { index.now ≡ index_of (take n rows.now) }
-    requires worked_value { (node_of (operator_of worked) ≡ worked) × ((child_facts f).entries ≤ 8) }
-    requires ready { Ready (built (map fact_row (take n rows.now)) child (form_of form)) src.now at (length mid.old) 0 }
-    requires ready_2 { Ready (finished_child (map fact_row (take n rows.now)) child (form_of form) need (child_facts f) s (node_facts b) (operator_of worked) children) src.now at (length dst.old) to }
-    ensures { Maps (finished_child (map fact_row (take n rows.now)) child (form_of form) need (child_facts f) s (node_facts b) (operator_of worked) children) src.now at dst.old to dst.new result }
+    requires told { c.child ≤ length w.facts.children.now }
+    requires ready { Ready (built (map fact_row w.facts.xs.rows.now) c.child (form_of c.form)) src.now at (length mid.old) 0 }
+    requires ready_2 { Ready (finished_child (map fact_row w.facts.xs.rows.now) c.child (form_of c.form) need (child_facts (get_or w.facts.children.now (c.child - 1) [])) w.settings (node_facts w.facts.node) (operator_of w.node) w.children) src.now at (length dst.old) to }
+    ensures { Maps (finished_child (map fact_row w.entry.facts.xs.rows.now) c.child (form_of c.form) need (child_facts (get_or w.entry.facts.children.now (c.child - 1) [])) w.entry.settings (node_facts w.entry.facts.node) (operator_of w.entry.node) w.entry.children) src.now at dst.old to dst.new result }
 {
-    let read = build_child(index, rows, n, child, form, src, at, &mut *mid, 0);
-    let x = row_in(index, rows, n, child, form);
+    let read = build_child(w.facts.xs, c, src, at, &mut *mid, 0);
+    let x = row_in(w.facts.xs, c);
+    let f = w.facts.children[(c.child - 1) as usize];
     let top = row::node_at(&*mid, 0);
-    let h = handle_order(known(s, b, worked.kind, children, need, top.tracked, f, x));
-    let put = put_handled(h, output_fetch(worked), &*mid, 0, &mut *dst, to);
+    let h = handle_order(known(w, need, top.tracked, f, x));
+    let put = put_handled(h, output_fetch(w.node), &*mid, 0, &mut *dst, to);
     Step {
         at: read.at,
         to: put.to,
@@ -109,54 +84,30 @@ pub fn finish_child(
 
 // The same of the `left` children from `at` on, the first of which is child `child`.
 pub fn finish_children(
-    s: Settings,
-    b: NodeRow,
-    worked: Node,
-    children: u64,
+    w: Finishing,
+    forms: &[u64],
     child: u64,
     left: u64,
-    forms: &[u64],
-    facts: &[ChildRow],
-    index: &[u64],
-    rows: &[FactRow],
-    n: usize,
     src: &[Row],
     at: usize,
     mid: &mut [Row],
     dst: &mut [Row],
     to: usize,
 ) -> Step
-    requires each_finished { EachFinished forms.now facts.now rows.now index.now n child left worked (length src.now) (length mid.old) }
-    requires readys { Readys (finished_each (map fact_row (take n rows.now)) forms.now facts.now s (node_facts b) (operator_of worked) children child) src.now at left (length dst.old) to }
-    ensures { MapsAll (finished_each (map fact_row (take n rows.now)) forms.now facts.now s (node_facts b) (operator_of worked) children child) src.now at left dst.old to dst.new result }
+    requires each_finished { EachFinished forms.now (length w.facts.children.now) child left (length src.now) (length mid.old) }
+    requires readys { Readys (finished_each (map fact_row w.facts.xs.rows.now) forms.now w.facts.children.now w.settings (node_facts w.facts.node) (operator_of w.node) w.children child) src.now at left (length dst.old) to }
+    ensures { MapsAll (finished_each (map fact_row w.entry.facts.xs.rows.now) forms.now w.entry.facts.children.now w.entry.settings (node_facts w.entry.facts.node) (operator_of w.entry.node) w.entry.children child) src.now at left dst.old to dst.new result }
 {
     if left == 0 {
-        return Step { at: at, to: to };
+        return Step { at, to };
     }
-    let i = (child - 1) as usize;
     let need = row::node_at(src, at).need;
-    let m = finish_child(
-        s, b, worked, children, child, forms[i], need, facts[i], index, rows, n, src, at,
-        &mut *mid, &mut *dst, to,
-    );
+    let c = ChildForm {
+        child,
+        form: forms[(child - 1) as usize],
+    };
+    let m = finish_child(w, c, need, src, at, &mut *mid, &mut *dst, to);
     let a = m.at;
     let z = m.to;
-    finish_children(
-        s,
-        b,
-        worked,
-        children,
-        child + 1,
-        left - 1,
-        forms,
-        facts,
-        index,
-        rows,
-        n,
-        src,
-        a,
-        mid,
-        dst,
-        z,
-    )
+    finish_children(w, forms, child + 1, left - 1, src, a, mid, dst, z)
 }

@@ -2,6 +2,12 @@
 ghost use Rattle.std.specs.Prelude.{◌≡◌, ◌≤◌};
 ghost use Rattle.exchange.specs.Forms.{form_number, form_of};
 
+// The child as it stands on the sheet.
+pub const PLAIN: u64 = 0;
+
+// Split at its source.
+pub const SPLIT: u64 = 1;
+
 // What stands topmost.
 pub const TOP_NONE: u64 = 0;
 

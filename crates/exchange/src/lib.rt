@@ -3,6 +3,7 @@
 
 pub mod child;
 pub mod fact;
+pub mod facts;
 pub mod finish;
 pub mod form;
 pub mod kind;
@@ -16,5 +17,4 @@ pub mod replace;
 pub mod row;
 pub mod settings;
 pub mod status;
-pub mod step;
 pub mod worked;

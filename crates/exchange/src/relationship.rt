@@ -1,4 +1,4 @@
-// A child's turn in a relationship round, and what the rounds come to.
+// A child's turn in a relationship round, and why the rounds may come to nothing.
 
 // A child's turn in a round: its number from 1, its need, its form, and its bit of the mask.
 #[derive(Clone, Copy)]
@@ -9,10 +9,9 @@ pub struct Turn {
     pub bit: u64,
 }
 
-// No child is left unsatisfied, a round changes nothing, or a row is missing.
+// Why the rounds end without forms: a round changes nothing, or a row is missing.
 #[derive(Clone, Copy)]
-pub enum Enforcing {
-    Enforced,
+pub enum Unenforced {
     Stuck,
     Missing,
 }

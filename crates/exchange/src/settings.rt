@@ -15,13 +15,6 @@ pub struct Settings {
     pub union: u64,
 }
 
-// Settings within their bounds, or none.
-#[derive(Clone, Copy)]
-pub enum Checked {
-    Fine(Settings),
-    OutOfRange,
-}
-
 impl Settings {
     pub const MIN_TARGET: u64 = 1;
 
@@ -30,6 +23,7 @@ impl Settings {
     pub const MIN_BATCH: u64 = 1;
 
     // The settings, where target and batch are within their bounds.
+    #[tactic(auto, unfolding(crate::specs::Settings::checked))]
     pub fn new(
         target: u64,
         roundrobin: u64,
@@ -40,28 +34,25 @@ impl Settings {
         files: u64,
         sort: u64,
         union: u64,
-    ) -> Checked
+    ) -> Option<Settings>
         ensures { result ≡ checked (record { target = target; roundrobin = roundrobin; split = split; batch = batch; estimates = estimates; subset = subset; files = files; sort = sort; union = union }) }
     {
-        if target < Settings::MIN_TARGET {
-            return Checked::OutOfRange;
+        if target < Settings::MIN_TARGET
+            || Settings::MAX_TARGET < target
+            || batch < Settings::MIN_BATCH
+        {
+            return None;
         }
-        if Settings::MAX_TARGET < target {
-            return Checked::OutOfRange;
-        }
-        if batch < Settings::MIN_BATCH {
-            return Checked::OutOfRange;
-        }
-        Checked::Fine(Settings {
-            target: target,
-            roundrobin: roundrobin,
-            split: split,
-            batch: batch,
-            estimates: estimates,
-            subset: subset,
-            files: files,
-            sort: sort,
-            union: union,
+        Some(Settings {
+            target,
+            roundrobin,
+            split,
+            batch,
+            estimates,
+            subset,
+            files,
+            sort,
+            union,
         })
     }
 }

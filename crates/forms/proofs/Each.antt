@@ -4,15 +4,14 @@ use mathlib.Core.Path.{◌≡◌, refl, sym, ap, ◌∙◌}
 use mathlib.Core.Bool.{Bool, ◌||◌}
 use mathlib.Core.Option.{Option, none, some}
 use mathlib.Core.List.{List, [], ◌∷◌, ◌++◌, map, append_assoc, append-nil}
-use Prim.Native.Nat.{ℕ, ◌+◌, ◌<◌}
+use Prim.Native.Nat.{ℕ, ◌+◌, ◌<◌, ◌≤◌}
 use native.Mathlib.Numerals.{add-one}
-use lib.ListN.{length, take, set}
-use lib.Seq.{take-suc-set}
+use lib.ListN.{length, take, drop, get_or, set, drop_of_length-le}
+use lib.Seq.{drop-cons, take-suc-set}
 use Rattle.exchange.specs.declared.settings.Settings.{Settings}
 use Rattle.exchange.specs.declared.status.Asked.{Asked}
 use Rattle.exchange.specs.declared.partitioning.Worked.{Worked}
-use Rattle.exchange.specs.declared.step.Formed.{Formed}
-use Rattle.exchange.specs.declared.step.Formed.TheVariants.{Form as form, Missing}
+use Rattle.std.specs.Prelude.{Option as Answer, Some, None}
 use Rattle.exchange.specs.States.{Child, ChildState, and_then, each_of}
 use Rattle.exchange.specs.Trees.{Operator}
 use Rattle.exchange.specs.Facts.{NodeFacts, Row}
@@ -33,18 +32,27 @@ each_first none = refl
 each_first (some ys) = refl
 
 module _ (whole : Option (List ℕ)) where
-  pub each_turn : (forms : List ℕ) (i f : ℕ) → i < length forms → (rest : Option (List ℕ)) → whole ≡ prepend (take i forms) (with_forms (form f) rest)
+  pub each_turn : (forms : List ℕ) (i f : ℕ) → i < length forms → (rest : Option (List ℕ)) → whole ≡ prepend (take i forms) (with_forms (Some f) rest)
       → whole ≡ prepend (take (i + 1) (set forms i f)) rest
   each_turn forms i f h none e = e
   each_turn forms i f h (some ys) e =
       let more : take (i + 1) (set forms i f) ≡ take i forms ++ (f ∷ []) = rw (add-one i) (take-suc-set forms i f h) in
       e ∙ ap some (sym (append_assoc (take i forms) (f ∷ []) ys) ∙ ap (λ (l : List ℕ). l ++ ys) (sym more))
 
-  pub each_missing : (xs : List ℕ) (rest : Option (List ℕ)) → whole ≡ prepend xs (with_forms Missing rest) → none ≡ whole
+  pub each_missing : (xs : List ℕ) (rest : Option (List ℕ)) → whole ≡ prepend xs (with_forms None rest) → none ≡ whole
   each_missing xs rest e = sym e
 
   pub each_end : (xs : List ℕ) → whole ≡ prepend xs (some []) → some xs ≡ whole
   each_end xs e = sym (e ∙ ap some (append-nil xs))
+
+module _ {A : Type 0} (f : A → Answer ℕ) (xs : List A) (i : ℕ) where
+  pub each_cons : (x : A) → i < length xs → each_form f (drop i xs) ≡ with_forms (f (get_or xs i x)) (each_form f (drop (i + 1) xs))
+  unfolding each_form
+  each_cons x h = rw (drop-cons xs i x h, add-one i)
+
+  pub each_nil : length xs ≤ i → each_form f (drop i xs) ≡ some []
+  unfolding each_form
+  each_nil h = rw (drop_of_length-le xs {i = i} h)
 
 -- ---- the forms of the states
 
@@ -59,18 +67,18 @@ unfolding each_of each_form
 each_formed f [] = refl
 each_formed f (x ∷ xs) = both_forms (f x) (each_of f xs) ∙ ap (with_forms (formed (f x))) (each_formed f xs)
 
-pub each_map : {A B : Type 0} (f : B → Formed) (g : A → B) (xs : List A) → each_form f (map g xs) ≡ each_form (λ x. f (g x)) xs
+pub each_map : {A B : Type 0} (f : B → Answer ℕ) (g : A → B) (xs : List A) → each_form f (map g xs) ≡ each_form (λ x. f (g x)) xs
 unfolding each_form
 each_map f g [] = refl
 each_map f g (x ∷ xs) = ap (with_forms (f (g x))) (each_map f g xs)
 
 -- ---- the same numbers
 
-pub each_same : (f : Asked → Formed) (g : Child → Formed) → ((a : Asked) (k : Child) → SameChild a k → f a ≡ g k)
+pub each_same : (f : Asked → Answer ℕ) (g : Child → Answer ℕ) → ((a : Asked) (k : Child) → SameChild a k → f a ≡ g k)
     → {asks : List Asked} {ks : List Child} → SameChildren asks ks → each_form f asks ≡ each_form g ks
 unfolding each_form
 each_same f g e done = refl
-each_same f g e (also {a} {asks} {k} {ks} h hs) = ap (λ (o : Formed). with_forms o (each_form f asks)) (e a k h) ∙ ap (with_forms (g k)) (each_same f g e hs)
+each_same f g e (also {a} {asks} {k} {ks} h hs) = ap (λ (o : Answer ℕ). with_forms o (each_form f asks)) (e a k h) ∙ ap (with_forms (g k)) (each_same f g e hs)
 
 asks_same : (s : Settings) (a : Asked) (k : Child) → SameChild a k → asks_alignment s (child_for a) ≡ asks_alignment s k
 asks_same s a k h = rw (h.need, h.count, h.facts)

@@ -6,8 +6,7 @@ use mathlib.Core.Option.{Option, none, some}
 use mathlib.Core.List.{List, map}
 use Prim.Native.Nat.{ℕ, ◌≤◌}
 use native.Mathlib.Omega.{arith}
-use Rattle.exchange.specs.declared.step.Formed.{Formed}
-use Rattle.exchange.specs.declared.step.Formed.TheVariants.{Form as form, Missing}
+use Rattle.std.specs.Prelude.{Option as Answer, Some, None}
 use Rattle.exchange.specs.Trees.{Plan}
 use Rattle.exchange.specs.Forms.{Form, form_number, form_of}
 use Rattle.exchange.specs.Facts.{Row, row_of}
@@ -30,23 +29,23 @@ module _ (xs : List (List ℕ)) (child n : ℕ) where
       row_found xs c.number f ∙ ap (λ (k : ℕ). row_at xs (row_for xs k (form_number f))) a ∙ ap (λ (k : ℕ). row_at xs (row_for xs child k)) b ∙ ap (row_at xs) e in
       sym (formed_with c f change (row_of (map fact_row xs) c.number f) ∙ ap (λ (k : ℕ). form_by k (row_of (map fact_row xs) c.number f)) b ∙ ap (form_by n) r)
 
-  pub passed_none : none ≡ row_for xs child n → Passed child n (map fact_row xs) Missing
+  pub passed_none : none ≡ row_for xs child n → Passed child n (map fact_row xs) None
   passed_none e = passed_by none (sym e)
 
-  pub passed_some : (p : ℕ) → some p ≡ row_for xs child n → Passed child n (map fact_row xs) (form n)
+  pub passed_some : (p : ℕ) → some p ≡ row_for xs child n → Passed child n (map fact_row xs) (Some n)
   passed_some p e = passed_by (some p) (sym e)
 
 -- a form that stays
-pub formed_kept : (n : ℕ) → n ≤ 15 → form n ≡ form (form_number (form_of n))
-formed_kept n h = ap form (sym (form_whole n (omega arith)))
+pub formed_kept : (n : ℕ) → n ≤ 15 → Some n ≡ Some (form_number (form_of n))
+formed_kept n h = ap Some (sym (form_whole n (omega arith)))
 
 -- a test's two ways
-pub formed_taken : (t : Bool) (x y : Option ChildState) (r : Formed) → t ≡ true → r ≡ formed x → r ≡ formed (cond t x y)
+pub formed_taken : (t : Bool) (x y : Option ChildState) (r : Answer ℕ) → t ≡ true → r ≡ formed x → r ≡ formed (cond t x y)
 formed_taken t x y r e f = rw e f
 
-pub formed_left : (t : Bool) (x y : Option ChildState) (r : Formed) → t ≡ false → r ≡ formed y → r ≡ formed (cond t x y)
+pub formed_left : (t : Bool) (x y : Option ChildState) (r : Answer ℕ) → t ≡ false → r ≡ formed y → r ≡ formed (cond t x y)
 formed_left t x y r e f = rw e f
 
-pub formed_both : (t : Bool) (x y : Option ChildState) (u v : Formed) → formed x ≡ u → formed y ≡ v → formed (cond t x y) ≡ cond t u v
+pub formed_both : (t : Bool) (x y : Option ChildState) (u v : Answer ℕ) → formed x ≡ u → formed y ≡ v → formed (cond t x y) ≡ cond t u v
 formed_both true x y u v e f = e
 formed_both false x y u v e f = f

@@ -8,7 +8,7 @@ use Prim.Native.Nat.{ℕ, zero, suc, ◌+◌, ◌*◌, ◌/◌, ◌%◌, ◌≤�
 use native.Mathlib.Omega.{arith}
 use lib.Dec.{eqb}
 use lib.ListN.{length}
-use Rattle.exchange.specs.declared.step.Formed.TheVariants.{Form as form}
+use Rattle.std.specs.Prelude.{Some}
 use Rattle.exchange.specs.Forms.{Form, form_number, form_of, with_relationship}
 use Rattle.exchange.specs.Facts.{Row, row_of, unsatisfied_at}
 use Rattle.exchange.specs.States.{ChildState, with_form, and_then}
@@ -58,7 +58,7 @@ module _ (rows : List Row) where
 
     turned : (t : Bool) (o : Option Row) → row_of rows n (with_relationship (form_of f)) ≡ o → {rest : Option (List ChildState)} {each : Option (List ℕ)} → Rounded (suc n) needs rest each
         → Rounded n (need ∷ needs) (and_then (cond t (with_form c (with_relationship c.form) keyed_on o) (some c)) (λ d. and_then rest (λ ds. some (d ∷ ds))))
-        (with_forms (cond t (form_by (form_number (with_relationship (form_of f))) o) (form f)) each)
+        (with_forms (cond t (form_by (form_number (with_relationship (form_of f))) o) (Some f)) each)
     turned true none e s = gone
     turned true (some x) e gone = gone
     turned true (some x) e (stays s) =

@@ -7,8 +7,8 @@ use mathlib.Core.List.{List}
 use Prim.Native.Nat.{ℕ, zero, suc, ◌-◌}
 use native.Mathlib.Omega.{arith}
 use borrow.Author.Tests.{eq-eqb, ne_eqb}
-use Rattle.exchange.specs.declared.step.Stepped.{Stepped}
-use Rattle.exchange.specs.declared.step.Stepped.TheVariants.{Done, Lacking}
+use Rattle.std.specs.Prelude.{⊤, Option as Answer, Some, None, Ok, Err, ok_or}
+use Rattle.exchange.specs.declared.relationship.Unenforced.{Unenforced}
 use Rattle.exchange.specs.Facts.{Row, unsatisfied_at}
 use Rattle.exchange.specs.Standings.{resulting, each_form}
 use Rattle.exchange.specs.Turns.{any_turn, turn_form, turns_by, set_of, lacking, unable, given, rounds_by}
@@ -44,8 +44,17 @@ module _ (rows : List Row) (masks needs fs : List ℕ) (m : ℕ) (e : m ≡ unsa
       rw (← e, ne_eqb m 0 more, a, sym r, back)
 
 -- what a round's answer says of the forms
-pub round_lacking : (r : Stepped) (fs : List ℕ) (o : Option (List ℕ)) → r ≡ Lacking → resulting r fs ≡ o → none ≡ o
-round_lacking r fs o e h = ap (λ (t : Stepped). resulting t fs) (sym e) ∙ h
+pub round_lacking : (r : Answer ⊤) (fs : List ℕ) (o : Option (List ℕ)) → r ≡ None → resulting r fs ≡ o → none ≡ o
+round_lacking r fs o e h = ap (λ (t : Answer ⊤). resulting t fs) (sym e) ∙ h
 
-pub round_done : (r : Stepped) (fs : List ℕ) (o : Option (List ℕ)) → r ≡ Done → resulting r fs ≡ o → some fs ≡ o
-round_done r fs o e h = ap (λ (t : Stepped). resulting t fs) (sym e) ∙ h
+pub round_done : (r : Answer ⊤) (u : ⊤) (fs : List ℕ) (o : Option (List ℕ)) → r ≡ Some u → resulting r fs ≡ o → some fs ≡ o
+round_done r u fs o e h = ap (λ (t : Answer ⊤). resulting t fs) (sym e) ∙ h
+
+-- what is left where a missing row ends the rounds, and where they go on
+pub ok_or_missing : (r : Answer ⊤) (e f : Unenforced) → ok_or r f ≡ Err e → (r ≡ None) × (e ≡ f)
+ok_or_missing None e f h = (refl, cc)
+ok_or_missing (Some u) e f h = (cc, cc)
+
+pub ok_or_done : (r : Answer ⊤) (u : ⊤) (f : Unenforced) → ok_or r f ≡ Ok u → r ≡ Some u
+ok_or_done None u f h = cc
+ok_or_done (Some v) u f h = cc

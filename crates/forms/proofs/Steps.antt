@@ -9,8 +9,7 @@ use lib.Dec.{ltb}
 use Rattle.exchange.specs.declared.settings.Settings.{Settings}
 use Rattle.exchange.specs.declared.status.Asked.{Asked}
 use Rattle.exchange.specs.declared.partitioning.Worked.{Worked}
-use Rattle.exchange.specs.declared.step.Formed.{Formed}
-use Rattle.exchange.specs.declared.step.Formed.TheVariants.{Form as form, Missing}
+use Rattle.std.specs.Prelude.{Option as Answer, Some, None}
 use Rattle.exchange.specs.Trees.{node, root, Operator, Plan}
 use Rattle.exchange.specs.Settings.{is_set}
 use Rattle.exchange.specs.Forms.{Form, form_number, plain_form, split_form, with_top}
@@ -33,27 +32,27 @@ is_cut s k = is_set s.split && (rows_gain s k.facts && is_set k.facts.splits)
 -- ---- the cases of a step
 
 module _ (s : Settings) (o : Operator) (b : NodeFacts) (rows : List Row) (aligned : Bool) (k : Child) where
-  pub ensure_none : row_of rows k.number plain_form ≡ none → Missing ≡ formed (ensure_child s o b rows (status_of s aligned k))
+  pub ensure_none : row_of rows k.number plain_form ≡ none → None ≡ formed (ensure_child s o b rows (status_of s aligned k))
   unfolding ensure_child
   ensure_none e = rw e
 
   module _ (x : Row) (e : row_of rows k.number plain_form ≡ some x) where
-    pub ensure_whole : (r : Formed) → is_cut s k ≡ false → r ≡ formed (satisfy_distribution s o b rows (status_of s aligned k) (begun k x))
+    pub ensure_whole : (r : Answer ℕ) → is_cut s k ≡ false → r ≡ formed (satisfy_distribution s o b rows (status_of s aligned k) (begun k x))
         → r ≡ formed (ensure_child s o b rows (status_of s aligned k))
     unfolding ensure_child
     ensure_whole r h f = rw (e, h) f
 
-    pub ensure_split : (r : Formed) → is_cut s k ≡ true
+    pub ensure_split : (r : Answer ℕ) → is_cut s k ≡ true
         → r ≡ formed (and_then (pass rows split_form split_plan (begun k x)) (satisfy_distribution s o b rows (status_of s aligned k)))
         → r ≡ formed (ensure_child s o b rows (status_of s aligned k))
     unfolding ensure_child
     ensure_split r h f = rw (e, h) f
 
-    pub ensure_cut_none : is_cut s k ≡ true → row_of rows k.number split_form ≡ none → Missing ≡ formed (ensure_child s o b rows (status_of s aligned k))
+    pub ensure_cut_none : is_cut s k ≡ true → row_of rows k.number split_form ≡ none → None ≡ formed (ensure_child s o b rows (status_of s aligned k))
     unfolding ensure_child
     ensure_cut_none h g = rw (e, h, g)
 
-    pub ensure_cut : (r : Formed) (y : Row) → is_cut s k ≡ true → row_of rows k.number split_form ≡ some y
+    pub ensure_cut : (r : Answer ℕ) (y : Row) → is_cut s k ≡ true → row_of rows k.number split_form ≡ some y
         → r ≡ formed (satisfy_distribution s o b rows (status_of s aligned k) (cut k y)) → r ≡ formed (ensure_child s o b rows (status_of s aligned k))
     unfolding ensure_child
     ensure_cut r y h g f = rw (e, h, g) f
@@ -61,13 +60,13 @@ module _ (s : Settings) (o : Operator) (b : NodeFacts) (rows : List Row) (aligne
 -- ---- the form, without the tree
 
 module _ (s : Settings) (o : Operator) (b : NodeFacts) (rows : List Row) (t : RepartitionRequirementStatus) (c : ChildState) where
-  abbrev topped : ℕ → Formed
+  abbrev topped : ℕ → Answer ℕ
   topped top = form_by (form_number (with_top top c.form)) (row_of rows c.number (with_top top c.form))
 
-  abbrev kept : Formed
-  kept = form (form_number c.form)
+  abbrev kept : Answer ℕ
+  kept = Some (form_number c.form)
 
-  abbrev satisfied : Formed
+  abbrev satisfied : Answer ℕ
   satisfied =
       cond (is_single c.need) (cond (ltb 1 (partitions c)) (topped 1) kept)
       (cond (is_keyed c.need) (cond (t.hash_necessary && needs_hash_repartition s o t c) (topped 2) kept)
@@ -114,10 +113,10 @@ module _ (s : Settings) (o p : Operator) (b : NodeFacts) (rows : List Row) (alig
   split_count : (y : Row) (t : Plan) → (root (split_plan y t)).count ≡ y.count
   split_count y (node u ts) = refl
 
-  abbrev mine : Formed
+  abbrev mine : Answer ℕ
   mine = formed (ensure_child s o b rows (status_of s aligned k))
 
-  abbrev other : Formed
+  abbrev other : Answer ℕ
   other = formed (ensure_child s p b rows (status_of s aligned l))
 
   same_cut : (x : Row) → row_of rows l.number plain_form ≡ some x → is_cut s l ≡ true → (y : Option Row) → row_of rows l.number split_form ≡ y → mine ≡ other
@@ -151,10 +150,10 @@ same_split s o b rows aligned k = same_satisfied s o o b rows aligned k k refl r
 -- from the split on
 module _ (s : Settings) (o : Operator) (b : NodeFacts) (rows : List Row) (aligned : Bool) (k : Child) (x : Row) where
   pub split_none : row_of rows k.number split_form ≡ none
-      → Missing ≡ formed (and_then (pass rows split_form split_plan (begun k x)) (satisfy_distribution s o b rows (status_of s aligned k)))
+      → None ≡ formed (and_then (pass rows split_form split_plan (begun k x)) (satisfy_distribution s o b rows (status_of s aligned k)))
   split_none e = rw e
 
-  pub split_some : (r : Formed) (y : Row) → row_of rows k.number split_form ≡ some y → r ≡ formed (satisfy_distribution s o b rows (status_of s aligned k) (cut k y))
+  pub split_some : (r : Answer ℕ) (y : Row) → row_of rows k.number split_form ≡ some y → r ≡ formed (satisfy_distribution s o b rows (status_of s aligned k) (cut k y))
       → r ≡ formed (and_then (pass rows split_form split_plan (begun k x)) (satisfy_distribution s o b rows (status_of s aligned k)))
   split_some r y e f = rw e f
 

@@ -9,72 +9,73 @@ use lib.Dec.{eqb}
 use borrow.Author.Tests.{eqb-true, eqb-false}
 use native.Mathlib.Numerals.{add-one}
 use native.Mathlib.Omega.{arith}
-use lib.ListN.{length, take, drop, get_or, set, length-drop, drop_of_length-le}
+use lib.ListN.{length, drop, get_or, set, length-drop, length-set, drop_of_length-le}
 use lib.Seq.{drop-cons, get_or-drop, get_or-set_same, get_or-set_other}
 use Rattle.exchange.specs.declared.relationship.Turn.{Turn}
-use Rattle.exchange.specs.Forms.{Form, form_number, form_of, with_relationship}
+use Rattle.exchange.specs.Trees.{node, none as no_plans}
+use Rattle.exchange.specs.Forms.{Form, form_number, form_of, plain_form, with_relationship}
 use Rattle.exchange.specs.Facts.{Row, row_of}
 use Rattle.exchange.specs.Found.{row_for}
-use Rattle.exchange.specs.declared.step.Formed.{Formed}
-use Rattle.exchange.specs.declared.step.Formed.TheVariants.{Form as form}
+use Rattle.std.specs.Prelude.{Option as Answer, Some}
 use Rattle.exchange.specs.States.{ChildState}
 use Rattle.exchange.specs.Step.{keyed_on}
-use Rattle.exchange.specs.Standings.{state_for, form_by, Passed}
-use Rattle.exchange.specs.FactRows.{fact_row}
+use Rattle.exchange.specs.declared.status.Asked.{Asked}
+use Rattle.exchange.specs.Standings.{form_by, Passed, no_child, Numbered, asked_needs}
+use Rattle.exchange.specs.FactRows.{child_facts, fact_row, operator_by}
 use Rattle.exchange.specs.Turns.{turn_givable, turn_form, turns_by, set_of}
 use Rattle.exchange.proofs.Forms.{form_whole}
 use Rattle.forms.proofs.Formed.{formed_with}
 use Rattle.exchange.proofs.FactRows.{row_none, row_placed, row_some}
 
-module _ (needs forms : List ℕ) (same : length forms ≡ length needs) (i m : ℕ) where
-  pub turns_turn : i < length needs
-      → turns_by (i + 1) m (drop i needs) (drop i forms)
-      ≡ record { number = i + 1; need = get_or needs i 0; form = get_or forms i 0; bit = m % 2 } ∷ turns_by (i + 1 + 1) (m / 2) (drop (i + 1) needs) (drop (i + 1) forms)
+module _ (asks : List Asked) (forms : List ℕ) (same : length forms ≡ length asks) (i m : ℕ) where
+  pub turns_turn : Numbered asks → i < length asks
+      → turns_by (i + 1) m (asked_needs (drop i asks)) (drop i forms)
+      ≡ record { number = (get_or asks i no_child).number; need = (get_or asks i no_child).need; form = get_or forms i 0; bit = m % 2 } ∷ turns_by (i + 1 + 1) (m / 2) (asked_needs (drop (i + 1) asks)) (drop (i + 1) forms)
   unfolding turns_by
-  turns_turn h =
+  turns_turn numbered h =
       let b : i < length forms = omega arith in
-      rw (drop-cons needs i 0 h, drop-cons forms i 0 b, add-one (i + 1), add-one i)
+      rw (drop-cons asks i no_child h, drop-cons forms i 0 b, add-one (i + 1), add-one i, numbered i h, add-one i)
 
-  pub turns_end : length needs ≤ i → turns_by (i + 1) m (drop i needs) (drop i forms) ≡ []
+  pub turns_end : length asks ≤ i → turns_by (i + 1) m (asked_needs (drop i asks)) (drop i forms) ≡ []
   unfolding turns_by
-  turns_end h = rw (drop_of_length-le needs {i = i} h)
+  turns_end h = rw (drop_of_length-le asks {i = i} h)
 
 -- the row that a form's number finds
-module _ (rows : List (List ℕ)) (n child f : ℕ) (small : f ≤ 15) where
-  again : row_for (take n rows) child f ≡ row_for (take n rows) child (form_number (form_of f))
-  again = ap (row_for (take n rows) child) (sym (form_whole f (omega arith)))
+module _ (rows : List (List ℕ)) (child f : ℕ) (small : f ≤ 15) where
+  again : row_for rows child f ≡ row_for rows child (form_number (form_of f))
+  again = ap (row_for rows child) (sym (form_whole f (omega arith)))
 
-  pub turn_none : none ≡ row_for (take n rows) child f → row_of (map fact_row (take n rows)) child (form_of f) ≡ none
-  turn_none e = row_none rows n child (form_of f) (e ∙ again)
+  pub turn_none : none ≡ row_for rows child f → row_of (map fact_row rows) child (form_of f) ≡ none
+  turn_none e = row_none rows child (form_of f) (e ∙ again)
 
-  pub turn_placed : (p : ℕ) → some p ≡ row_for (take n rows) child f → p < length rows
-  turn_placed p e = row_placed rows n child (form_of f) p (e ∙ again)
+  pub turn_placed : (p : ℕ) → some p ≡ row_for rows child f → p < length rows
+  turn_placed p e = row_placed rows child (form_of f) p (e ∙ again)
 
-  pub turn_row : (p : ℕ) → some p ≡ row_for (take n rows) child f → row_of (map fact_row (take n rows)) child (form_of f) ≡ some (fact_row (get_or rows p []))
-  turn_row p e = row_some rows n child (form_of f) p (e ∙ again)
+  pub turn_row : (p : ℕ) → some p ≡ row_for rows child f → row_of (map fact_row rows) child (form_of f) ≡ some (fact_row (get_or rows p []))
+  turn_row p e = row_some rows child (form_of f) p (e ∙ again)
 
 -- the form that a passed child has
-pub give_passed : (rows : List Row) (child : ℕ) (f : Form) (k : ℕ) (r : Formed) → Passed child k rows r → form_number f ≡ k → r ≡ form_by (form_number f) (row_of rows child f)
-give_passed rows child f k r e h =
-    let c : ChildState = state_for (record { number = child; need = 0; count = 0; facts = [] }) (record { form = 0; count = 0; row = [] }) in
-    e c f keyed_on refl h ∙ formed_with c f keyed_on (row_of rows child f)
+pub give_passed : (rows : List Row) (child : ℕ) (f : Form) (d k : ℕ) (r : Answer ℕ) → Passed d k rows r → child ≡ d → form_number f ≡ k → r ≡ form_by (form_number f) (row_of rows child f)
+give_passed rows child f d k r e i h =
+    let c : ChildState = record { number = child; facts = child_facts []; need = 0; form = plain_form; row = fact_row []; plan = node (operator_by 0 0 0) no_plans } in
+    e c f keyed_on i h ∙ formed_with c f keyed_on (row_of rows child f)
 
 -- a turn's form is one of the sixteen
-pub turn_small : (rows : List Row) (x : Turn) (f : ℕ) → x.form ≤ 15 → turn_form rows x ≡ form f → f ≤ 15
+pub turn_small : (rows : List Row) (x : Turn) (f : ℕ) → x.form ≤ 15 → turn_form rows x ≡ Some f → f ≤ 15
 turn_small rows x f h e = go (turn_givable rows x) (row_of rows x.number (with_relationship (form_of x.form))) e
   where
-    go : (t : Bool) (o : Option Row) → cond t (form_by (form_number (with_relationship (form_of x.form))) o) (form x.form) ≡ form f → f ≤ 15
+    go : (t : Bool) (o : Option Row) → cond t (form_by (form_number (with_relationship (form_of x.form))) o) (Some x.form) ≡ Some f → f ≤ 15
     go true none e = absurd (let z : ◌≡◌ {A = ℕ} 0 1 = cc in omega arith)
     go true (some y) e = let z : form_number (with_relationship (form_of x.form)) ≡ f = cc in omega arith
     go false o e = let z : x.form ≡ f = cc in omega arith
 
 -- small numbers stay so when one is stored
-pub small_set : (l : List ℕ) (n i v : ℕ) → v ≤ 15 → i < length l → ((k : ℕ) → k < n → get_or l k 0 ≤ 15) → (k : ℕ) → k < n → get_or (set l i v) k 0 ≤ 15
-small_set l n i v h at small k b = go (eqb k i) (eqb-true k i) (eqb-false k i)
+pub small_set : (l : List ℕ) (i v : ℕ) → v ≤ 15 → i < length l → ((k : ℕ) → k < length l → get_or l k 0 ≤ 15) → (k : ℕ) → k < length (set l i v) → get_or (set l i v) k 0 ≤ 15
+small_set l i v h at small k b = go (eqb k i) (eqb-true k i) (eqb-false k i)
   where
     go : (t : Bool) → (t ≡ true → k ≡ i) → (t ≡ false → k ≡ i → ⊥) → get_or (set l i v) k 0 ≤ 15
     go true p q = rw (p refl) (rw (get_or-set_same l i v 0 at) h)
-    go false p q = rw (get_or-set_other l i k v 0 (q refl)) (small k b)
+    go false p q = rw (get_or-set_other l i k v 0 (q refl)) (small k (simp length-set at b))
 
 -- ---- the set
 
@@ -92,7 +93,7 @@ set_below (f ∷ fs) (suc k) h s =
     let b : f ≤ 15 = s 0 (omega arith) in
     omega arith
 
-module _ (fs : List ℕ) (few : length fs ≤ 8) (small : (j : ℕ) → j < length fs → get_or fs j 0 ≤ 15) (i : ℕ) (more : i ≡ 0 → ⊥) (in-range : i ≤ length fs) where
+module _ (fs : List ℕ) (few : length fs ≤ 8) (small : (j : ℕ) → j < length fs → get_or fs j 0 ≤ 15) (i : ℕ) (more : 0 < i) (in-range : i ≤ length fs) where
   back : i ≡ suc (i - 1)
   back = omega arith
 

@@ -1,147 +1,118 @@
 // The relationship rounds: while children are unsatisfied together, those that can be are given a keyed exchange.
-ghost use Rattle.std.specs.Prelude.{◌≡◌, List, map, ℕ, ◌≤◌, ◌<◌, length, take, get_or};
+ghost use Rattle.std.specs.Prelude.{◌≡◌, List, map, ℕ, ◌≤◌, ◌<◌, length, get_or};
 ghost use Rattle.exchange.specs.Forms.{form_number, form_of, with_relationship};
 ghost use Rattle.exchange.specs.Facts.{row_of, unsatisfied_at};
-ghost use Rattle.exchange.specs.Found.{index_of};
 ghost use Rattle.exchange.specs.States.{ChildState};
 ghost use Rattle.exchange.specs.Relationships.{enforce_distribution_relationships};
 ghost use Rattle.exchange.specs.FactRows.{fact_row};
-ghost use Rattle.exchange.specs.Standings.{resulting, each_form};
+ghost use Rattle.exchange.specs.Standings.{Numbered, asked_needs, resulting, each_form};
 ghost use Rattle.exchange.specs.Turns.{row_already, turn_givable, turn_form, any_turn, turns_by, set_of, Stand, answer, told};
 
 use crate::step::pass;
-use exchange::fact::{ATHASH, EXACT, Fact, FactRow, fact_row};
+use exchange::fact::{ATHASH, ChildForm, EXACT, Fact, FactRows};
 use exchange::form::{form_of, relationship_of, split_of, top_of};
-use exchange::relationship::{Enforcing, Turn};
-use exchange::step::{Formed, Stepped};
+use exchange::relationship::{Turn, Unenforced};
+use exchange::status::Asked;
 
 // The mask of unsatisfied children for a set of children that were given an exchange.
 fn unsatisfied_at(masks: &[u64], set: u64) -> u64
     ensures { result ≡ unsatisfied_at masks.now set }
 {
-    let at = set as usize;
-    if at < masks.len() {
-        return masks[at];
-    }
-    0
+    masks.get(set as usize).copied().unwrap_or(0)
 }
 
-fn with_relationship(form: u64) -> u64
-    ensures { (result ≡ form_number (with_relationship (form_of form))) × (result ≤ 15) }
+// A relationship exchange on a form.
+fn with_relationship(c: ChildForm) -> ChildForm
+    ensures child { result.child ≡ c.child }
+    ensures form { result.form ≡ form_number (with_relationship (form_of c.form)) }
 {
-    form_of(split_of(form), top_of(form), 1)
+    ChildForm {
+        child: c.child,
+        form: form_of(split_of(c.form), top_of(c.form), 1),
+    }
 }
 
 // Hashed into target partitions by exactly its keys.
-fn already_target_hash(index: &[u64], rows: &[FactRow], n: usize, child: u64, form: u64) -> bool
-    requires le_child { (1 ≤ child) × (child ≤ 8) × (form ≤ 15) }
-    requires n_in_bounds { (n ≤ length rows.now) × (index.now ≡ index_of (take n rows.now)) }
-    ensures { result ≡ row_already (row_of (map fact_row (take n rows.now)) child (form_of form)) }
+fn already_target_hash(xs: FactRows, c: ChildForm) -> bool
+    ensures { result ≡ row_already (row_of (map fact_row xs.entry.rows.now) c.child (form_of c.form)) }
 {
-    let found = fact_row(index, rows, n, child, form);
-    let Fact::Row { place } = found else {
+    let Fact::Row { place } = xs.fact_row(c) else {
         return true;
     };
-    let x = rows[place];
-    if x[ATHASH] != 1 {
-        return false;
-    }
-    x[EXACT] == 1
+    let x = xs.rows[place];
+    x[ATHASH] == 1 && x[EXACT] == 1
 }
 
 // A child that is asked is given one, unless it has it, its need is not keyed, or nothing would change.
-fn is_givable(x: Turn, index: &[u64], rows: &[FactRow], n: usize) -> bool
-    requires le_number { (1 ≤ x.number) × (x.number ≤ 8) × (x.form ≤ 15) }
-    requires n_in_bounds { (n ≤ length rows.now) × (index.now ≡ index_of (take n rows.now)) }
-    ensures { result ≡ turn_givable (map fact_row (take n rows.now)) x }
+fn is_givable(x: Turn, xs: FactRows) -> bool
+    requires numbered { (1 ≤ x.number) × (x.number ≤ 8) × (x.form ≤ 15) }
+    ensures { result ≡ turn_givable (map fact_row xs.entry.rows.now) x }
 {
-    if x.bit != 1 {
-        return false;
-    }
-    if relationship_of(x.form) == 1 {
-        return false;
-    }
-    if x.need != 2 {
-        return false;
-    }
-    !already_target_hash(index, rows, n, x.number, x.form)
+    let at = ChildForm {
+        child: x.number,
+        form: x.form,
+    };
+    x.bit == 1 && relationship_of(x.form) != 1 && x.need == 2 && !already_target_hash(xs, at)
 }
 
 // The child's form after its turn.
-fn give(x: Turn, index: &[u64], rows: &[FactRow], n: usize) -> Formed
-    requires le_number { (1 ≤ x.number) × (x.number ≤ 8) × (x.form ≤ 15) }
-    requires n_in_bounds { (n ≤ length rows.now) × (index.now ≡ index_of (take n rows.now)) }
-    ensures { result ≡ turn_form (map fact_row (take n rows.now)) x }
+fn give(x: Turn, xs: FactRows) -> Option<u64>
+    requires numbered { (1 ≤ x.number) × (x.number ≤ 8) × (x.form ≤ 15) }
+    ensures { result ≡ turn_form (map fact_row xs.entry.rows.now) x }
 {
-    if !is_givable(x, index, rows, n) {
-        return Formed::Form(x.form);
+    if !is_givable(x, xs) {
+        return Some(x.form);
     }
-    pass(index, rows, n, x.number, with_relationship(x.form))
+    let at = ChildForm {
+        child: x.number,
+        form: x.form,
+    };
+    pass(xs, with_relationship(at))
 }
 
 // Whether any of the mask's children can be given one.
-fn any_givable(
-    mask: u64,
-    needs: &[u64],
-    forms: &[u64],
-    index: &[u64],
-    rows: &[FactRow],
-    n: usize,
-) -> bool
-    requires needs_len_bound { (length needs.now ≤ 8) × (length forms.now ≡ length needs.now) × ((k : ℕ) → k < length needs.now → get_or forms.now k 0 ≤ 15) }
-    requires n_in_bounds { (n ≤ length rows.now) × (index.now ≡ index_of (take n rows.now)) }
-    ensures { result ≡ any_turn (map fact_row (take n rows.now)) (turns_by 1 mask needs.now forms.now) }
+fn any_givable(mask: u64, asks: &[Asked], forms: &[u64], xs: FactRows) -> bool
+    requires numbered { Numbered asks.now }
+    requires few { (length asks.now ≤ 8) × (length forms.now ≡ length asks.now) }
+    requires small { (k : ℕ) → k < length forms.now → get_or forms.now k 0 ≤ 15 }
+    ensures { result ≡ any_turn (map fact_row xs.entry.rows.now) (turns_by 1 mask (asked_needs asks.now) forms.now) }
 {
-    let mut i = 0;
     let mut m = mask;
-    while i < needs.len() {
+    for (i, a) in asks.iter().enumerate() {
         let x = Turn {
-            number: i as u64 + 1,
-            need: needs[i],
+            number: a.number,
+            need: a.need,
             form: forms[i],
             bit: m % 2,
         };
-        if is_givable(x, index, rows, n) {
+        if is_givable(x, xs) {
             return true;
         }
-        m = m / 2;
-        i += 1;
+        m /= 2;
     }
     false
 }
 
 // Each child of the mask that can be is given one.
-fn round(
-    mask: u64,
-    needs: &[u64],
-    forms: &mut [u64],
-    index: &[u64],
-    rows: &[FactRow],
-    n: usize,
-) -> Stepped
-    requires needs_len_bound { (length needs.now ≤ 8) × (length forms.old ≡ length needs.now) × ((k : ℕ) → k < length needs.now → get_or forms.old k 0 ≤ 15) }
-    requires n_in_bounds { (n ≤ length rows.now) × (index.now ≡ index_of (take n rows.now)) }
-    ensures by_index { (k : ℕ) → k < length needs.now → get_or forms.new k 0 ≤ 15 }
-    ensures forms_after { resulting result forms.new ≡ each_form (turn_form (map fact_row (take n rows.now))) (turns_by 1 mask needs.now forms.old) }
+fn round(mask: u64, asks: &[Asked], forms: &mut [u64], xs: FactRows) -> Option<()>
+    requires numbered { Numbered asks.now }
+    requires few { (length asks.now ≤ 8) × (length forms.old ≡ length asks.now) }
+    requires small { (k : ℕ) → k < length forms.old → get_or forms.old k 0 ≤ 15 }
+    ensures small { (k : ℕ) → k < length forms.new → get_or forms.new k 0 ≤ 15 }
+    ensures forms_after { resulting result forms.new ≡ each_form (turn_form (map fact_row xs.entry.rows.now)) (turns_by 1 mask (asked_needs asks.now) forms.old) }
 {
-    let mut i = 0;
     let mut m = mask;
-    while i < needs.len() {
+    for (i, a) in asks.iter().enumerate() {
         let x = Turn {
-            number: i as u64 + 1,
-            need: needs[i],
+            number: a.number,
+            need: a.need,
             form: forms[i],
             bit: m % 2,
         };
-        let made = give(x, index, rows, n);
-        let Formed::Form(f) = made else {
-            return Stepped::Lacking;
-        };
-        forms[i] = f;
-        m = m / 2;
-        i += 1;
+        forms[i] = give(x, xs)?;
+        m /= 2;
     }
-    Stepped::Done
+    Some(())
 }
 
 // The set of children that were given one, as its own mask.
@@ -150,9 +121,7 @@ fn given_set(forms: &[u64]) -> u64
     ensures { result ≡ set_of forms.now }
 {
     let mut set: u64 = 0;
-    let mut i = forms.len();
-    while i != 0 {
-        i -= 1;
+    for i in (0..forms.len()).rev() {
         set = relationship_of(forms[i]) + 2 * set;
     }
     set
@@ -161,31 +130,27 @@ fn given_set(forms: &[u64]) -> u64
 // The rounds, until no child is unsatisfied; each gives a child its exchange, and none has two.
 pub fn enforce_distribution_relationships(
     masks: &[u64],
-    needs: &[u64],
+    asks: &[Asked],
     forms: &mut [u64],
-    index: &[u64],
-    rows: &[FactRow],
-    n: usize,
-) -> Enforcing
-    requires needs_len_bound { (length needs.now ≤ 8) × (length forms.old ≡ length needs.now) × ((k : ℕ) → k < length needs.now → get_or forms.old k 0 ≤ 15) }
-    requires n_in_bounds { (n ≤ length rows.now) × (index.now ≡ index_of (take n rows.now)) }
-    ensures { (cs : List ChildState) → Stand (map fact_row (take n rows.now)) 1 needs.now forms.old cs → answer result forms.new ≡ told (enforce_distribution_relationships (map fact_row (take n rows.now)) masks.now cs) }
+    xs: FactRows,
+) -> Result<(), Unenforced>
+    requires numbered { Numbered asks.now }
+    requires few { (length asks.now ≤ 8) × (length forms.old ≡ length asks.now) }
+    requires small { (k : ℕ) → k < length forms.old → get_or forms.old k 0 ≤ 15 }
+    ensures { (cs : List ChildState) → Stand (map fact_row xs.entry.rows.now) 1 (asked_needs asks.now) forms.old cs → answer result forms.new ≡ told (enforce_distribution_relationships (map fact_row xs.entry.rows.now) masks.now cs) }
 {
-    let mut left = needs.len();
+    let mut left = asks.len();
     let mut mask = unsatisfied_at(masks, given_set(&*forms));
     while mask != 0 {
         if left == 0 {
-            return Enforcing::Stuck;
+            return Err(Unenforced::Stuck);
         }
-        if !any_givable(mask, needs, &*forms, index, rows, n) {
-            return Enforcing::Stuck;
+        if !any_givable(mask, asks, &*forms, xs) {
+            return Err(Unenforced::Stuck);
         }
-        let done = round(mask, needs, &mut *forms, index, rows, n);
-        if let Stepped::Lacking = done {
-            return Enforcing::Missing;
-        }
+        round(mask, asks, &mut *forms, xs).ok_or(Unenforced::Missing)?;
         left -= 1;
         mask = unsatisfied_at(masks, given_set(&*forms));
     }
-    Enforcing::Enforced
+    Ok(())
 }

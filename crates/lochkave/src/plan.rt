@@ -18,7 +18,7 @@ use exchange::partitioning::NodeRow;
 use exchange::row::Row;
 use exchange::settings::Settings;
 use exchange::status::ChildRow;
-use plananswer::plan::write_plan;
+use plananswer::plan::{Head, write_plan};
 use plansheet::line::sets_of;
 
 // Decides on the tree at the front of `src`, and writes the answer.
@@ -50,7 +50,15 @@ fn answer_plan(
             interleave,
             tracked,
             lines,
-        } => return write_plan(changed, window, interleave, tracked, &*dst, lines, out),
+        } => {
+            let head = Head {
+                changed,
+                window,
+                interleave,
+                tracked,
+            };
+            return write_plan(head, &dst[..lines], out);
+        }
     }
 }
 

@@ -159,7 +159,7 @@ module _
 
   line_quick : L.Line 8 (end + 1) ≡ read_by (number_at K seen s at) (after s at) (line_at letter s at)
   line_quick =
-      line_read_lem bs bounded K refl refl seen (after s at) (line_at letter s at) 8 (end + 1)
+      line_read_lem bs bounded K refl refl seen (after s at) (line_at letter s at) (record { count = 8; next = end + 1 })
       (record {
         fs = F;
         is = O.line.is;

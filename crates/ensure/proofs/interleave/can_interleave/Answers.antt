@@ -1,25 +1,26 @@
 -- `ensure::interleave::can_interleave` meets its contract.
+use mathlib.Core.Path.{sym, ◌∙◌}
+use mathlib.Core.Bool.{not}
 use mathlib.Core.List.{map}
 use native.Mathlib.Omega.{arith}
-use lib.ListN.{take}
+use borrow.Author.Tests.{eq-eqb, eqb-true, eqb-false}
 use Rattle.exchange.specs.FactRows.{fact_row}
 use Rattle.exchange.proofs.Interleaved.{alike_none, alike_unhashed, alike_first}
+use mathlib.Core.Path.{ap}
 use Rattle.ensure.proofs.interleave.can_interleave.Goals as goal
 
-pub returns-then-forms-eq0 : goal.returns-then-forms-eq0
-returns-then-forms-eq0 c = let a = c.args in alike_none (map fact_row (take a.n a.rows.now)) a.forms.now c.if-forms-eq0.true
+pub returns-then-is_empty : goal.returns-then-is_empty
+returns-then-is_empty c = let a = c.args in alike_none (map fact_row a.xs.rows.now) a.forms.now (eqb-true _ _ (sym c.if-is_empty.ensures))
 
 pub bounds-forms-0 : goal.bounds-forms-0
-bounds-forms-0 c = omega (arith, c.if-forms-eq0.false)
+bounds-forms-0 c = omega (arith, eqb-false _ _ (sym c.if-is_empty.ensures))
 
-pub layout_in-layout-requires-clause-le_child : goal.layout_in-layout-requires-clause-le_child
-layout_in-layout-requires-clause-le_child c = let p = c.requires in (omega arith, omega arith, p.forms_len_bound.1 _ (omega (arith, c.if-forms-eq0.false)), p.forms_len_bound.2)
+pub invariant_of-c : goal.invariant_of-c
+invariant_of-c c = record { within = (omega arith, omega arith, c.requires.small _ (omega (arith, eqb-false _ _ (sym c.if-is_empty.ensures)))) }
 
-pub layout_in-layout-requires-clause-index_value : goal.layout_in-layout-requires-clause-index_value
-layout_in-layout-requires-clause-index_value c = let p = c.requires in p.index_value
+pub returns-then-layout-ne0 : goal.returns-then-layout-ne0
+returns-then-layout-ne0 c = let a = c.args in alike_first (map fact_row a.xs.rows.now) _ a.forms.now _ (eqb-false _ _ (sym c.if-is_empty.ensures)) c.layout_in-layout.ensures c.if-layout-ne0.true c.all_layouts.ensures
 
-pub returns-then-layout-eq0 : goal.returns-then-layout-eq0
-returns-then-layout-eq0 c = let a = c.args in alike_unhashed (map fact_row (take a.n a.rows.now)) _ a.forms.now c.if-forms-eq0.false c.layout_in-layout.ensures c.if-layout-eq0.true
-
-pub returns : goal.returns
-returns c = let a = c.args in alike_first (map fact_row (take a.n a.rows.now)) _ a.forms.now _ c.if-forms-eq0.false c.layout_in-layout.ensures c.if-layout-eq0.false c.all_layouts.ensures
+pub returns-else-layout-ne0 : goal.returns-else-layout-ne0
+returns-else-layout-ne0 c = let a = c.args in ap not (eq-eqb _ _ c.if-layout-ne0.false)
+    ∙ alike_unhashed (map fact_row a.xs.rows.now) _ a.forms.now (eqb-false _ _ (sym c.if-is_empty.ensures)) c.layout_in-layout.ensures c.if-layout-ne0.false

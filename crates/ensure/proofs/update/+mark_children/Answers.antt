@@ -3,6 +3,7 @@ use mathlib.Core.Path.{◌∙◌}
 use native.Mathlib.Omega.{arith}
 use Rattle.exchange.proofs.Marking.{stands_in, all_first}
 use Rattle.exchange.proofs.MarkStored.{marks_done, marks_ready, marks_more}
+use Rattle.ensure.proofs.Finishing.{mark_byte}
 use Rattle.ensure.proofs.update.+mark_children.Goals as goal
 
 pub returns-then-left-eq0 : goal.returns-then-left-eq0
@@ -25,4 +26,4 @@ shape_of-rows t c = c.mark_children.auto.rows ∙ c.set_mark.auto.rows
 
 pub returns : goal.returns
 returns t c = marks_more _ _ _ _ _ _ c.if-left-eq0.false c.past_tree-next.ensures c.set_mark.ensures _ _ c.marks_child.ensures
-    c.mark_number-m.ensures c.mark_children.ensures
+    (mark_byte _ _ c.from-m.ensures) c.mark_children.ensures

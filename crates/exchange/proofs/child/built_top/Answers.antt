@@ -1,7 +1,6 @@
 -- `exchange::child::built_top` meets its contract.
 use mathlib.Core.Path.{ap, ◌∙◌}
 use mathlib.Core.List.{map}
-use lib.ListN.{take}
 use Rattle.exchange.specs.FactRows.{fact_row}
 use Rattle.exchange.specs.Forms.{form_of}
 use Rattle.exchange.specs.Built.{row_in}
@@ -9,4 +8,4 @@ use Rattle.exchange.proofs.BuiltRows.{top_built, before_apart}
 use Rattle.exchange.proofs.child.built_top.Goals as goal
 
 pub returns : goal.returns
-returns c = let a = c.args in top_built (map fact_row (take a.n a.rows.now)) a.child (form_of a.form) _ _ a.root _ c.top_of-top.ensures (c.row_in.ensures ∙ ap (row_in (map fact_row (take a.n a.rows.now)) a.child) (before_apart a.form _ _ _ c.requires.le_child.2 c.split_of.ensures c.top_of-top.ensures c.form_of-before.ensures)) c.top_operator.ensures
+returns c = let a = c.args in top_built (map fact_row a.xs.rows.now) a.c.child (form_of a.c.form) _ _ a.root _ c.top_of-top.ensures (c.row_in.ensures ∙ ap (row_in (map fact_row a.xs.rows.now) a.c.child) (before_apart a.c.form _ _ _ a.c.within.2 c.split_of.ensures c.top_of-top.ensures c.form_of.ensures)) c.top_operator.ensures

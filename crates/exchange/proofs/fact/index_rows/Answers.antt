@@ -1,26 +1,21 @@
 -- `exchange::fact::index_rows` meets its contract: at each turn the index is that of the rows from i on.
-use mathlib.Core.Path.{◌∙◌}
+use mathlib.Core.Path.{◌≡◌, ap, ◌∙◌}
 use native.Mathlib.Omega.{arith}
-use lib.ListN.{length-set}
-use Rattle.exchange.proofs.Indexed.{index_again, index_begins, slot_below}
+use lib.ListN.{length, drop, replicate}
+use Rattle.exchange.proofs.Indexed.{index_again, index_begins, slot_below, index_long}
 use Rattle.exchange.proofs.fact.index_rows.Goals as goal
 
 pub loop-i-init : goal.loop-i-init
-loop-i-init c = (omega arith, c.clear.auto.index ∙ c.requires.1, c.clear.ensures ∙ index_begins c.args.rows.now c.args.n c.args.index.now c.requires.1)
+loop-i-init c = c.fill.ensures.after (λ y h. h) ∙ ap (λ n. replicate n 0) c.requires ∙ index_begins c.args.rows.now _ (omega arith)
 
 pub offset_bounds-index-at : goal.offset_bounds-index-at
 offset_bounds-index-at c = omega (arith, slot_below _ _ _ c.slot-at.ensures)
 
 pub bounds-index-at : goal.bounds-index-at
-bounds-index-at c = omega (arith, slot_below _ _ _ c.slot-at.ensures)
+bounds-index-at c = omega (arith, slot_below _ _ _ c.slot-at.ensures, ap length c.loop-i.invariant, index_long c.loop-i.i (drop c.loop-i.i c.args.rows.now))
 
 pub loop-i-preserved : goal.loop-i-preserved
-loop-i-preserved c = let l = c.loop-i in (
-  omega arith,
-  simp length-set l.invariant.1,
-  index_again _ _ _ _ _ c.loop-i-test.true l.invariant.0
-      c.requires.0 l.invariant.2 c.slot-at.ensures,
-)
+loop-i-preserved c = index_again _ _ _ _ c.loop-i-test.true (omega arith) c.loop-i.invariant c.slot-at.ensures
 
 pub returns : goal.returns
-returns c = rw c.loop-i-test.false at c.loop-i.invariant.2
+returns c = let z : c.loop-i.i ≡ 0 = omega arith in rw z at c.loop-i.invariant

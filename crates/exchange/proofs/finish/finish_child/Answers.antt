@@ -1,7 +1,8 @@
 -- `exchange::finish::finish_child` meets its contract: the child is built in `mid`, and its handling written from there (`finish_wrote`).
-use mathlib.Core.List.{map}
+use mathlib.Core.List.{[], map}
+use Prim.Native.Nat.{◌-◌}
+use lib.ListN.{get_or}
 use native.Mathlib.Omega.{arith}
-use lib.ListN.{take}
 use Rattle.exchange.specs.FactRows.{node_facts, child_facts, fact_row}
 use Rattle.exchange.specs.Forms.{form_of}
 use Rattle.exchange.specs.Rows.{operator_of}
@@ -10,19 +11,19 @@ use Rattle.exchange.proofs.FinishWritten.{front_in, finish_ready, finish_wrote}
 use Rattle.exchange.proofs.finish.finish_child.Goals as goal
 
 pub node_at-top-requires : goal.node_at-top-requires
-node_at-top-requires c = let a = c.args in omega (arith, front_in (built (map fact_row (take a.n a.rows.now)) a.child (form_of a.form)) a.src.now a.at a.mid.now _ _ c.requires.ready c.build_child-read.ensures, c.build_child-read.auto.dst)
+node_at-top-requires c = let a = c.args in omega (arith, front_in (built (map fact_row a.w.facts.xs.rows.now) a.c.child (form_of a.c.form)) a.src.now a.at a.mid.now _ _ c.requires.ready c.build_child-read.ensures, c.build_child-read.auto.dst)
 
 pub handle_order-h-requires : goal.handle_order-h-requires
-handle_order-h-requires c = rw c.known.ensures (c.requires.worked_value.1)
+handle_order-h-requires c = rw c.known.ensures (c.args.w.facts.ordered _ (omega (arith, c.args.c.within, c.requires.told)))
 
 pub output_fetch-requires : goal.output_fetch-requires
-output_fetch-requires c = c.requires.worked_value.0
+output_fetch-requires c = c.args.w.legal
 
 pub put_handled-put-requires-clause-limiting_value : goal.put_handled-put-requires-clause-limiting_value
 put_handled-put-requires-clause-limiting_value c = c.output_fetch.ensures.1
 
 pub put_handled-put-requires-clause-ready : goal.put_handled-put-requires-clause-ready
-put_handled-put-requires-clause-ready c = let a = c.args in finish_ready (map fact_row (take a.n a.rows.now)) a.child (form_of a.form) a.need (child_facts a.f) a.s (node_facts a.b) (operator_of a.worked) a.children a.src.now a.at a.mid.now _ _ c.requires.ready c.build_child-read.ensures _ c.node_at-top.ensures _ c.row_in-x.ensures _ c.known.ensures _ c.handle_order-h.ensures _ c.output_fetch.ensures.0 _ _ c.requires.ready_2
+put_handled-put-requires-clause-ready c = let a = c.args in finish_ready (map fact_row a.w.facts.xs.rows.now) a.c.child (form_of a.c.form) a.need (child_facts (get_or a.w.facts.children.now (a.c.child - 1) [])) a.w.settings (node_facts a.w.facts.node) (operator_of a.w.node) a.w.children a.src.now a.at a.mid.now _ _ c.requires.ready c.build_child-read.ensures _ c.node_at-top.ensures _ c.row_in-x.ensures _ c.known.ensures _ c.handle_order-h.ensures _ c.output_fetch.ensures.0 _ _ c.requires.ready_2
 
 pub returns : goal.returns
-returns c = let a = c.args in finish_wrote (map fact_row (take a.n a.rows.now)) a.child (form_of a.form) a.need (child_facts a.f) a.s (node_facts a.b) (operator_of a.worked) a.children a.src.now a.at a.mid.now _ _ c.requires.ready c.build_child-read.ensures _ c.node_at-top.ensures _ c.row_in-x.ensures _ c.known.ensures _ c.handle_order-h.ensures _ c.output_fetch.ensures.0 _ _ _ _ c.put_handled-put.ensures
+returns c = let a = c.args in finish_wrote (map fact_row a.w.facts.xs.rows.now) a.c.child (form_of a.c.form) a.need (child_facts (get_or a.w.facts.children.now (a.c.child - 1) [])) a.w.settings (node_facts a.w.facts.node) (operator_of a.w.node) a.w.children a.src.now a.at a.mid.now _ _ c.requires.ready c.build_child-read.ensures _ c.node_at-top.ensures _ c.row_in-x.ensures _ c.known.ensures _ c.handle_order-h.ensures _ c.output_fetch.ensures.0 _ _ _ _ c.put_handled-put.ensures

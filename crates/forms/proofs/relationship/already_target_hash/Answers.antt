@@ -9,18 +9,18 @@ use Rattle.forms.proofs.Turns.{turn_none, turn_placed, turn_row}
 use Rattle.forms.proofs.relationship.already_target_hash.Goals as goal
 
 pub returns-in_default : goal.returns-in_default
-returns-in_default c = let a = c.args in sym (ap row_already (turn_none a.rows.now a.n a.child a.form c.requires.le_child.2 (ap found_of (sym c.in_default.is) ∙ c.fact_row-found.ensures)))
+returns-in_default c = let a = c.args in sym (ap row_already (turn_none a.xs.rows.now a.c.child a.c.form a.c.within.2 (ap found_of (sym c.in_default.is) ∙ c.fact_row.ensures)))
 
-pub offset_bounds-rows-place : goal.offset_bounds-rows-place
-offset_bounds-rows-place c = let a = c.args in omega (arith, turn_placed a.rows.now a.n a.child a.form c.requires.le_child.2 _ (ap found_of (sym c.in-Row.is) ∙ c.fact_row-found.ensures))
+pub offset_bounds-xs-place : goal.offset_bounds-xs-place
+offset_bounds-xs-place c = let a = c.args in omega (arith, turn_placed a.xs.rows.now a.c.child a.c.form a.c.within.2 _ (ap found_of (sym c.in-Row.is) ∙ c.fact_row.ensures))
 
-pub bounds-rows-place : goal.bounds-rows-place
-bounds-rows-place c = let a = c.args in turn_placed a.rows.now a.n a.child a.form c.requires.le_child.2 _ (ap found_of (sym c.in-Row.is) ∙ c.fact_row-found.ensures)
+pub bounds-xs-place : goal.bounds-xs-place
+bounds-xs-place c = let a = c.args in turn_placed a.xs.rows.now a.c.child a.c.form a.c.within.2 _ (ap found_of (sym c.in-Row.is) ∙ c.fact_row.ensures)
 
-pub returns-then-x-ne1 : goal.returns-then-x-ne1
-returns-then-x-ne1 c = let a = c.args in let e = turn_row a.rows.now a.n a.child a.form c.requires.le_child.2 _ (ap found_of (sym c.in-Row.is) ∙ c.fact_row-found.ensures) in
-    stop _ _ (ne_eqb _ _ c.if-x-ne1.true) ∙ sym (ap row_already e)
+pub returns-then-x-eq1 : goal.returns-then-x-eq1
+returns-then-x-eq1 c = let a = c.args in let e = turn_row a.xs.rows.now a.c.child a.c.form a.c.within.2 _ (ap found_of (sym c.in-Row.is) ∙ c.fact_row.ensures) in
+    past _ _ _ (eq-eqb _ _ c.if-x-eq1.true) refl ∙ sym (ap row_already e)
 
-pub returns : goal.returns
-returns c = let a = c.args in let e = turn_row a.rows.now a.n a.child a.form c.requires.le_child.2 _ (ap found_of (sym c.in-Row.is) ∙ c.fact_row-found.ensures) in
-    past _ _ _ (eq-eqb _ _ c.if-x-ne1.false) refl ∙ sym (ap row_already e)
+pub returns-else-x-eq1 : goal.returns-else-x-eq1
+returns-else-x-eq1 c = let a = c.args in let e = turn_row a.xs.rows.now a.c.child a.c.form a.c.within.2 _ (ap found_of (sym c.in-Row.is) ∙ c.fact_row.ensures) in
+    ne_eqb _ _ c.if-x-eq1.false ∙ stop _ _ (ne_eqb _ _ c.if-x-eq1.false) ∙ sym (ap row_already e)

@@ -2,7 +2,6 @@
 use mathlib.Core.Path.{refl, sym, ap, ◌∙◌}
 use mathlib.Core.List.{List, map}
 use native.Mathlib.Omega.{arith}
-use lib.ListN.{take}
 use Rattle.exchange.specs.declared.relationship.Turn.{Turn}
 use Rattle.exchange.specs.FactRows.{fact_row}
 use Rattle.exchange.specs.Turns.{any_turn}
@@ -10,26 +9,21 @@ use Rattle.exchange.proofs.Tests.{enough, besides}
 use Rattle.forms.proofs.Turns.{turns_turn, turns_end}
 use Rattle.forms.proofs.relationship.any_givable.Goals as goal
 
-pub loop-i-init : goal.loop-i-init
-loop-i-init c = (omega arith, refl)
-
-pub is_givable-requires-clause-le_number : goal.is_givable-requires-clause-le_number
-is_givable-requires-clause-le_number c = let p = c.requires in (omega arith, omega (arith, p.needs_len_bound.0), p.needs_len_bound.2 c.loop-i.i c.loop-i-test.true)
-
-pub is_givable-requires-clause-n_in_bounds : goal.is_givable-requires-clause-n_in_bounds
-is_givable-requires-clause-n_in_bounds c = let p = c.requires in p.n_in_bounds
+pub is_givable-requires : goal.is_givable-requires
+is_givable-requires c = let p = c.requires in let n = p.numbered c.loop-i.i c.loop-i-test.true in
+    record { numbered = (omega (arith, n), omega (arith, n, p.few.0), p.small c.loop-i.i (omega (arith, p.few.1, c.loop-i-test.true))) }
 
 pub returns-then-is_givable : goal.returns-then-is_givable
 unfolding any_turn
-returns-then-is_givable c = let a = c.args in let l = c.loop-i in let t = turns_turn a.needs.now a.forms.now c.requires.needs_len_bound.1 l.i l.m c.loop-i-test.true in
-    enough _ _ (sym c.is_givable.ensures ∙ c.if-is_givable.true) ∙ sym (l.invariant.1 ∙ ap (λ (xs : List Turn). any_turn (map fact_row (take a.n a.rows.now)) xs) t)
+returns-then-is_givable c = let a = c.args in let l = c.loop-i in let t = turns_turn a.asks.now a.forms.now c.requires.few.1 l.i l.m c.requires.numbered c.loop-i-test.true in
+    enough _ _ (sym c.is_givable.ensures ∙ c.if-is_givable.true) ∙ sym (l.invariant ∙ ap (λ (xs : List Turn). any_turn (map fact_row a.xs.rows.now) xs) t)
 
 pub loop-i-preserved : goal.loop-i-preserved
 unfolding any_turn
-loop-i-preserved c = let a = c.args in let l = c.loop-i in let t = turns_turn a.needs.now a.forms.now c.requires.needs_len_bound.1 l.i l.m c.loop-i-test.true in
-    (omega arith, l.invariant.1 ∙ ap (λ (xs : List Turn). any_turn (map fact_row (take a.n a.rows.now)) xs) t ∙ sym (besides _ _ _ (sym c.is_givable.ensures ∙ c.if-is_givable.false) refl))
+loop-i-preserved c = let a = c.args in let l = c.loop-i in let t = turns_turn a.asks.now a.forms.now c.requires.few.1 l.i l.m c.requires.numbered c.loop-i-test.true in
+    l.invariant ∙ ap (λ (xs : List Turn). any_turn (map fact_row a.xs.rows.now) xs) t ∙ sym (besides _ _ _ (sym c.is_givable.ensures ∙ c.if-is_givable.false) refl)
 
 pub returns : goal.returns
 unfolding any_turn
-returns c = let a = c.args in let l = c.loop-i in let t = turns_end a.needs.now a.forms.now c.requires.needs_len_bound.1 l.i l.m c.loop-i-test.false in
-    sym (l.invariant.1 ∙ ap (λ (xs : List Turn). any_turn (map fact_row (take a.n a.rows.now)) xs) t)
+returns c = let a = c.args in let l = c.loop-i in let t = turns_end a.asks.now a.forms.now c.requires.few.1 l.i l.m c.loop-i-test.false in
+    sym (l.invariant ∙ ap (λ (xs : List Turn). any_turn (map fact_row a.xs.rows.now) xs) t)

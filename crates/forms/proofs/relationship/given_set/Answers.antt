@@ -1,5 +1,5 @@
 -- `forms::relationship::given_set` meets its contract: the set of the forms from i on; with at most eight forms it stays small (`set_small`).
-use mathlib.Core.Path.{sym, ap, ◌∙◌}
+use mathlib.Core.Path.{◌≡◌, sym, ap, ◌∙◌}
 use Prim.Native.Nat.{ℕ}
 use native.Mathlib.Omega.{arith}
 use lib.ListN.{length, drop, drop_of_length-le}
@@ -9,16 +9,16 @@ use Rattle.forms.proofs.relationship.given_set.Goals as goal
 
 pub loop-i-init : goal.loop-i-init
 unfolding set_of
-loop-i-init c = (omega arith, sym (ap set_of (drop_of_length-le c.args.forms.now {i = length c.args.forms.now} (omega arith))))
+loop-i-init c = sym (ap set_of (drop_of_length-le c.args.forms.now {i = length c.args.forms.now} (omega arith)))
 
 pub overflow_mul-set : goal.overflow_mul-set
-overflow_mul-set c = let l = c.loop-i in omega (arith, l.invariant.1, set_small c.args.forms.now c.requires.0 c.requires.1 l.i c.loop-i-test.true l.invariant.0)
+overflow_mul-set c = let l = c.loop-i in omega (arith, l.invariant, set_small c.args.forms.now c.requires.0 c.requires.1 l.i c.loop-i-test.true (omega arith))
 
 pub overflow_add-set : goal.overflow_add-set
-overflow_add-set c = let l = c.loop-i in omega (arith, l.invariant.1, c.relationship_of.ensures, set_small c.args.forms.now c.requires.0 c.requires.1 l.i c.loop-i-test.true l.invariant.0)
+overflow_add-set c = let l = c.loop-i in omega (arith, l.invariant, c.relationship_of.ensures, set_small c.args.forms.now c.requires.0 c.requires.1 l.i c.loop-i-test.true (omega arith))
 
 pub loop-i-preserved : goal.loop-i-preserved
-loop-i-preserved c = let l = c.loop-i in (omega arith, omega (arith, l.invariant.1, c.relationship_of.ensures, set_turn c.args.forms.now c.requires.0 c.requires.1 l.i c.loop-i-test.true l.invariant.0))
+loop-i-preserved c = let l = c.loop-i in omega (arith, l.invariant, c.relationship_of.ensures, set_turn c.args.forms.now c.requires.0 c.requires.1 l.i c.loop-i-test.true (omega arith))
 
 pub returns : goal.returns
-returns c = let l = c.loop-i in l.invariant.1 ∙ ap (λ (k : ℕ). set_of (drop k c.args.forms.now)) c.loop-i-test.false
+returns c = let l = c.loop-i in let z : l.i ≡ 0 = omega arith in l.invariant ∙ ap (λ (k : ℕ). set_of (drop k c.args.forms.now)) z

@@ -4,8 +4,8 @@ use Rattle.exchange.specs.Found.{found_of}
 use Rattle.forms.proofs.Formed.{passed_none, passed_some}
 use Rattle.forms.proofs.step.pass.Goals as goal
 
-pub returns-in-Missing : goal.returns-in-Missing
-returns-in-Missing c = passed_none _ _ _ (ap found_of (sym c.in-Missing.is) ∙ c.fact_row-found.ensures)
+pub returns-in_default : goal.returns-in_default
+returns-in_default c = passed_none _ _ _ (ap found_of (sym c.in_default.is) ∙ c.fact_row.ensures)
 
 pub returns : goal.returns
-returns c = passed_some _ _ _ c.in_default.field-0 (ap found_of (sym c.in_default.is) ∙ c.fact_row-found.ensures)
+returns c = passed_some _ _ _ c.in-Row.place (ap found_of (sym c.in-Row.is) ∙ c.fact_row.ensures)

@@ -20,11 +20,11 @@ returns-then-a-ne2 c = formed_left _ _ _ _ (ne_eqb _ _ c.if-a-eq1.false) (formed
 
 pub returns-then-not-t : goal.returns-then-not-t
 returns-then-not-t c = formed_left _ _ _ _ (ne_eqb _ _ c.if-a-eq1.false) (formed_taken _ _ _ _ (eq-eqb _ _ c.if-a-ne2.false)
-    (formed_left _ _ _ _ (sym (stop _ _ (refused _ _ (ap necessary (c.get_repartition_requirement_status-t.ensures (child_for c.args.a) refl refl refl)) c.if-not-t.true))) (formed_kept _ c.requires.le_number.2)))
+    (formed_left _ _ _ _ (sym (stop _ _ (refused _ _ (ap necessary (c.get_repartition_requirement_status-t.ensures (child_for c.args.a) refl refl refl)) c.if-not-t.true))) (formed_kept _ c.args.c.at.within.2)))
 
 pub returns-then-not-needs_hash_repartition : goal.returns-then-not-needs_hash_repartition
 returns-then-not-needs_hash_repartition c = formed_left _ _ _ _ (ne_eqb _ _ c.if-a-eq1.false) (formed_taken _ _ _ _ (eq-eqb _ _ c.if-a-ne2.false)
-    (formed_left _ _ _ _ (sym (past _ _ _ (held _ _ (ap necessary (c.get_repartition_requirement_status-t.ensures (child_for c.args.a) refl refl refl)) c.if-not-t.false) (sym (refused _ _ (c.needs_hash_repartition.ensures c.args.aligned) (ap not c.if-not-needs_hash_repartition.true))))) (formed_kept _ c.requires.le_number.2)))
+    (formed_left _ _ _ _ (sym (past _ _ _ (held _ _ (ap necessary (c.get_repartition_requirement_status-t.ensures (child_for c.args.a) refl refl refl)) c.if-not-t.false) (sym (refused _ _ (c.needs_hash_repartition.ensures c.args.aligned) (ap not c.if-not-needs_hash_repartition.true))))) (formed_kept _ c.args.c.at.within.2)))
 
 pub returns : goal.returns
 returns c = formed_left _ _ _ _ (ne_eqb _ _ c.if-a-eq1.false) (formed_taken _ _ _ _ (eq-eqb _ _ c.if-a-ne2.false)

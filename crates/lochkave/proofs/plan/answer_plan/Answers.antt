@@ -1,7 +1,9 @@
 -- `answer_plan` meets its contract: refusals 9 and 11, or the rows of the answer written.
 use Rattle.exchange.specs.Ensure.{ensured}
 use Rattle.ensure.proofs.Distributed.{sheet_fits}
+use mathlib.Core.Path.{sym}
 use lib.ListN.{length, take}
+use lib.Seq.{length-take-le}
 use native.Mathlib.Omega.{arith}
 use Rattle.ensure.specs.Outcomes.{facts_by}
 use Rattle.lochkave.proofs.PlanAnswered.{gives_missing, gives_stuck, answered_lines, gives_answered}
@@ -25,7 +27,17 @@ returns-in-Unenforceable c = let a = c.args in λ t rest h. gives_stuck (ensured
 pub write_plan-requires : goal.write_plan-requires
 write_plan-requires c = let a = c.args in let q = c.requires in let p = q.sheet in let e = c.ensure_distribution-done.ensures.ends p.tree p.rest p.stands in
     let fits = answered_lines c.ensure_distribution-done.result _ _ _ _ _ c.in-Answered.is (ensured a.s (facts_by a.b a.facts.now (take a.n a.rows.now) a.masks.now) p.tree) a.dst.now _ (length a.dst.now) e (sheet_fits a.s (facts_by a.b a.facts.now (take a.n a.rows.now) a.masks.now) a.src.now (length a.facts.now) (length a.dst.now) p q.facts_len_bound.0 q.facts_len_bound.2) in
-    (omega (arith, fits, c.ensure_distribution-done.auto.dst), omega (arith, fits, q.facts_len_bound.3))
+    omega (arith, length-take-le c.in-Answered.lines c.ensure_distribution-done.new.dst (omega (arith, fits, c.ensure_distribution-done.auto.dst)), fits, q.facts_len_bound.3)
+
+pub slice_bounds-write_plan-end : goal.slice_bounds-write_plan-end
+slice_bounds-write_plan-end c = let a = c.args in let q = c.requires in let p = q.sheet in let e = c.ensure_distribution-done.ensures.ends p.tree p.rest p.stands in
+    let fits = answered_lines c.ensure_distribution-done.result _ _ _ _ _ c.in-Answered.is (ensured a.s (facts_by a.b a.facts.now (take a.n a.rows.now) a.masks.now) p.tree) a.dst.now _ (length a.dst.now) e (sheet_fits a.s (facts_by a.b a.facts.now (take a.n a.rows.now) a.masks.now) a.src.now (length a.facts.now) (length a.dst.now) p q.facts_len_bound.0 q.facts_len_bound.2) in
+    omega (arith, fits, c.ensure_distribution-done.auto.dst)
+
+pub slice_bounds-write_plan-end-in-Answered : goal.slice_bounds-write_plan-end-in-Answered
+slice_bounds-write_plan-end-in-Answered c = let a = c.args in let q = c.requires in let p = q.sheet in let e = c.ensure_distribution-done.ensures.ends p.tree p.rest p.stands in
+    let fits = answered_lines c.ensure_distribution-done.result _ _ _ _ _ c.in-Answered.is (ensured a.s (facts_by a.b a.facts.now (take a.n a.rows.now) a.masks.now) p.tree) a.dst.now _ (length a.dst.now) e (sheet_fits a.s (facts_by a.b a.facts.now (take a.n a.rows.now) a.masks.now) a.src.now (length a.facts.now) (length a.dst.now) p q.facts_len_bound.0 q.facts_len_bound.2) in
+    sym (length-take-le c.in-Answered.lines c.ensure_distribution-done.new.dst (omega (arith, fits, c.ensure_distribution-done.auto.dst)))
 
 pub returns-in-Answered : goal.returns-in-Answered
 returns-in-Answered c = let a = c.args in let q = c.requires in let p = q.sheet in let e = c.ensure_distribution-done.ensures.ends p.tree p.rest p.stands in

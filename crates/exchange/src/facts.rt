@@ -1,0 +1,31 @@
+// What a sheet says beside the tree, and the worked node whose children are finished by it.
+ghost use Rattle.std.specs.Prelude.{◌≡◌, ℕ, ◌≤◌, ◌<◌, length, get_or, []};
+ghost use Rattle.exchange.specs.FactRows.{child_facts};
+ghost use Rattle.exchange.specs.Rows.{node_of, operator_of};
+
+use crate::fact::FactRows;
+use crate::partitioning::NodeRow;
+use crate::row::Node;
+use crate::settings::Settings;
+use crate::status::ChildRow;
+
+// The B row of the worked node, the F rows of its children, the X rows with their index, and the masks of unsatisfied children.
+#[derive(Clone, Copy)]
+pub struct PlanFacts<'a> {
+    pub node: NodeRow,
+    pub children: &'a [ChildRow],
+    pub xs: FactRows<'a>,
+    pub masks: &'a [u64],
+    pub ghost few: { length children.now ≤ 8 },
+    pub ghost ordered: { (k : ℕ) → k < length children.now → (child_facts (get_or children.now k [])).entries ≤ 8 },
+}
+
+// The worked node, with as many children.
+#[derive(Clone, Copy)]
+pub struct Finishing<'a> {
+    pub settings: Settings,
+    pub facts: PlanFacts<'a>,
+    pub node: Node,
+    pub children: u64,
+    pub ghost legal: { node_of (operator_of node) ≡ node },
+}
