@@ -4,11 +4,10 @@ ghost use Rattle.sheet.specs.Outcomes.{answer, after};
 ghost use Rattle.lochkave.specs.Entry.{distribution_outcome};
 ghost use Rattle.lochkave.specs.Rooms.{PlanRooms};
 
-use crate::again::refusal;
 use crate::plan::{answer_plan, held_facts};
 use exchange::fact::FactRow;
 use exchange::row::Row;
-use plansheet::plan::{Plan, read_plan};
+use plansheet::plan::read_plan;
 
 // A sheet of fewer bytes has at most 64 T lines and 39 X rows: a T line takes 17 bytes at least, an X row 28.
 const SHORT: usize = 1088;
@@ -35,7 +34,7 @@ pub(crate) fn distribute_in(
     let mut head = [0u64; 9];
     let mut node = [0u64; 4];
     let mut facts = [[0u64; 7]; 8];
-    let p = read_plan(
+    match read_plan(
         sheet,
         fields,
         &mut head,
@@ -45,18 +44,11 @@ pub(crate) fn distribute_in(
         &mut *xs,
         &mut *masks,
         &mut *index,
-    );
-    match p {
-        Plan::Refused { number, line } => refusal(number, line),
-        Plan::Held {
-            settings,
-            lines,
-            worked: _,
-            children,
-            rows: n,
-        } => {
-            let f = held_facts(children, n, node, &facts, &*xs, &*masks, &*index);
-            answer_plan(settings, f, &mut rows[..lines], mid, dst, out)
+    ) {
+        Err(refused) => refused.word(),
+        Ok(p) => {
+            let f = held_facts(p, node, &facts, &*xs, &*masks, &*index);
+            answer_plan(p.settings, f, &mut rows[..p.lines], mid, dst, out)
         }
     }
 }

@@ -61,6 +61,7 @@ fn first_byte(sheet: &[u8]) -> u8
 
 // Decides a sheet, whose first byte says its kind.
 #[unsafe(no_mangle)]
+#[tactic(auto, unfolding(crate::specs::Decision::decision))]
 pub extern "C" fn lochkave_decide(sheet: &[u8], out: &mut [u8]) -> u64
     ensures result { result ≡ answer (outcome sheet.now (length out.old)) }
     ensures bytes { out.new ≡ after (outcome sheet.now (length out.old)) out.old }
@@ -74,6 +75,7 @@ pub extern "C" fn lochkave_decide(sheet: &[u8], out: &mut [u8]) -> u64
 
 // The same in rooms that are lent and never cleared; in its own where one of them is too short. What they hold afterwards is of no account.
 #[unsafe(no_mangle)]
+#[tactic(auto, unfolding(crate::specs::Decision::decision))]
 pub extern "C" fn lochkave_decide_in(
     sheet: &[u8],
     fields: &mut [[u64; 2]],
@@ -117,6 +119,7 @@ pub extern "C" fn lochkave_decide_in(
 
 // Reads a sheet and writes it again from what was read.
 #[unsafe(no_mangle)]
+#[tactic(auto, unfolding(crate::specs::Entry::rewriting))]
 pub extern "C" fn lochkave_rewrite(sheet: &[u8], out: &mut [u8]) -> u64
     ensures result { result ≡ answer (rewrite_outcome sheet.now (length out.old)) }
     ensures bytes { out.new ≡ after (rewrite_outcome sheet.now (length out.old)) out.old }

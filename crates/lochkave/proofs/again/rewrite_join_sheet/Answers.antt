@@ -5,7 +5,7 @@ use Rattle.sheet.specs.Held.{child_count}
 use Rattle.sheet.proofs.Bounded.{join_turned_few}
 use Rattle.answers.proofs.KeyLists.{key_children}
 use Rattle.lochkave.specs.Entry.{join_again}
-use Rattle.lochkave.proofs.Entries.{full_zeros, was_turned, turned_line, turned_word, was_read, leaves_refused, join_same, seventh}
+use Rattle.lochkave.proofs.Entries.{full_zeros, was_turned, turned_line, turned_word, worded, was_read, leaves_refused, join_same, seventh}
 use Rattle.lochkave.proofs.again.rewrite_join_sheet.Goals as goal
 
 pub read_join_sheet-requires : goal.read_join_sheet-requires
@@ -13,11 +13,11 @@ read_join_sheet-requires c = (omega arith, omega arith, omega arith, full_zeros 
 
 pub word-requires : goal.word-requires
 word-requires c = let a = c.args in let q = c.read_join_sheet in let t = was_turned (read_join_sheet a.sheet.now) q.result _ q.ensures.answer c.in-Err.is in
-    omega (arith, turned_line t (join_turned_few a.sheet.now _ _ t.is))
+    omega (arith, turned_line t (worded _ _ (join_turned_few a.sheet.now _ _ t.is)))
 
 pub returns-in-Err : goal.returns-in-Err
 returns-in-Err c = let a = c.args in let q = c.read_join_sheet in let t = was_turned (read_join_sheet a.sheet.now) q.result _ q.ensures.answer c.in-Err.is in
-    let both = leaves_refused (join_again (read_join_sheet a.sheet.now)) a.out.now _ _ _ (ap join_again t.is) (turned_word t (join_turned_few a.sheet.now _ _ t.is) _ c.word.ensures) in
+    let both = leaves_refused (join_again (read_join_sheet a.sheet.now)) a.out.now _ _ _ (ap join_again t.is) (turned_word t (worded _ _ (join_turned_few a.sheet.now _ _ t.is)) _ c.word.ensures) in
     record { result = both.0; bytes = both.1 }
 
 pub put_again-requires-clause-lines : goal.put_again-requires-clause-lines

@@ -5,7 +5,7 @@ use Rattle.sheet.specs.Held.{child_count}
 use Rattle.sheet.proofs.Bounded.{key_turned_few}
 use Rattle.answers.proofs.KeyLists.{key_children}
 use Rattle.lochkave.specs.Entry.{key_again}
-use Rattle.lochkave.proofs.Entries.{full_zeros, was_turned, turned_line, turned_word, was_read, leaves_refused, key_same, seventh}
+use Rattle.lochkave.proofs.Entries.{full_zeros, was_turned, turned_line, turned_word, worded, was_read, leaves_refused, key_same, seventh}
 use Rattle.lochkave.proofs.again.rewrite_key_sheet.Goals as goal
 
 pub read_key_sheet-requires : goal.read_key_sheet-requires
@@ -13,11 +13,11 @@ read_key_sheet-requires c = (omega arith, omega arith, omega arith, full_zeros 1
 
 pub word-requires : goal.word-requires
 word-requires c = let a = c.args in let q = c.read_key_sheet in let t = was_turned (read_key_sheet a.sheet.now) q.result _ q.ensures.answer c.in-Err.is in
-    omega (arith, turned_line t (key_turned_few a.sheet.now _ _ t.is))
+    omega (arith, turned_line t (worded _ _ (key_turned_few a.sheet.now _ _ t.is)))
 
 pub returns-in-Err : goal.returns-in-Err
 returns-in-Err c = let a = c.args in let q = c.read_key_sheet in let t = was_turned (read_key_sheet a.sheet.now) q.result _ q.ensures.answer c.in-Err.is in
-    let both = leaves_refused (key_again (read_key_sheet a.sheet.now)) a.out.now _ _ _ (ap key_again t.is) (turned_word t (key_turned_few a.sheet.now _ _ t.is) _ c.word.ensures) in
+    let both = leaves_refused (key_again (read_key_sheet a.sheet.now)) a.out.now _ _ _ (ap key_again t.is) (turned_word t (worded _ _ (key_turned_few a.sheet.now _ _ t.is)) _ c.word.ensures) in
     record { result = both.0; bytes = both.1 }
 
 pub overflow_add-n : goal.overflow_add-n

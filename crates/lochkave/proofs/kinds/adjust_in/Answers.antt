@@ -8,7 +8,7 @@ use Rattle.sheet.specs.KeyAnswers.{Outcome, adjust_decision}
 use Rattle.sheet.proofs.AnswersFit.{adjust_fits}
 use Rattle.sheet.proofs.Bounded.{key_turned_few}
 use Rattle.sheet.specs.Outcomes.{FitsIn}
-use Rattle.lochkave.proofs.Entries.{was_turned, turned_line, turned_word, was_read, leaves_refused, adjust_turned, adjust_held, has_room}
+use Rattle.lochkave.proofs.Entries.{was_turned, turned_line, turned_word, worded, was_read, leaves_refused, adjust_turned, adjust_held, has_room}
 use Rattle.lochkave.proofs.kinds.adjust_in.Goals as goal
 
 pub read_key_sheet-requires : goal.read_key_sheet-requires
@@ -16,11 +16,11 @@ read_key_sheet-requires c = let p = c.requires in (omega (arith, p.0), omega (ar
 
 pub word-requires : goal.word-requires
 word-requires c = let a = c.args in let q = c.read_key_sheet in let t = was_turned (read_key_sheet a.sheet.now) q.result _ q.ensures.answer c.in-Err.is in
-    omega (arith, turned_line t (key_turned_few a.sheet.now _ _ t.is))
+    omega (arith, turned_line t (worded _ _ (key_turned_few a.sheet.now _ _ t.is)))
 
 pub returns-in-Err : goal.returns-in-Err
 returns-in-Err c = let a = c.args in let q = c.read_key_sheet in let t = was_turned (read_key_sheet a.sheet.now) q.result _ q.ensures.answer c.in-Err.is in
-    let both = leaves_refused (adjust_decision a.sheet.now) a.out.now _ _ _ (adjust_turned a.sheet.now _ _ t.is) (turned_word t (key_turned_few a.sheet.now _ _ t.is) _ c.word.ensures) in
+    let both = leaves_refused (adjust_decision a.sheet.now) a.out.now _ _ _ (adjust_turned a.sheet.now _ _ t.is) (turned_word t (worded _ _ (key_turned_few a.sheet.now _ _ t.is)) _ c.word.ensures) in
     record { result = both.0; bytes = both.1 }
 
 pub answer_key_sheet-requires : goal.answer_key_sheet-requires

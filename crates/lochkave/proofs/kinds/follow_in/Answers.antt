@@ -8,7 +8,7 @@ use Rattle.sheet.specs.KeyAnswers.{Outcome, inputs_decision}
 use Rattle.sheet.proofs.AnswersFit.{inputs_fits}
 use Rattle.sheet.proofs.Bounded.{join_turned_few}
 use Rattle.sheet.specs.Outcomes.{FitsIn}
-use Rattle.lochkave.proofs.Entries.{was_turned, turned_line, turned_word, was_read, leaves_refused, inputs_turned, inputs_held, has_room}
+use Rattle.lochkave.proofs.Entries.{was_turned, turned_line, turned_word, worded, was_read, leaves_refused, inputs_turned, inputs_held, has_room}
 use Rattle.lochkave.proofs.kinds.follow_in.Goals as goal
 
 pub read_join_sheet-requires : goal.read_join_sheet-requires
@@ -16,11 +16,11 @@ read_join_sheet-requires c = let p = c.requires in (omega (arith, p.0), omega (a
 
 pub word-requires : goal.word-requires
 word-requires c = let a = c.args in let q = c.read_join_sheet in let t = was_turned (read_join_sheet a.sheet.now) q.result _ q.ensures.answer c.in-Err.is in
-    omega (arith, turned_line t (join_turned_few a.sheet.now _ _ t.is))
+    omega (arith, turned_line t (worded _ _ (join_turned_few a.sheet.now _ _ t.is)))
 
 pub returns-in-Err : goal.returns-in-Err
 returns-in-Err c = let a = c.args in let q = c.read_join_sheet in let t = was_turned (read_join_sheet a.sheet.now) q.result _ q.ensures.answer c.in-Err.is in
-    let both = leaves_refused (inputs_decision a.sheet.now) a.out.now _ _ _ (inputs_turned a.sheet.now _ _ t.is) (turned_word t (join_turned_few a.sheet.now _ _ t.is) _ c.word.ensures) in
+    let both = leaves_refused (inputs_decision a.sheet.now) a.out.now _ _ _ (inputs_turned a.sheet.now _ _ t.is) (turned_word t (worded _ _ (join_turned_few a.sheet.now _ _ t.is)) _ c.word.ensures) in
     record { result = both.0; bytes = both.1 }
 
 pub answer_join_sheet-requires : goal.answer_join_sheet-requires
