@@ -13,7 +13,7 @@ ghost use Rattle.sheet.specs.Outcomes.{answer, after};
 ghost use Rattle.lochkave.specs.Entry.{outcome, adjust_outcome, inputs_outcome, distribution_outcome, rewrite_outcome};
 
 use crate::again::{rewrite_join_sheet, rewrite_key_sheet, rewrite_plan_sheet};
-use crate::distribution::{distribute, distribute_in};
+use crate::distribution::{TreeRooms, distribute, distribute_in};
 use crate::kinds::{adjust_in, follow_in};
 use crate::rooms::{keys_fit, trees_fit};
 
@@ -109,10 +109,16 @@ pub extern "C" fn lochkave_decide_in(
         b'K' => adjust_in(sheet, fields, lists, out),
         b'I' => follow_in(sheet, fields, rules, lists, out),
         _ => {
-            let tree = &mut rows[..256];
-            let answer = &mut dst[..536];
-            let places = &mut index[..129];
-            distribute_in(sheet, fields, tree, xs, mid, answer, masks, places, out)
+            let lent = TreeRooms {
+                fields,
+                rows: &mut rows[..256],
+                xs,
+                mid,
+                dst: &mut dst[..536],
+                masks,
+                index: &mut index[..129],
+            };
+            distribute_in(sheet, lent, out)
         }
     }
 }

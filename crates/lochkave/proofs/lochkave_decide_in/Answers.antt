@@ -5,16 +5,16 @@ use native.Mathlib.Omega.{arith}
 use lib.Seq.{length-take-le}
 use Rattle.lochkave.proofs.lochkave_decide_in.Goals as goal
 
-pub slice_bounds-tree-end-in_default : goal.slice_bounds-tree-end-in_default
-slice_bounds-tree-end-in_default c = let t = c.trees_fit.ensures.0 c.if-not-trees_fit.false in
+pub slice_bounds-lent-end-in_default : goal.slice_bounds-lent-end-in_default
+slice_bounds-lent-end-in_default c = let t = c.trees_fit.ensures.0 c.if-not-trees_fit.false in
     sym (length-take-le 256 c.args.rows.now t.treed)
 
-pub slice_bounds-answer-end-in_default : goal.slice_bounds-answer-end-in_default
-slice_bounds-answer-end-in_default c = let t = c.trees_fit.ensures.0 c.if-not-trees_fit.false in
+pub slice_bounds-lent-end-in_default-3 : goal.slice_bounds-lent-end-in_default-3
+slice_bounds-lent-end-in_default-3 c = let t = c.trees_fit.ensures.0 c.if-not-trees_fit.false in
     sym (length-take-le 536 c.args.dst.now t.answered)
 
-pub slice_bounds-places-end-in_default : goal.slice_bounds-places-end-in_default
-slice_bounds-places-end-in_default c = let t = c.trees_fit.ensures.0 c.if-not-trees_fit.false in
+pub slice_bounds-lent-end-in_default-5 : goal.slice_bounds-lent-end-in_default-5
+slice_bounds-lent-end-in_default-5 c = let t = c.trees_fit.ensures.0 c.if-not-trees_fit.false in
     sym (length-take-le 129 c.args.index.now t.indexed)
 
 pub distribute_in-requires : goal.distribute_in-requires
