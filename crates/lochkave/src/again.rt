@@ -19,6 +19,7 @@ use lines::sheet_text::put_sheet;
 use plananswer::sheet_text::put_plan_sheet;
 use plansheet::line::sets_of;
 use plansheet::plan::{Plan, read_plan};
+use sheet::held::Lists;
 use sheet::sheets::{Sheet, read_join_sheet, read_key_sheet};
 
 pub(crate) fn refusal(number: u64, line: u64) -> u64
@@ -43,7 +44,11 @@ pub(crate) fn rewrite_key_sheet(sheet: &[u8], out: &mut [u8]) -> u64
         return 51539607552;
     }
     let n = 9 + lists[0][6] as usize;
-    put_sheet(out, SheetKind::Key, n, &lists, &counts) as u64
+    let held = Lists {
+        lists: &lists,
+        counts: &counts,
+    };
+    put_sheet(out, SheetKind::Key, n, held) as u64
 }
 
 pub(crate) fn rewrite_join_sheet(sheet: &[u8], out: &mut [u8]) -> u64
@@ -60,7 +65,11 @@ pub(crate) fn rewrite_join_sheet(sheet: &[u8], out: &mut [u8]) -> u64
     if out.len() < sheet.len() {
         return 51539607552;
     }
-    put_sheet(out, SheetKind::Join, 8, &lists, &counts) as u64
+    let held = Lists {
+        lists: &lists,
+        counts: &counts,
+    };
+    put_sheet(out, SheetKind::Join, 8, held) as u64
 }
 
 // The sheet that is held in the rooms, at the front of the output.

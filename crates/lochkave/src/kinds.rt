@@ -7,6 +7,7 @@ ghost use Rattle.lochkave.specs.Entry.{adjust_outcome, inputs_outcome};
 use crate::again::refusal;
 use answers::join::answer_join_sheet;
 use answers::key::answer_key_sheet;
+use sheet::held::Lists;
 use sheet::sheets::{Sheet, read_join_sheet, read_key_sheet};
 
 // So many bytes of output suffice for every answer.
@@ -29,7 +30,11 @@ pub(crate) fn adjust_in(
         return refusal(number, line);
     }
     let roomy = out.len() >= ANSWER_MOST;
-    answer_key_sheet(roomy, &*lists, &counts, fields, out)
+    let held = Lists {
+        lists: &*lists,
+        counts: &counts,
+    };
+    answer_key_sheet(roomy, held, fields, out)
 }
 
 // An I sheet.
@@ -50,5 +55,9 @@ pub(crate) fn follow_in(
         return refusal(number, line);
     }
     let roomy = out.len() >= ANSWER_MOST;
-    answer_join_sheet(roomy, &*lists, &counts, fields, rules, out)
+    let held = Lists {
+        lists: &*lists,
+        counts: &counts,
+    };
+    answer_join_sheet(roomy, held, fields, rules, out)
 }

@@ -1,8 +1,8 @@
 // Which list goes on an answer.
-ghost use Rattle.std.specs.Prelude.{◌≡◌, cond, ◌||◌, [], ◌≤◌, length, take};
+ghost use Rattle.std.specs.Prelude.{◌≡◌, cond, [], ◌≤◌, length, take, option_copied};
 ghost use Rattle.keys.specs.Expressions.{expressions};
 ghost use Rattle.keys.specs.Answers.{moved_or};
-ghost use Rattle.moves.specs.Chosen.{followed_or, keeps_by, handed_list, shifted_for};
+ghost use Rattle.moves.specs.Chosen.{followed_or, handed_list, shifted_for};
 
 use adjust::adjust::shift_right_required;
 use keys::answer::{Handed, Outcome};
@@ -34,28 +34,23 @@ pub fn cleared_or<'a>(cleared: bool, r: &'a [u64]) -> &'a [u64]
     if cleared { &[] } else { r }
 }
 
-pub fn keeps(h: Handed) -> bool
-    ensures { result ≡ keeps_by h }
-{
-    matches!(h, Handed::Kept)
-}
-
-// The list that a child is handed; nothing where it keeps its own.
+// The list that a child is handed; none where it keeps its own.
 pub fn handed_list<'a>(
     h: Handed,
     required: &'a [u64],
     side: &'a [u64],
     shifted: &'a [u64],
     mapped: &'a [u64],
-) -> &'a [u64]
-    ensures { result.now ≡ handed_list h required.now side.now shifted.now mapped.now }
+) -> Option<&'a [u64]>
+    ensures { option_copied result ≡ handed_list h required.now side.now shifted.now mapped.now }
 {
     match h {
-        Handed::Kept | Handed::Cleared => &[],
-        Handed::Required => required,
-        Handed::Keys => side,
-        Handed::Shifted => shifted,
-        Handed::Mapped => mapped,
+        Handed::Kept => None,
+        Handed::Cleared => Some(&[]),
+        Handed::Required => Some(required),
+        Handed::Keys => Some(side),
+        Handed::Shifted => Some(shifted),
+        Handed::Mapped => Some(mapped),
     }
 }
 

@@ -6,6 +6,15 @@ ghost use Rattle.keys.specs.Adjust.{moved_directions};
 
 use keys::list::{KeyList, permute};
 
+// The positions, the keys of both sides there, and the directions.
+#[derive(Clone, Copy)]
+pub struct MovedPairs<'a> {
+    pub positions: &'a [u64],
+    pub left: &'a [u64],
+    pub right: &'a [u64],
+    pub directions: &'a [u64],
+}
+
 // A side's keys at the positions: built in a key list, and laid as numbers in the front of the room lent.
 fn moved_side(keys: &[u64], at: &[u8], out: &mut [u64; 32])
     requires { (length at.now ≤ 32) × (length out.old ≡ 32) }

@@ -1,6 +1,8 @@
 -- `put_input` meets its contract: the letter, the mark, the expressions, the LF; where there is no mark, a line of nothing.
 use mathlib.Core.List.{[], ◌∷◌, map}
-use lib.ListN.{take, drop}
+use mathlib.Core.Path.{◌≡◌}
+use Rattle.std.proofs.Common.{rules, tests}
+use lib.ListN.{length, take, drop}
 use Rattle.text.specs.declared.field.Field.TheVariants.{Number as number}
 use Rattle.text.specs.Write.{fields_text}
 use Rattle.keys.specs.Expressions.{expressions}
@@ -12,10 +14,10 @@ use Rattle.lines.proofs.HeldLines.{input_parts, input_none, behind_first}
 use Rattle.lines.proofs.sheet_text.put_input.Goals as goal
 
 pub put_numbers-requires : goal.put_numbers-requires
-put_numbers-requires c = rw (input_none c.args.list.now c.if-list-eq0.true) at c.requires
+put_numbers-requires c = let empty : length c.args.list.now ≡ 0 = search (rules, tests) in rw (input_none c.args.list.now empty) at c.requires
 
-pub returns-then-list-eq0 : goal.returns-then-list-eq0
-returns-then-list-eq0 c = rw (input_none c.args.list.now c.if-list-eq0.true) c.put_numbers.ensures
+pub returns-then-is_empty : goal.returns-then-is_empty
+returns-then-is_empty c = let empty : length c.args.list.now ≡ 0 = search (rules, tests) in rw (input_none c.args.list.now empty) c.put_numbers.ensures
 
 pub put_byte-p-requires : goal.put_byte-p-requires
 put_byte-p-requires c =
