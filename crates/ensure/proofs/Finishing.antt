@@ -35,7 +35,6 @@ use Rattle.exchange.proofs.ReachedRounds.{states_finished}
 use Rattle.exchange.proofs.Interleaved.{interleave_alike}
 use Rattle.exchange.proofs.FinishedHandled.{handled_finished}
 use Rattle.std.specs.Prelude.{Ok}
-use Rattle.ensure.specs.declared.outcome.Answered.{Answered}
 use Rattle.ensure.specs.Outcomes.{Ensured, facts_by, outcome, Ends}
 use Rattle.ensure.specs.Lent.{Came}
 

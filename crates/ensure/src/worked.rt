@@ -11,10 +11,11 @@ use crate::finished::finish_worked;
 use crate::outcome::Answered;
 use exchange::facts::PlanFacts;
 use exchange::partitioning::Worked;
-use exchange::places::child_places;
+use exchange::places::asked_children;
 use exchange::relationship::Unenforced;
 use exchange::row::{self, Row};
 use exchange::settings::Settings;
+use exchange::status::{Asked, WIDTH};
 use forms::decide::child_forms;
 
 // The forms of the children of the worked node at `at`, a place for each in `forms`.
@@ -30,24 +31,20 @@ fn worked_forms(
     ensures { (t : Plan) (rest : List (List ℕ)) → drop at src.now ≡ flatten t ++ rest → answer result forms.new ≡ told (child_states s (facts_of f.entry) t) }
 {
     let below = at + 1;
-    let k = f.children.len();
     let w = Worked {
         kind: row::node_at(src, at).kind,
         facts: f.node,
     };
-    let mut places = [0u64; 8];
-    let mut needs = [0u64; 8];
-    let mut counts = [0u64; 8];
-    child_places(
-        src,
-        below,
-        k as u64,
-        &mut places,
-        &mut needs,
-        &mut counts,
-        0,
-    );
-    child_forms(s, w, f, &needs[..k], &counts[..k], forms)
+    let no_child = Asked {
+        number: 0,
+        need: 0,
+        count: 0,
+        facts: [0; WIDTH],
+    };
+    let mut room = [no_child; 8];
+    let asks = &mut room[..f.children.len()];
+    asked_children(src, below, f.children, &mut *asks);
+    child_forms(s, w, f, &*asks, forms)
 }
 
 // Decides on the worked node at `at`, with a place for each of its children in `forms`.

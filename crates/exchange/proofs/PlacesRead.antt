@@ -1,73 +1,148 @@
 -- What is stored of the first child and then of the others is what the definitions list (`lists_more`), and those lists have the numbers of the children (`same_children`, `stored_children`).
 -- Assumes nothing.
 use mathlib.Core.Path.{◌≡◌, refl, sym, ap, ◌∙◌}
-use mathlib.Core.List.{List, [], ◌∷◌, ◌++◌, map}
+use mathlib.Core.List.{List, [], ◌∷◌, ◌++◌, map, append_assoc, append-nil}
+use native.Mathlib.Nat.{add-zero}
 use Prim.Native.Nat.{ℕ, zero, suc, ◌+◌, ◌-◌, ◌≤◌, ◌<◌}
 use native.Mathlib.Numerals.{add-one}
 use native.Mathlib.Omega.{arith}
 use lib.ListN.{length, take, drop, get_or, set}
-use lib.Seq.{sets, take_at}
+use lib.Seq.{sets, take_at, take_all, take-suc-set, drop-cons}
+use Rattle.exchange.specs.declared.row.Node.{Node}
+use Rattle.exchange.specs.declared.status.Asked.{Asked}
 use Rattle.exchange.specs.Trees.{none, ◌∷ᶠ◌, root, trees, Operator, Plan, Plans}
-use Rattle.exchange.specs.Rows.{node_at, others, flatten, flattens}
+use Rattle.exchange.specs.Rows.{operator_of, node_at, others, flatten, flattens}
 use Rattle.exchange.specs.States.{children_from}
 use Rattle.exchange.specs.FactRows.{child_facts, asked_by}
-use Rattle.exchange.specs.Standings.{SameChildren, done, also}
+use Rattle.exchange.specs.Standings.{SameChildren, done, also, no_child}
+use Rattle.exchange.specs.Runs.{Stands}
 use Rattle.exchange.specs.Places.{places_of, needs_of, counts_of, ListsAll}
 use Rattle.exchange.proofs.Stored.{past}
 use Rattle.exchange.proofs.OrderWritten.{stored_there}
 use Rattle.exchange.proofs.Marking.{root_read, head_stands, tail_stands, PastTree}
 
--- ---- no child
+one_more : {A : Type 0} (l : List A) (i : ℕ) (x : A) → i < length l → take (i + 1) (set l i x) ≡ take i l ++ (x ∷ [])
+one_more l i x h = rw (add-one i) (take-suc-set l i x h)
 
-lists_none : (f : Plans → List ℕ) → f none ≡ [] → (src : List (List ℕ)) (at left to : ℕ) (d : List ℕ) → left ≡ 0 → ListsAll f src at left d to d
-lists_none f e src at left to d z none rest c h = rw e
-lists_none f e src at left to d z (t ∷ᶠ ts) rest c h = absurd (omega arith)
+-- ---- the places, one after the other
 
-module _ (src : List (List ℕ)) (at left to : ℕ) (d : List ℕ) (z : left ≡ 0) where
-  pub places_none : ListsAll (places_of at) src at left d to d
-  unfolding places_of
-  places_none = lists_none (places_of at) refl src at left to d z
+-- i places are stored, and the trees that are left stand at `next`
+pub record Upto (src : List (List ℕ)) (at : ℕ) (ts : Plans) (rest : List (List ℕ)) (i next : ℕ) (places : List ℕ) : Type 0 where
+  pub below : Plans
+  pub counted : trees below + i ≡ trees ts
+  pub stands : drop next src ≡ flattens below ++ rest
+  pub listed : places_of at ts ≡ take i places ++ places_of next below
 
-  pub needs_none : ListsAll needs_of src at left d to d
-  unfolding needs_of
-  needs_none = lists_none needs_of refl src at left to d z
-
-  pub counts_none : ListsAll counts_of src at left d to d
-  unfolding counts_of
-  counts_none = lists_none counts_of refl src at left to d z
-
--- ---- the first, then the others
+places_nil : (at : ℕ) → places_of at none ≡ []
+unfolding places_of
+places_nil at = refl
 
 places_cons : (at : ℕ) (t : Plan) (ts : Plans) → places_of at (t ∷ᶠ ts) ≡ at ∷ places_of (at + length (flatten t)) ts
 unfolding places_of
 places_cons at t ts = refl
 
-needs_cons : (t : Plan) (ts : Plans) → needs_of (t ∷ᶠ ts) ≡ (root t).need ∷ needs_of ts
-unfolding needs_of
-needs_cons t ts = refl
+module _ (src : List (List ℕ)) (at : ℕ) (ts : Plans) (rest : List (List ℕ)) where
+  pub upto_start : (places : List ℕ) → drop at src ≡ flattens ts ++ rest → Upto src at ts rest 0 at places
+  upto_start places h = record { below = ts; counted = add-zero (trees ts); stands = h; listed = refl }
 
-counts_cons : (t : Plan) (ts : Plans) → counts_of (t ∷ᶠ ts) ≡ (root t).count ∷ counts_of ts
-unfolding counts_of
-counts_cons t ts = refl
+  pub upto_stands : (i next : ℕ) (places : List ℕ) → i < trees ts → Upto src at ts rest i next places → Stands src next
+  upto_stands i next places l u = go u.below u.counted u.stands
+    where
+      go : (us : Plans) → trees us + i ≡ trees ts → drop next src ≡ flattens us ++ rest → Stands src next
+      go none c h = absurd (omega arith)
+      go (t ∷ᶠ us) c h = record { tree = t; rest = flattens us ++ rest; stands = head_stands src next t us rest h }
 
-module _ (src : List (List ℕ)) (at left next to : ℕ) (more : left ≡ 0 → ⊥) (p : PastTree src at next) (d d₁ : List ℕ) where
-  -- f lists x and then what g lists of the others
-  lists_more : (f g : Plans → List ℕ) (x : ℕ) → ((t : Plan) (ts : Plans) (rest : List (List ℕ)) → drop at src ≡ flatten t ++ rest → f (t ∷ᶠ ts) ≡ x ∷ g ts)
-      → ListsAll g src next (left - 1) (set d to x) (to + 1) d₁ → ListsAll f src at left d to d₁
-  lists_more f g x is s none rest c h = absurd (more (sym c))
-  lists_more f g x is s (t ∷ᶠ ts) rest c h =
-      s ts rest (omega arith) (tail_stands src at next t ts rest p h)
-      ∙ ap (λ (j : ℕ). sets (set d to x) j (g ts)) (add-one to)
-      ∙ ap (λ (l : List ℕ). sets d to l) (sym (is t ts _ (head_stands src at t ts rest h)))
+  pub upto_turn : (i next next₁ : ℕ) (places : List ℕ) → i < trees ts → i < length places → PastTree src next next₁ → Upto src at ts rest i next places
+      → Upto src at ts rest (i + 1) next₁ (set places i next)
+  upto_turn i next next₁ places l b p u = go u.below u.counted u.stands u.listed
+    where
+      go : (us : Plans) → trees us + i ≡ trees ts → drop next src ≡ flattens us ++ rest → places_of at ts ≡ take i places ++ places_of next us → Upto src at ts rest (i + 1) next₁ (set places i next)
+      go none c h e = absurd (omega arith)
+      go (t ∷ᶠ us) c h e =
+          let more : take (i + 1) (set places i next) ≡ take i places ++ (next ∷ []) = one_more places i next b in
+          record {
+            below = us;
+            counted = omega arith;
+            stands = tail_stands src next next₁ t us rest p h;
+            listed =
+                e
+                ∙ ap (λ (l : List ℕ). take i places ++ l) (places_cons next t us ∙ ap (λ (j : ℕ). next ∷ places_of j us) (sym (p t _ (head_stands src next t us rest h))))
+                ∙ sym (append_assoc (take i places) (next ∷ []) (places_of next₁ us))
+                ∙ ap (λ (l : List ℕ). l ++ places_of next₁ us) (sym more);
+          }
 
-  pub places_more : ListsAll (places_of next) src next (left - 1) (set d to at) (to + 1) d₁ → ListsAll (places_of at) src at left d to d₁
-  places_more = lists_more (places_of at) (places_of next) at (λ t ts rest h. places_cons at t ts ∙ ap (λ (j : ℕ). at ∷ places_of j ts) (sym (p t rest h)))
+  pub upto_end : (i next : ℕ) (places : List ℕ) → trees ts ≡ i → length places ≤ i → Upto src at ts rest i next places → places ≡ places_of at ts
+  upto_end i next places c l u = go u.below u.counted u.listed
+    where
+      go : (us : Plans) → trees us + i ≡ trees ts → places_of at ts ≡ take i places ++ places_of next us → places ≡ places_of at ts
+      go none d e = sym (e ∙ ap (λ (l : List ℕ). take i places ++ l) (places_nil next) ∙ append-nil (take i places) ∙ take_all i places l)
+      go (t ∷ᶠ us) d e = absurd (omega arith)
 
-  pub needs_more : ListsAll needs_of src next (left - 1) (set d to (node_at src at).need) (to + 1) d₁ → ListsAll needs_of src at left d to d₁
-  needs_more = lists_more needs_of needs_of _ (λ t ts rest h. needs_cons t ts ∙ ap (λ (o : Operator). o.need ∷ needs_of ts) (sym (root_read src at t rest h)))
+-- ---- what is asked of each, one after the other
 
-  pub counts_more : ListsAll counts_of src next (left - 1) (set d to (node_at src at).count) (to + 1) d₁ → ListsAll counts_of src at left d to d₁
-  counts_more = lists_more counts_of counts_of _ (λ t ts rest h. counts_cons t ts ∙ ap (λ (o : Operator). o.count ∷ counts_of ts) (sym (root_read src at t rest h)))
+-- i children are stored, and the trees that are left stand at `next`
+pub record AskedUpto (src : List (List ℕ)) (ts : Plans) (rest facts : List (List ℕ)) (i next : ℕ) (asks : List Asked) : Type 0 where
+  pub below : Plans
+  pub counted : trees below + i ≡ trees ts
+  pub stands : drop next src ≡ flattens below ++ rest
+  pub listed : asked_by 1 (needs_of ts) (counts_of ts) facts ≡ take i asks ++ asked_by (i + 1) (needs_of below) (counts_of below) (drop i facts)
+
+asked_cons : (n : ℕ) (t : Plan) (ts : Plans) (facts : List (List ℕ)) (i : ℕ) → i < length facts
+    → asked_by n (needs_of (t ∷ᶠ ts)) (counts_of (t ∷ᶠ ts)) (drop i facts)
+    ≡ record { number = n; need = (root t).need; count = (root t).count; facts = get_or facts i [] } ∷ asked_by (n + 1) (needs_of ts) (counts_of ts) (drop (i + 1) facts)
+unfolding needs_of counts_of asked_by
+asked_cons n t ts facts i h = rw (drop-cons facts i [] h, add-one n, add-one i)
+
+asked_nil : (n : ℕ) (facts : List (List ℕ)) → asked_by n (needs_of none) (counts_of none) facts ≡ []
+unfolding needs_of counts_of asked_by
+asked_nil n facts = refl
+
+module _ (src : List (List ℕ)) (ts : Plans) (rest facts : List (List ℕ)) where
+  pub asked_start : (at : ℕ) (asks : List Asked) → drop at src ≡ flattens ts ++ rest → AskedUpto src ts rest facts 0 at asks
+  asked_start at asks h = record { below = ts; counted = add-zero (trees ts); stands = h; listed = refl }
+
+  pub asked_stands : (i next : ℕ) (asks : List Asked) → i < trees ts → AskedUpto src ts rest facts i next asks → Stands src next
+  asked_stands i next asks l u = go u.below u.counted u.stands
+    where
+      go : (us : Plans) → trees us + i ≡ trees ts → drop next src ≡ flattens us ++ rest → Stands src next
+      go none c h = absurd (omega arith)
+      go (t ∷ᶠ us) c h = record { tree = t; rest = flattens us ++ rest; stands = head_stands src next t us rest h }
+
+  pub asked_turn : (i next next₁ : ℕ) (n : Node) (asks : List Asked) → i < trees ts → i < length asks → i < length facts → n ≡ node_at src next → PastTree src next next₁
+      → AskedUpto src ts rest facts i next asks
+      → AskedUpto src ts rest facts (i + 1) next₁ (set asks i (record { number = i + 1; need = n.need; count = n.count; facts = get_or facts i [] }))
+  asked_turn i next next₁ n asks l b f is p u = go u.below u.counted u.stands u.listed
+    where
+      a : Asked
+      a = record { number = i + 1; need = n.need; count = n.count; facts = get_or facts i [] }
+
+      go : (us : Plans) → trees us + i ≡ trees ts → drop next src ≡ flattens us ++ rest
+          → asked_by 1 (needs_of ts) (counts_of ts) facts ≡ take i asks ++ asked_by (i + 1) (needs_of us) (counts_of us) (drop i facts)
+          → AskedUpto src ts rest facts (i + 1) next₁ (set asks i a)
+      go none c h e = absurd (omega arith)
+      go (t ∷ᶠ us) c h e =
+          let more : take (i + 1) (set asks i a) ≡ take i asks ++ (a ∷ []) = one_more asks i a b in
+          let o : root t ≡ operator_of n = sym (ap operator_of is ∙ root_read src next t _ (head_stands src next t us rest h)) in
+          record {
+            below = us;
+            counted = omega arith;
+            stands = tail_stands src next next₁ t us rest p h;
+            listed =
+                e
+                ∙ ap (λ (l : List Asked). take i asks ++ l)
+                (asked_cons (i + 1) t us facts i f
+                ∙ ap (λ (x : Operator). record { number = i + 1; need = x.need; count = x.count; facts = get_or facts i [] } ∷ asked_by (i + 1 + 1) (needs_of us) (counts_of us) (drop (i + 1) facts)) o)
+                ∙ sym (append_assoc (take i asks) (a ∷ []) (asked_by (i + 1 + 1) (needs_of us) (counts_of us) (drop (i + 1) facts)))
+                ∙ ap (λ (l : List Asked). l ++ asked_by (i + 1 + 1) (needs_of us) (counts_of us) (drop (i + 1) facts)) (sym more);
+          }
+
+  pub asked_done : (i next : ℕ) (asks : List Asked) → trees ts ≡ i → length asks ≤ i → AskedUpto src ts rest facts i next asks → asks ≡ asked_by 1 (needs_of ts) (counts_of ts) facts
+  asked_done i next asks c l u = go u.below u.counted u.listed
+    where
+      go : (us : Plans) → trees us + i ≡ trees ts → asked_by 1 (needs_of ts) (counts_of ts) facts ≡ take i asks ++ asked_by (i + 1) (needs_of us) (counts_of us) (drop i facts)
+          → asks ≡ asked_by 1 (needs_of ts) (counts_of ts) facts
+      go none d e = sym (e ∙ ap (λ (m : List Asked). take i asks ++ m) (asked_nil (i + 1) (drop i facts)) ∙ append-nil (take i asks) ∙ take_all i asks l)
+      go (t ∷ᶠ us) d e = absurd (omega arith)
 
 -- ---- as many as there are trees, and each place is where its tree stands
 
@@ -93,10 +168,6 @@ place_stands src at (t ∷ᶠ ts) rest zero l h = h
 place_stands src at (t ∷ᶠ ts) rest (suc k) l h =
     place_stands src (at + length (flatten t)) ts rest k (omega arith) (past src (flatten t) (flattens ts ++ rest) at (head_stands src at t ts rest h))
 
--- the part that was stored
-pub stored_part : (d d₁ xs : List ℕ) (to n : ℕ) → d₁ ≡ sets d to xs → length xs ≡ n → to + n ≤ length d → take n (drop to d₁) ≡ xs
-stored_part d d₁ xs to n s e fits = ap (λ (l : List ℕ). take n (drop to l)) s ∙ ap (take n) (stored_there d xs to (omega arith)) ∙ take_at xs _ n e
-
 -- ---- the children by those numbers
 
 same_from : (n : ℕ) (ts : Plans) (facts : List (List ℕ)) → length facts ≡ trees ts → SameChildren (asked_by n (needs_of ts) (counts_of ts) facts) (children_from n ts (map child_facts facts))
@@ -110,11 +181,16 @@ same_from n (t ∷ᶠ ts) (f ∷ fs) e =
 pub same_children : (ts : Plans) (facts : List (List ℕ)) → length facts ≡ trees ts → SameChildren (asked_by 1 (needs_of ts) (counts_of ts) facts) (children_from 1 ts (map child_facts facts))
 same_children = same_from 1
 
--- the same of the lists that were stored at the front
-module _ (ts : Plans) (facts : List (List ℕ)) (n : ℕ) (counted : trees ts ≡ n) (each : length facts ≡ n) (needs needs₁ counts counts₁ : List ℕ) where
-  pub stored_children : needs₁ ≡ sets needs 0 (needs_of ts) → n ≤ length needs → counts₁ ≡ sets counts 0 (counts_of ts) → n ≤ length counts
-      → SameChildren (asked_by 1 (take n needs₁) (take n counts₁) facts) (children_from 1 ts (map child_facts facts))
-  stored_children p fits q fits₁ =
-      let a : take n needs₁ ≡ needs_of ts = stored_part needs needs₁ (needs_of ts) 0 n p (needs_long ts ∙ counted) (omega arith) in
-      let b : take n counts₁ ≡ counts_of ts = stored_part counts counts₁ (counts_of ts) 0 n q (counts_long ts ∙ counted) (omega arith) in
-      rw (a, b) (same_children ts facts (each ∙ sym counted))
+pub asked_long : (n : ℕ) (ts : Plans) (facts : List (List ℕ)) → length facts ≡ trees ts → length (asked_by n (needs_of ts) (counts_of ts) facts) ≡ length facts
+unfolding needs_of counts_of asked_by
+asked_long n none [] e = refl
+asked_long n none (f ∷ fs) e = absurd (omega arith)
+asked_long n (t ∷ᶠ ts) [] e = absurd (omega arith)
+asked_long n (t ∷ᶠ ts) (f ∷ fs) e = ap suc (asked_long (suc n) ts fs (omega arith))
+
+pub asked_number : (n : ℕ) (ts : Plans) (facts : List (List ℕ)) → length facts ≡ trees ts → (k : ℕ) → k < length facts → (get_or (asked_by n (needs_of ts) (counts_of ts) facts) k no_child).number ≡ n + k
+unfolding needs_of counts_of asked_by
+asked_number n none facts e k l = absurd (omega arith)
+asked_number n (t ∷ᶠ ts) [] e k l = absurd (omega arith)
+asked_number n (t ∷ᶠ ts) (f ∷ fs) e zero l = sym (add-zero n)
+asked_number n (t ∷ᶠ ts) (f ∷ fs) e (suc k) l = omega (arith, asked_number (suc n) ts fs (omega arith) k (omega arith))

@@ -1,5 +1,5 @@
 -- The worked node and a child on its way, by their numbers, and a step's answer as a form.
-use Rattle.std.specs.Prelude.{ℕ, ◌≡◌, List, [], ◌∷◌, map, ⊤, Option as Answer, Some, None}
+use Rattle.std.specs.Prelude.{ℕ, ◌+◌, ◌<◌, ◌≡◌, List, [], ◌∷◌, map, length, get_or, ⊤, Option as Answer, Some, None}
 use Rattle.std.proofs.Math.Option.{Option, some, none as nothing}
 use Rattle.exchange.specs.declared.status.Asked.{Asked}
 use Rattle.exchange.specs.declared.status.RepartitionRequirementStatus.{RepartitionRequirementStatus as Told}
@@ -69,6 +69,16 @@ pub record SameChild (a : Asked) (k : Child) : Type 0 where
 pub data SameChildren : List Asked → List Child → Type 0 where
   done : SameChildren [] []
   also : {a : Asked} {asks : List Asked} {k : Child} {ks : List Child} → SameChild a k → SameChildren asks ks → SameChildren (a ∷ asks) (k ∷ ks)
+
+abbrev pub no_child : Asked
+no_child = record { number = 0; need = 0; count = 0; facts = [] }
+
+-- children numbered from 1
+abbrev pub Numbered : List Asked → Type 0
+Numbered asks = (k : ℕ) → k < length asks → (get_or asks k no_child).number ≡ k + 1
+
+abbrev pub asked_needs : List Asked → List ℕ
+asked_needs asks = map (λ a. a.need) asks
 
 -- ---- the forms of all children, none where a row is missing
 

@@ -1,53 +1,41 @@
-// The children of an operator: where each one's row stands, and its need and count.
-ghost use Rattle.std.specs.Prelude.{◌≡◌, ◌+◌, ◌<◌, ◌≤◌, length, set};
-ghost use Rattle.exchange.specs.Rows.{node_at};
+// The children of an operator: where each one's row stands, and what is asked of it.
+ghost use Rattle.std.specs.Prelude.{◌≡◌, List, ◌++◌, ℕ, length, drop};
+ghost use Rattle.exchange.specs.Trees.{trees, Plans};
+ghost use Rattle.exchange.specs.Rows.{flattens};
 ghost use Rattle.exchange.specs.Runs.{StandAll};
-ghost use Rattle.exchange.specs.Places.{places_of, needs_of, counts_of, ListsAll};
+ghost use Rattle.exchange.specs.FactRows.{asked_by};
+ghost use Rattle.exchange.specs.Places.{places_of, needs_of, counts_of};
 
 use crate::row::{self, Row};
+use crate::status::{Asked, ChildRow};
 
-// The place `at`, and the need and the count of the row there.
-fn put_child(
-    rows: &[Row],
-    at: usize,
-    places: &mut [u64],
-    needs: &mut [u64],
-    counts: &mut [u64],
-    to: usize,
-)
-    requires { (at < length rows.now) × (to < length places.old) × (to < length needs.old) × (to < length counts.old) }
-    ensures { (places.new ≡ set places.old to at) × (needs.new ≡ set needs.old to (node_at rows.now at).need) × (counts.new ≡ set counts.old to (node_at rows.now at).count) }
+// The places of the trees from `at` on, as many as there are in `places`.
+pub fn child_places(rows: &[Row], at: usize, places: &mut [usize])
+    requires { StandAll rows.now at (length places.old) }
+    ensures { (ts : Plans) (rest : List (List ℕ)) → trees ts ≡ length places.old → drop at rows.now ≡ flattens ts ++ rest → places.new ≡ places_of at ts }
 {
-    places[to] = at as u64;
-    needs[to] = rows[at][row::NEED];
-    counts[to] = rows[at][row::COUNT];
+    let mut next = at;
+    for place in places.iter_mut() {
+        *place = next;
+        next = row::past_tree(rows, next);
+    }
 }
 
-// Of each of the `left` trees from `at` on, the place of its row, its need and its count, from `to` on.
-pub fn child_places(
-    rows: &[Row],
-    at: usize,
-    left: u64,
-    places: &mut [u64],
-    needs: &mut [u64],
-    counts: &mut [u64],
-    to: usize,
-)
-    requires stand_all { StandAll rows.now at left }
-    requires left_in_bounds { (to + left ≤ length places.old) × (to + left ≤ length needs.old) × (to + left ≤ length counts.old) }
-    ensures { ListsAll (places_of at) rows.now at left places.old to places.new × ListsAll needs_of rows.now at left needs.old to needs.new × ListsAll counts_of rows.now at left counts.old to counts.new }
+// The children from `at` on, each with its number from 1, its need and count, and its F row.
+pub fn asked_children(rows: &[Row], at: usize, facts: &[ChildRow], asks: &mut [Asked])
+    requires stand_all { StandAll rows.now at (length facts.now) }
+    requires asks_len { length asks.old ≡ length facts.now }
+    ensures { (ts : Plans) (rest : List (List ℕ)) → trees ts ≡ length facts.now → drop at rows.now ≡ flattens ts ++ rest → asks.new ≡ asked_by 1 (needs_of ts) (counts_of ts) facts.now }
 {
-    if left == 0 {
-        return;
+    let mut next = at;
+    for (i, row) in facts.iter().enumerate() {
+        let child = row::node_at(rows, next);
+        asks[i] = Asked {
+            number: i as u64 + 1,
+            need: child.need,
+            count: child.count,
+            facts: *row,
+        };
+        next = row::past_tree(rows, next);
     }
-    put_child(rows, at, &mut *places, &mut *needs, &mut *counts, to);
-    child_places(
-        rows,
-        row::past_tree(rows, at),
-        left - 1,
-        &mut *places,
-        &mut *needs,
-        &mut *counts,
-        to + 1,
-    );
 }

@@ -5,31 +5,22 @@ use mathlib.Core.Path.{◌≡◌, refl, sym, subst}
 use mathlib.Core.Option.{Option, some, none as nothing}
 use mathlib.Core.List.{List, [], ◌∷◌, map}
 use native.Mathlib.Omega.{arith}
-use lib.ListN.{length, take, get_or}
-use lib.Seq.{take_all}
+use lib.ListN.{length, get_or}
 use Rattle.exchange.specs.declared.settings.Settings.{Settings}
 use Rattle.exchange.specs.declared.status.Asked.{Asked}
-use Rattle.std.specs.Prelude.{⊤, Option as Answer, Some}
 use Rattle.exchange.specs.Facts.{Facts}
 use Rattle.exchange.specs.States.{ChildState}
 use Rattle.exchange.specs.Relationships.{enforce_distribution_relationships}
 use Rattle.exchange.specs.Ensure.{relate}
 use Rattle.exchange.specs.FactRows.{child_for}
-use Rattle.exchange.specs.Standings.{SameChildren, done, also, form_numbers, form_list, resulting}
+use Rattle.exchange.specs.Standings.{SameChildren, done, also, form_numbers, form_list}
 use Rattle.exchange.specs.Turns.{Stand, Told, lacking, told}
-use Rattle.forms.proofs.Rounds.{round_done}
 use Rattle.exchange.proofs.FormsSmall.{stand_small}
 
 -- the children by their numbers have them
 pub same_by : (asks : List Asked) → SameChildren asks (map child_for asks)
 same_by [] = done
 same_by (a ∷ asks) = also {a = a} {k = child_for a} (record { number = refl; need = refl; count = refl; facts = refl }) (same_by asks)
-
--- what the steps say of their forms
-pub steps_give : (d : Answer ⊤) (u : ⊤) (gs : List ℕ) (n : ℕ) (x : Option (List ℕ)) → d ≡ Some u → resulting d (take n gs) ≡ x → length gs ≡ n → some gs ≡ x
-steps_give d u gs n x e h l =
-    let whole : take n gs ≡ gs = take_all n gs (omega arith) in
-    round_done d u gs x e (rw whole at h)
 
 some_same : {A : Type 0} (x y : A) → some x ≡ some y → x ≡ y
 some_same x y e = cc
@@ -43,11 +34,11 @@ module _ (s : Settings) (f : Facts) where
     abbrev Stood : Option (List ChildState) → Type 0
     Stood x = (cs : List ChildState) → x ≡ some cs → Stand f.rows 1 needs (form_numbers cs) cs
 
-    pub steps_small : (x : Option (List ChildState)) → some fs ≡ form_list x → Stood x → (k : ℕ) → k < length needs → get_or fs k 0 ≤ 15
-    steps_small nothing e h k l = absurd (let y : ◌≡◌ {A = ℕ} 0 1 = cc in omega arith)
-    steps_small (some cs) e h k l =
+    pub steps_small : (x : Option (List ChildState)) → some fs ≡ form_list x → Stood x → length fs ≡ length needs → (k : ℕ) → k < length fs → get_or fs k 0 ≤ 15
+    steps_small nothing e h m k l = absurd (let y : ◌≡◌ {A = ℕ} 0 1 = cc in omega arith)
+    steps_small (some cs) e h m k l =
         let same : form_numbers cs ≡ fs = sym (some_same fs (form_numbers cs) e) in
-        subst (λ (gs : List ℕ). get_or gs k 0 ≤ 15) same (stand_small f.rows (h cs refl) k l)
+        subst (λ (gs : List ℕ). get_or gs k 0 ≤ 15) same (stand_small f.rows (h cs refl) k (omega arith))
 
     pub steps_go_on : (t : Told) (x : Option (List ChildState)) → some fs ≡ form_list x → Stood x
         → ((cs : List ChildState) → Stand f.rows 1 needs fs cs → t ≡ told (enforce_distribution_relationships f.rows f.masks cs)) → t ≡ told (relate s f x)

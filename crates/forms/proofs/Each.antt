@@ -4,10 +4,10 @@ use mathlib.Core.Path.{◌≡◌, refl, sym, ap, ◌∙◌}
 use mathlib.Core.Bool.{Bool, ◌||◌}
 use mathlib.Core.Option.{Option, none, some}
 use mathlib.Core.List.{List, [], ◌∷◌, ◌++◌, map, append_assoc, append-nil}
-use Prim.Native.Nat.{ℕ, ◌+◌, ◌<◌}
+use Prim.Native.Nat.{ℕ, ◌+◌, ◌<◌, ◌≤◌}
 use native.Mathlib.Numerals.{add-one}
-use lib.ListN.{length, take, set}
-use lib.Seq.{take-suc-set}
+use lib.ListN.{length, take, drop, get_or, set, drop_of_length-le}
+use lib.Seq.{drop-cons, take-suc-set}
 use Rattle.exchange.specs.declared.settings.Settings.{Settings}
 use Rattle.exchange.specs.declared.status.Asked.{Asked}
 use Rattle.exchange.specs.declared.partitioning.Worked.{Worked}
@@ -44,6 +44,15 @@ module _ (whole : Option (List ℕ)) where
 
   pub each_end : (xs : List ℕ) → whole ≡ prepend xs (some []) → some xs ≡ whole
   each_end xs e = sym (e ∙ ap some (append-nil xs))
+
+module _ {A : Type 0} (f : A → Answer ℕ) (xs : List A) (i : ℕ) where
+  pub each_cons : (x : A) → i < length xs → each_form f (drop i xs) ≡ with_forms (f (get_or xs i x)) (each_form f (drop (i + 1) xs))
+  unfolding each_form
+  each_cons x h = rw (drop-cons xs i x h, add-one i)
+
+  pub each_nil : length xs ≤ i → each_form f (drop i xs) ≡ some []
+  unfolding each_form
+  each_nil h = rw (drop_of_length-le xs {i = i} h)
 
 -- ---- the forms of the states
 

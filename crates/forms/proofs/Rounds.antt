@@ -7,7 +7,7 @@ use mathlib.Core.List.{List}
 use Prim.Native.Nat.{ℕ, zero, suc, ◌-◌}
 use native.Mathlib.Omega.{arith}
 use borrow.Author.Tests.{eq-eqb, ne_eqb}
-use Rattle.std.specs.Prelude.{⊤, Option as Answer, Some, None, Result, Ok, Err, ok_or}
+use Rattle.std.specs.Prelude.{⊤, Option as Answer, Some, None, Ok, Err, ok_or}
 use Rattle.exchange.specs.declared.relationship.Unenforced.{Unenforced}
 use Rattle.exchange.specs.Facts.{Row, unsatisfied_at}
 use Rattle.exchange.specs.Standings.{resulting, each_form}

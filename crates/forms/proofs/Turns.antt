@@ -9,7 +9,7 @@ use lib.Dec.{eqb}
 use borrow.Author.Tests.{eqb-true, eqb-false}
 use native.Mathlib.Numerals.{add-one}
 use native.Mathlib.Omega.{arith}
-use lib.ListN.{length, drop, get_or, set, length-drop, drop_of_length-le}
+use lib.ListN.{length, drop, get_or, set, length-drop, length-set, drop_of_length-le}
 use lib.Seq.{drop-cons, get_or-drop, get_or-set_same, get_or-set_other}
 use Rattle.exchange.specs.declared.relationship.Turn.{Turn}
 use Rattle.exchange.specs.Trees.{node, none as no_plans}
@@ -19,25 +19,26 @@ use Rattle.exchange.specs.Found.{row_for}
 use Rattle.std.specs.Prelude.{Option as Answer, Some}
 use Rattle.exchange.specs.States.{ChildState}
 use Rattle.exchange.specs.Step.{keyed_on}
-use Rattle.exchange.specs.Standings.{form_by, Passed}
+use Rattle.exchange.specs.declared.status.Asked.{Asked}
+use Rattle.exchange.specs.Standings.{form_by, Passed, no_child, Numbered, asked_needs}
 use Rattle.exchange.specs.FactRows.{child_facts, fact_row, operator_by}
 use Rattle.exchange.specs.Turns.{turn_givable, turn_form, turns_by, set_of}
 use Rattle.exchange.proofs.Forms.{form_whole}
 use Rattle.forms.proofs.Formed.{formed_with}
 use Rattle.exchange.proofs.FactRows.{row_none, row_placed, row_some}
 
-module _ (needs forms : List ℕ) (same : length forms ≡ length needs) (i m : ℕ) where
-  pub turns_turn : i < length needs
-      → turns_by (i + 1) m (drop i needs) (drop i forms)
-      ≡ record { number = i + 1; need = get_or needs i 0; form = get_or forms i 0; bit = m % 2 } ∷ turns_by (i + 1 + 1) (m / 2) (drop (i + 1) needs) (drop (i + 1) forms)
+module _ (asks : List Asked) (forms : List ℕ) (same : length forms ≡ length asks) (i m : ℕ) where
+  pub turns_turn : Numbered asks → i < length asks
+      → turns_by (i + 1) m (asked_needs (drop i asks)) (drop i forms)
+      ≡ record { number = (get_or asks i no_child).number; need = (get_or asks i no_child).need; form = get_or forms i 0; bit = m % 2 } ∷ turns_by (i + 1 + 1) (m / 2) (asked_needs (drop (i + 1) asks)) (drop (i + 1) forms)
   unfolding turns_by
-  turns_turn h =
+  turns_turn numbered h =
       let b : i < length forms = omega arith in
-      rw (drop-cons needs i 0 h, drop-cons forms i 0 b, add-one (i + 1), add-one i)
+      rw (drop-cons asks i no_child h, drop-cons forms i 0 b, add-one (i + 1), add-one i, numbered i h, add-one i)
 
-  pub turns_end : length needs ≤ i → turns_by (i + 1) m (drop i needs) (drop i forms) ≡ []
+  pub turns_end : length asks ≤ i → turns_by (i + 1) m (asked_needs (drop i asks)) (drop i forms) ≡ []
   unfolding turns_by
-  turns_end h = rw (drop_of_length-le needs {i = i} h)
+  turns_end h = rw (drop_of_length-le asks {i = i} h)
 
 -- the row that a form's number finds
 module _ (rows : List (List ℕ)) (child f : ℕ) (small : f ≤ 15) where
@@ -69,12 +70,12 @@ turn_small rows x f h e = go (turn_givable rows x) (row_of rows x.number (with_r
     go false o e = let z : x.form ≡ f = cc in omega arith
 
 -- small numbers stay so when one is stored
-pub small_set : (l : List ℕ) (n i v : ℕ) → v ≤ 15 → i < length l → ((k : ℕ) → k < n → get_or l k 0 ≤ 15) → (k : ℕ) → k < n → get_or (set l i v) k 0 ≤ 15
-small_set l n i v h at small k b = go (eqb k i) (eqb-true k i) (eqb-false k i)
+pub small_set : (l : List ℕ) (i v : ℕ) → v ≤ 15 → i < length l → ((k : ℕ) → k < length l → get_or l k 0 ≤ 15) → (k : ℕ) → k < length (set l i v) → get_or (set l i v) k 0 ≤ 15
+small_set l i v h at small k b = go (eqb k i) (eqb-true k i) (eqb-false k i)
   where
     go : (t : Bool) → (t ≡ true → k ≡ i) → (t ≡ false → k ≡ i → ⊥) → get_or (set l i v) k 0 ≤ 15
     go true p q = rw (p refl) (rw (get_or-set_same l i v 0 at) h)
-    go false p q = rw (get_or-set_other l i k v 0 (q refl)) (small k b)
+    go false p q = rw (get_or-set_other l i k v 0 (q refl)) (small k (simp length-set at b))
 
 -- ---- the set
 

@@ -1,13 +1,13 @@
 // The forms of the worked node's children: their steps, and then the relationship rounds.
-ghost use Rattle.std.specs.Prelude.{◌≡◌, List, [], map, length};
+ghost use Rattle.std.specs.Prelude.{◌≡◌, List, [], map, ◌≤◌, length};
 ghost use Rattle.exchange.specs.Trees.{Operator};
 ghost use Rattle.exchange.specs.Facts.{NodeFacts};
 ghost use Rattle.exchange.specs.States.{Child};
 ghost use Rattle.exchange.specs.Status.{get_repartition_requirement_status};
 ghost use Rattle.exchange.specs.Step.{ensure_children};
 ghost use Rattle.exchange.specs.Ensure.{relate};
-ghost use Rattle.exchange.specs.FactRows.{fact_row, asked_by};
-ghost use Rattle.exchange.specs.Standings.{SameNode, SameChildren};
+ghost use Rattle.exchange.specs.FactRows.{fact_row};
+ghost use Rattle.exchange.specs.Standings.{SameNode, SameChildren, Numbered};
 ghost use Rattle.exchange.specs.Turns.{answer, told};
 
 use crate::relationship::enforce_distribution_relationships;
@@ -16,18 +16,20 @@ use exchange::facts::PlanFacts;
 use exchange::partitioning::Worked;
 use exchange::relationship::Unenforced;
 use exchange::settings::Settings;
+use exchange::status::Asked;
 
 pub fn child_forms(
     s: Settings,
     w: Worked,
     f: PlanFacts,
-    needs: &[u64],
-    counts: &[u64],
+    asks: &[Asked],
     forms: &mut [u64],
 ) -> Result<(), Unenforced>
-    requires counts_len { (length counts.now ≡ length needs.now) × (length f.children.now ≡ length needs.now) × (length forms.old ≡ length needs.now) }
-    ensures { (o : Operator) (b : NodeFacts) (ks : List Child) → SameNode w o b → SameChildren (asked_by 1 needs.now counts.now f.entry.children.now) ks → answer result forms.new ≡ told (relate s (record { node = b; children = []; rows = map fact_row f.entry.xs.rows.now; masks = f.entry.masks.now }) (ensure_children s o b (map fact_row f.entry.xs.rows.now) (get_repartition_requirement_status s ks))) }
+    requires numbered { Numbered asks.now }
+    requires few { length asks.now ≤ 8 }
+    requires forms_len { length forms.old ≡ length asks.now }
+    ensures { (o : Operator) (b : NodeFacts) (ks : List Child) → SameNode w o b → SameChildren asks.now ks → answer result forms.new ≡ told (relate s (record { node = b; children = []; rows = map fact_row f.entry.xs.rows.now; masks = f.entry.masks.now }) (ensure_children s o b (map fact_row f.entry.xs.rows.now) (get_repartition_requirement_status s ks))) }
 {
-    ensure_children(s, w, needs, counts, f.children, f.xs, &mut *forms).ok_or(Unenforced::Missing)?;
-    enforce_distribution_relationships(f.masks, needs, forms, f.xs)
+    ensure_children(s, w, asks, f.xs, &mut *forms).ok_or(Unenforced::Missing)?;
+    enforce_distribution_relationships(f.masks, asks, forms, f.xs)
 }

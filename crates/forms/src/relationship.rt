@@ -5,23 +5,20 @@ ghost use Rattle.exchange.specs.Facts.{row_of, unsatisfied_at};
 ghost use Rattle.exchange.specs.States.{ChildState};
 ghost use Rattle.exchange.specs.Relationships.{enforce_distribution_relationships};
 ghost use Rattle.exchange.specs.FactRows.{fact_row};
-ghost use Rattle.exchange.specs.Standings.{resulting, each_form};
+ghost use Rattle.exchange.specs.Standings.{Numbered, asked_needs, resulting, each_form};
 ghost use Rattle.exchange.specs.Turns.{row_already, turn_givable, turn_form, any_turn, turns_by, set_of, Stand, answer, told};
 
 use crate::step::pass;
 use exchange::fact::{ATHASH, ChildForm, EXACT, Fact, FactRows};
 use exchange::form::{form_of, relationship_of, split_of, top_of};
 use exchange::relationship::{Turn, Unenforced};
+use exchange::status::Asked;
 
 // The mask of unsatisfied children for a set of children that were given an exchange.
 fn unsatisfied_at(masks: &[u64], set: u64) -> u64
     ensures { result ≡ unsatisfied_at masks.now set }
 {
-    let at = set as usize;
-    if at < masks.len() {
-        return masks[at];
-    }
-    0
+    masks.get(set as usize).copied().unwrap_or(0)
 }
 
 // A relationship exchange on a form.
@@ -74,15 +71,17 @@ fn give(x: Turn, xs: FactRows) -> Option<u64>
 }
 
 // Whether any of the mask's children can be given one.
-fn any_givable(mask: u64, needs: &[u64], forms: &[u64], xs: FactRows) -> bool
-    requires needs_len_bound { (length needs.now ≤ 8) × (length forms.now ≡ length needs.now) × ((k : ℕ) → k < length needs.now → get_or forms.now k 0 ≤ 15) }
-    ensures { result ≡ any_turn (map fact_row xs.entry.rows.now) (turns_by 1 mask needs.now forms.now) }
+fn any_givable(mask: u64, asks: &[Asked], forms: &[u64], xs: FactRows) -> bool
+    requires numbered { Numbered asks.now }
+    requires few { (length asks.now ≤ 8) × (length forms.now ≡ length asks.now) }
+    requires small { (k : ℕ) → k < length forms.now → get_or forms.now k 0 ≤ 15 }
+    ensures { result ≡ any_turn (map fact_row xs.entry.rows.now) (turns_by 1 mask (asked_needs asks.now) forms.now) }
 {
     let mut m = mask;
-    for (i, need) in needs.iter().enumerate() {
+    for (i, a) in asks.iter().enumerate() {
         let x = Turn {
-            number: i as u64 + 1,
-            need: *need,
+            number: a.number,
+            need: a.need,
             form: forms[i],
             bit: m % 2,
         };
@@ -95,16 +94,18 @@ fn any_givable(mask: u64, needs: &[u64], forms: &[u64], xs: FactRows) -> bool
 }
 
 // Each child of the mask that can be is given one.
-fn round(mask: u64, needs: &[u64], forms: &mut [u64], xs: FactRows) -> Option<()>
-    requires needs_len_bound { (length needs.now ≤ 8) × (length forms.old ≡ length needs.now) × ((k : ℕ) → k < length needs.now → get_or forms.old k 0 ≤ 15) }
-    ensures by_index { (k : ℕ) → k < length needs.now → get_or forms.new k 0 ≤ 15 }
-    ensures forms_after { resulting result forms.new ≡ each_form (turn_form (map fact_row xs.entry.rows.now)) (turns_by 1 mask needs.now forms.old) }
+fn round(mask: u64, asks: &[Asked], forms: &mut [u64], xs: FactRows) -> Option<()>
+    requires numbered { Numbered asks.now }
+    requires few { (length asks.now ≤ 8) × (length forms.old ≡ length asks.now) }
+    requires small { (k : ℕ) → k < length forms.old → get_or forms.old k 0 ≤ 15 }
+    ensures small { (k : ℕ) → k < length forms.new → get_or forms.new k 0 ≤ 15 }
+    ensures forms_after { resulting result forms.new ≡ each_form (turn_form (map fact_row xs.entry.rows.now)) (turns_by 1 mask (asked_needs asks.now) forms.old) }
 {
     let mut m = mask;
-    for (i, need) in needs.iter().enumerate() {
+    for (i, a) in asks.iter().enumerate() {
         let x = Turn {
-            number: i as u64 + 1,
-            need: *need,
+            number: a.number,
+            need: a.need,
             form: forms[i],
             bit: m % 2,
         };
@@ -129,23 +130,25 @@ fn given_set(forms: &[u64]) -> u64
 // The rounds, until no child is unsatisfied; each gives a child its exchange, and none has two.
 pub fn enforce_distribution_relationships(
     masks: &[u64],
-    needs: &[u64],
+    asks: &[Asked],
     forms: &mut [u64],
     xs: FactRows,
 ) -> Result<(), Unenforced>
-    requires needs_len_bound { (length needs.now ≤ 8) × (length forms.old ≡ length needs.now) × ((k : ℕ) → k < length needs.now → get_or forms.old k 0 ≤ 15) }
-    ensures { (cs : List ChildState) → Stand (map fact_row xs.entry.rows.now) 1 needs.now forms.old cs → answer result forms.new ≡ told (enforce_distribution_relationships (map fact_row xs.entry.rows.now) masks.now cs) }
+    requires numbered { Numbered asks.now }
+    requires few { (length asks.now ≤ 8) × (length forms.old ≡ length asks.now) }
+    requires small { (k : ℕ) → k < length forms.old → get_or forms.old k 0 ≤ 15 }
+    ensures { (cs : List ChildState) → Stand (map fact_row xs.entry.rows.now) 1 (asked_needs asks.now) forms.old cs → answer result forms.new ≡ told (enforce_distribution_relationships (map fact_row xs.entry.rows.now) masks.now cs) }
 {
-    let mut left = needs.len();
+    let mut left = asks.len();
     let mut mask = unsatisfied_at(masks, given_set(&*forms));
     while mask != 0 {
         if left == 0 {
             return Err(Unenforced::Stuck);
         }
-        if !any_givable(mask, needs, &*forms, xs) {
+        if !any_givable(mask, asks, &*forms, xs) {
             return Err(Unenforced::Stuck);
         }
-        round(mask, needs, &mut *forms, xs).ok_or(Unenforced::Missing)?;
+        round(mask, asks, &mut *forms, xs).ok_or(Unenforced::Missing)?;
         left -= 1;
         mask = unsatisfied_at(masks, given_set(&*forms));
     }

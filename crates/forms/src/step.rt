@@ -1,5 +1,5 @@
 // The step of one child: split at its source, then what its need asks: a merge, a keyed exchange or a round robin on top.
-ghost use Rattle.std.specs.Prelude.{◌≡◌, Bool, cond, ◌&&◌, List, map, ◌≤◌, length, take};
+ghost use Rattle.std.specs.Prelude.{◌≡◌, Bool, cond, ◌&&◌, List, map, ◌≤◌, length};
 ghost use Rattle.std.proofs.Math.Option.{some};
 ghost use Rattle.exchange.specs.Trees.{Operator};
 ghost use Rattle.exchange.specs.Settings.{is_set};
@@ -8,8 +8,8 @@ ghost use Rattle.exchange.specs.Facts.{NodeFacts, Row};
 ghost use Rattle.exchange.specs.States.{Child, pass, and_then};
 ghost use Rattle.exchange.specs.Status.{rows_gain, status_of, get_repartition_requirement_status};
 ghost use Rattle.exchange.specs.Step.{add_roundrobin, add_merge_on_top, add_hash_on_top, add_roundrobin_on_top, satisfy_distribution, split_plan, ensure_child, ensure_children};
-ghost use Rattle.exchange.specs.FactRows.{child_facts, fact_row, child_for, asked_by};
-ghost use Rattle.exchange.specs.Standings.{worked_for, node_for, state_for, formed, begun, Passed, SameNode, SameChild, SameChildren, resulting, form_list, each_form};
+ghost use Rattle.exchange.specs.FactRows.{child_facts, fact_row, child_for};
+ghost use Rattle.exchange.specs.Standings.{worked_for, node_for, state_for, formed, begun, Passed, SameNode, SameChild, SameChildren, Numbered, resulting, form_list, each_form};
 
 use exchange::fact::{COUNT, ChildForm, Fact, FactRows};
 use exchange::form::{
@@ -17,7 +17,7 @@ use exchange::form::{
 };
 use exchange::partitioning::{Standing, Worked};
 use exchange::settings::Settings;
-use exchange::status::{Asked, ChildRow, SPLITS};
+use exchange::status::{Asked, SPLITS};
 use needs::partitioning::{add_roundrobin, needs_hash_repartition};
 use needs::status::{get_repartition_requirement_status, needs_alignment, rows_gain};
 
@@ -168,23 +168,17 @@ fn ensure_each(
     s: Settings,
     w: Worked,
     aligned: bool,
-    needs: &[u64],
-    counts: &[u64],
-    facts: &[ChildRow],
+    asks: &[Asked],
     xs: FactRows,
     forms: &mut [u64],
 ) -> Option<()>
-    requires counts_len { (length counts.now ≡ length needs.now) × (length facts.now ≡ length needs.now) × (length needs.now ≤ 8) × (length needs.now ≤ length forms.old) }
-    ensures { resulting result (take (length needs.now) forms.new) ≡ each_form (λ a. formed (ensure_child s (worked_for w) (node_for w) (map fact_row xs.entry.rows.now) (status_of s aligned (child_for a)))) (asked_by 1 needs.now counts.now facts.now) }
+    requires numbered { Numbered asks.now }
+    requires few { length asks.now ≤ 8 }
+    requires forms_len { length forms.old ≡ length asks.now }
+    ensures { resulting result forms.new ≡ each_form (λ a. formed (ensure_child s (worked_for w) (node_for w) (map fact_row xs.entry.rows.now) (status_of s aligned (child_for a)))) asks.now }
 {
-    for (i, need) in needs.iter().enumerate() {
-        let a = Asked {
-            number: i as u64 + 1,
-            need: *need,
-            count: counts[i],
-            facts: facts[i],
-        };
-        forms[i] = ensure_child(s, w, aligned, a, xs)?;
+    for (i, a) in asks.iter().enumerate() {
+        forms[i] = ensure_child(s, w, aligned, *a, xs)?;
     }
     Some(())
 }
@@ -193,15 +187,15 @@ fn ensure_each(
 pub fn ensure_children(
     s: Settings,
     w: Worked,
-    needs: &[u64],
-    counts: &[u64],
-    facts: &[ChildRow],
+    asks: &[Asked],
     xs: FactRows,
     forms: &mut [u64],
 ) -> Option<()>
-    requires counts_len { (length counts.now ≡ length needs.now) × (length facts.now ≡ length needs.now) × (length needs.now ≤ 8) × (length needs.now ≤ length forms.old) }
-    ensures { (o : Operator) (b : NodeFacts) (ks : List Child) → SameNode w o b → SameChildren (asked_by 1 needs.now counts.now facts.now) ks → resulting result (take (length needs.now) forms.new) ≡ form_list (ensure_children s o b (map fact_row xs.entry.rows.now) (get_repartition_requirement_status s ks)) }
+    requires numbered { Numbered asks.now }
+    requires few { length asks.now ≤ 8 }
+    requires forms_len { length forms.old ≡ length asks.now }
+    ensures { (o : Operator) (b : NodeFacts) (ks : List Child) → SameNode w o b → SameChildren asks.now ks → resulting result forms.new ≡ form_list (ensure_children s o b (map fact_row xs.entry.rows.now) (get_repartition_requirement_status s ks)) }
 {
-    let aligned = needs_alignment(s, needs, counts, facts);
-    ensure_each(s, w, aligned, needs, counts, facts, xs, &mut *forms)
+    let aligned = needs_alignment(s, asks);
+    ensure_each(s, w, aligned, asks, xs, forms)
 }

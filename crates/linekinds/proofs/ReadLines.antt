@@ -13,6 +13,8 @@ use Rattle.text.specs.declared.line.Fields.{Fields}
 use Rattle.std.specs.Prelude.{None}
 use Rattle.text.specs.Read.{line_read}
 use Rattle.text.proofs.Answers.{Opened, wrong_none}
+use Rattle.refusals.specs.Refusals.{refusal_of}
+use Rattle.refusals.specs.declared.Refusal.TheVariants.{WrongLine}
 use Rattle.linekinds.specs.Lines.{line_number}
 use Rattle.linekinds.specs.KeyLines.{values}
 use Rattle.linekinds.specs.Reading.{kind_of, codes_number, counts_number, read_by, row_values}
@@ -25,7 +27,7 @@ row_values_lem [] = refl
 row_values_lem (f ∷ fs) = ap (λ (ns : List ℕ). value_of f ∷ ns) (row_values_lem fs)
 
 module _ (c : Codes) (letter seen next : ℕ) (x : Option (List Field)) where
-  pub read_wrong : None ≡ line_read next x → Refused 1 ≡ read_by (line_number (kind_of c letter) seen next x) next x
+  pub read_wrong : None ≡ line_read next x → Refused WrongLine ≡ read_by (line_number (kind_of c letter) seen next x) next x
   unfolding line_number
   read_wrong e = rw (wrong_none next x e)
 
@@ -39,14 +41,14 @@ module _ (c : Codes) (letter seen next : ℕ) (x : Option (List Field)) where
         ∙ line_number_lem c letter seen next o.fs
         ∙ ap (λ (m : ℕ). cond (eqb m 0) (codes_number c (values o.fs)) m) (sym (λ k. counts_number c (o.counts k) (o.states k) (o.values k) (o.goes k)))
 
-    pub read_counts : (M ≡ 0 → ⊥) → Refused M ≡ read_by (line_number (kind_of c letter) seen next x) next x
+    pub read_counts : (M ≡ 0 → ⊥) → Refused (refusal_of M) ≡ read_by (line_number (kind_of c letter) seen next x) next x
     read_counts h = rw (number_is, ne_eqb M 0 h, ne_eqb M 0 h)
 
     module _ (e : M ≡ 0) (n : ℕ) (is : n ≡ codes_number c (values o.fs)) where
       coded : line_number (kind_of c letter) seen next x ≡ n
       coded = number_is ∙ rw (eq-eqb M 0 e) (sym is)
 
-      pub read_codes : (n ≡ 0 → ⊥) → Refused n ≡ read_by (line_number (kind_of c letter) seen next x) next x
+      pub read_codes : (n ≡ 0 → ⊥) → Refused (refusal_of n) ≡ read_by (line_number (kind_of c letter) seen next x) next x
       read_codes h = rw (coded, ne_eqb n 0 h)
 
       pub read_good : n ≡ 0 → Line f.count f.next ≡ read_by (line_number (kind_of c letter) seen next x) next x

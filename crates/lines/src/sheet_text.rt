@@ -6,7 +6,7 @@ ghost use Rattle.sheet.specs.Held.{field_numbers, held_text};
 
 use crate::line::{put_expr_fields, put_exprs, put_number_fields, put_numbers};
 use linekinds::kind::Codes;
-use linekinds::lists::{SheetKind, line_codes, line_letter};
+use linekinds::lists::SheetKind;
 use sheet::held::Lists;
 use text::write::put_byte;
 
@@ -45,7 +45,7 @@ pub fn put_sheet(out: &mut [u8], k: SheetKind, n: usize, held: Lists<'_>) -> usi
 {
     let mut p = 0;
     for i in 0..n {
-        p = put_held(out, p, line_letter(k, i), line_codes(k, i), held.list(i));
+        p = put_held(out, p, k.letter(i), k.codes(i), held.list(i));
     }
     p
 }

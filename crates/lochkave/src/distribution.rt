@@ -5,7 +5,7 @@ ghost use Rattle.lochkave.specs.Entry.{distribution_outcome};
 ghost use Rattle.lochkave.specs.Rooms.{PlanRooms};
 
 use crate::again::refusal;
-use crate::plan::answer_held;
+use crate::plan::{answer_plan, held_facts};
 use exchange::fact::FactRow;
 use exchange::row::Row;
 use plansheet::plan::{Plan, read_plan};
@@ -47,7 +47,7 @@ pub(crate) fn distribute_in(
         &mut *index,
     );
     match p {
-        Plan::Refused { number, line } => return refusal(number, line),
+        Plan::Refused { number, line } => refusal(number, line),
         Plan::Held {
             settings,
             lines,
@@ -55,10 +55,8 @@ pub(crate) fn distribute_in(
             children,
             rows: n,
         } => {
-            return answer_held(
-                settings, lines, children, n, rows, node, &facts, &*xs, &*masks, &*index, mid, dst,
-                out,
-            )
+            let f = held_facts(children, n, node, &facts, &*xs, &*masks, &*index);
+            answer_plan(settings, f, &mut rows[..lines], mid, dst, out)
         }
     }
 }

@@ -8,6 +8,7 @@ ghost use Rattle.exchange.specs.Standings.{worked_for, node_for, state_for};
 
 use crate::status::rows_gain;
 use exchange::fact::{EXACT, SUBSET};
+use exchange::kind;
 use exchange::partitioning::{AGGEXACT, AGGSUBSET, Standing, Worked};
 use exchange::settings::Settings;
 use exchange::status::{Asked, GAINS, GROUPING};
@@ -16,95 +17,65 @@ use exchange::status::{Asked, GAINS, GROUPING};
 pub fn preserve_file_partition_threshold_met(s: Settings, a: Asked) -> bool
     ensures { result ≡ preserve_file_partition_threshold_met s (child_for a) }
 {
-    if 0 < s.files {
-        return s.files <= a.count;
-    }
-    false
+    0 < s.files && s.files <= a.count
 }
 
 pub fn requires_grouping_id(a: Asked) -> bool
     ensures { result ≡ requires_grouping_id (child_for a) }
 {
-    if a.need != 2 {
-        return false;
-    }
-    a.facts[GROUPING] == 1
+    a.need == 2 && a.facts[GROUPING] == 1
 }
 
 fn is_partitioned_join(w: Worked) -> bool
     ensures { result ≡ is_partitioned_join (worked_for w) }
 {
-    if w.kind == 5 {
-        return true;
-    }
-    w.kind == 6
+    w.kind == kind::HASH_JOIN || w.kind == kind::SORT_MERGE_JOIN
 }
 
 // As many partitions as subsets ask, or enough for the files and fewer than the target.
 fn count_allows_subset(s: Settings, a: Asked) -> bool
     ensures { result ≡ (leb s.subset a.count || (preserve_file_partition_threshold_met s (child_for a) && ltb a.count s.target)) }
 {
-    if s.subset <= a.count {
-        return true;
-    }
-    if !preserve_file_partition_threshold_met(s, a) {
-        return false;
-    }
-    a.count < s.target
+    s.subset <= a.count || preserve_file_partition_threshold_met(s, a) && a.count < s.target
 }
 
 // A hash partitioning by some of the keys will do.
 pub fn allow_subset_satisfy_partitioning(s: Settings, w: Worked, a: Asked) -> bool
     ensures { result ≡ allow_subset_satisfy_partitioning s (worked_for w) (child_for a) }
 {
-    if !count_allows_subset(s, a) {
-        return false;
-    }
-    if is_partitioned_join(w) {
-        return false;
-    }
-    !requires_grouping_id(a)
+    count_allows_subset(s, a) && !is_partitioned_join(w) && !requires_grouping_id(a)
 }
 
 pub fn partial_aggregate_output_satisfies_final_partitioning(w: Worked, subsets: bool) -> bool
     ensures { result ≡ partial_aggregate_output_satisfies_final_partitioning (worked_for w) (node_for w) subsets }
 {
-    if w.kind != 8 {
-        return false;
-    }
-    if subsets {
-        return w.facts[AGGSUBSET] == 1;
-    }
-    w.facts[AGGEXACT] == 1
+    let answer = if subsets {
+        w.facts[AGGSUBSET]
+    } else {
+        w.facts[AGGEXACT]
+    };
+    w.kind == kind::PARTIAL_AGGREGATE && answer == 1
 }
 
 pub fn preserve_partial_aggregate_partitioning(s: Settings, w: Worked, a: Asked) -> bool
     ensures { result ≡ preserve_partial_aggregate_partitioning s (worked_for w) (node_for w) (child_for a) }
 {
-    if !preserve_file_partition_threshold_met(s, a) {
-        return false;
-    }
-    let subsets = allow_subset_satisfy_partitioning(s, w, a);
-    partial_aggregate_output_satisfies_final_partitioning(w, subsets)
+    preserve_file_partition_threshold_met(s, a)
+        && partial_aggregate_output_satisfies_final_partitioning(
+            w,
+            allow_subset_satisfy_partitioning(s, w, a),
+        )
 }
 
 // A round robin is wanted, unless the split makes it needless.
 pub fn add_roundrobin(s: Settings, w: Worked, a: Asked) -> bool
     ensures { (aligned : Bool) → result ≡ add_roundrobin s (worked_for w) (node_for w) (status_of s aligned (child_for a)) }
 {
-    if s.roundrobin != 1 {
-        return false;
-    }
-    if a.facts[GAINS] != 1 {
-        return false;
-    }
-    if !rows_gain(s, a) {
-        return false;
-    }
-    if s.target <= a.count {
-        return false;
-    }
-    !preserve_partial_aggregate_partitioning(s, w, a)
+    s.roundrobin == 1
+        && a.facts[GAINS] == 1
+        && rows_gain(s, a)
+        && a.count < s.target
+        && !preserve_partial_aggregate_partitioning(s, w, a)
 }
 
 // The row's answer to the keyed need, with subsets where they are allowed.
@@ -121,29 +92,17 @@ pub fn partitioning_satisfied(s: Settings, w: Worked, a: Asked, c: Standing) -> 
 pub fn preserve_satisfying_file_partitioning(s: Settings, w: Worked, a: Asked, c: Standing) -> bool
     ensures { (aligned : Bool) → result ≡ preserve_satisfying_file_partitioning s (worked_for w) (status_of s aligned (child_for a)) (state_for a c) }
 {
-    if !preserve_file_partition_threshold_met(s, a) {
-        return false;
-    }
-    if requires_grouping_id(a) {
-        return false;
-    }
-    if !partitioning_satisfied(s, w, a, c) {
-        return false;
-    }
-    c.count < s.target
+    let satisfied = partitioning_satisfied(s, w, a, c);
+    preserve_file_partition_threshold_met(s, a)
+        && !requires_grouping_id(a)
+        && satisfied
+        && c.count < s.target
 }
 
 pub fn needs_hash_repartition(s: Settings, w: Worked, a: Asked, c: Standing) -> bool
     ensures { (aligned : Bool) → result ≡ needs_hash_repartition s (worked_for w) (status_of s aligned (child_for a)) (state_for a c) }
 {
-    if !partitioning_satisfied(s, w, a, c) {
-        return true;
-    }
-    if allow_subset_satisfy_partitioning(s, w, a) {
-        return false;
-    }
-    if s.target <= c.count {
-        return false;
-    }
-    !preserve_satisfying_file_partitioning(s, w, a, c)
+    let satisfied = partitioning_satisfied(s, w, a, c);
+    let preserved = preserve_satisfying_file_partitioning(s, w, a, c);
+    !satisfied || !allow_subset_satisfy_partitioning(s, w, a) && c.count < s.target && !preserved
 }

@@ -1,8 +1,8 @@
 // What is known of each child before any of them is changed: whether dealing out its rows gains, and whether it must be hashed.
-ghost use Rattle.std.specs.Prelude.{◌≡◌, ◌&&◌, ◌||◌, ◌≤◌, ltb, length};
+ghost use Rattle.std.specs.Prelude.{◌≡◌, ◌&&◌, ◌||◌, ltb, map};
 ghost use Rattle.exchange.specs.Status.{rows_gain, asks_alignment, needs_alignment, status_of};
 ghost use Rattle.exchange.specs.Operators.{is_keyed};
-ghost use Rattle.exchange.specs.FactRows.{child_facts, child_for, children_by};
+ghost use Rattle.exchange.specs.FactRows.{child_facts, child_for};
 ghost use Rattle.exchange.specs.States.{Child, need_of, count_of};
 ghost use Rattle.exchange.specs.Standings.{status_by};
 
@@ -14,46 +14,25 @@ pub fn rows_gain(s: Settings, a: Asked) -> bool
     ensures { result ≡ rows_gain s (child_facts a.facts) }
 {
     let kind = a.facts[ROWKIND];
-    let rows = a.facts[ROWS];
+    let more = s.batch < a.facts[ROWS];
     if kind == 0 {
-        return s.batch < rows;
+        return more;
     }
-    if kind != 1 {
-        return true;
-    }
-    if s.estimates != 1 {
-        return true;
-    }
-    s.batch < rows
+    kind != 1 || s.estimates != 1 || more
 }
 
 // A keyed child has more than one partition, or would gain by more.
 pub fn asks_alignment(s: Settings, a: Asked) -> bool
     ensures { result ≡ asks_alignment s (child_for a) }
 {
-    if a.need != 2 {
-        return false;
-    }
-    if 1 < a.count {
-        return true;
-    }
-    if a.facts[GAINS] != 1 {
-        return false;
-    }
-    rows_gain(s, a)
+    a.need == 2 && (1 < a.count || a.facts[GAINS] == 1 && rows_gain(s, a))
 }
 
 // A keyed child is hashed for its own partitions, or since one of the keyed children asks.
 fn hash_necessary(need: u64, count: u64, aligned: bool) -> bool
     ensures { result ≡ (is_keyed need && (ltb 1 count || aligned)) }
 {
-    if need != 2 {
-        return false;
-    }
-    if 1 < count {
-        return true;
-    }
-    aligned
+    need == 2 && (1 < count || aligned)
 }
 
 // Of a child of that need, count before the split and F row, given whether any of the children asks (`needs_alignment`).
@@ -68,36 +47,27 @@ pub fn get_repartition_requirement_status(
 {
     let a = Asked {
         number: 0,
-        need: need,
-        count: count,
-        facts: facts,
+        need,
+        count,
+        facts,
     };
     let stats = rows_gain(s, a);
     let necessary = hash_necessary(need, count, aligned);
     RepartitionRequirementStatus {
         beneficial: facts[GAINS] == 1,
-        stats: stats,
-        necessary: necessary,
+        stats,
+        necessary,
     }
 }
 
 // Whether any of the children asks.
-pub fn needs_alignment(s: Settings, needs: &[u64], counts: &[u64], facts: &[ChildRow]) -> bool
-    requires { (length counts.now ≡ length needs.now) × (length facts.now ≡ length needs.now) × (length needs.now ≤ 8) }
-    ensures { result ≡ needs_alignment s (children_by 1 needs.now counts.now facts.now) }
+pub fn needs_alignment(s: Settings, asks: &[Asked]) -> bool
+    ensures { result ≡ needs_alignment s (map child_for asks.now) }
 {
-    let mut i = 0;
-    while i < needs.len() {
-        let a = Asked {
-            number: i as u64 + 1,
-            need: needs[i],
-            count: counts[i],
-            facts: facts[i],
-        };
-        if asks_alignment(s, a) {
+    for a in asks {
+        if asks_alignment(s, *a) {
             return true;
         }
-        i += 1;
     }
     false
 }

@@ -8,6 +8,7 @@ ghost use Rattle.plananswer.specs.RowTexts.{lines_of, row_line, head_line, rows_
 use crate::line::{AnswerLine, operator_length};
 use crate::rows::put_rows;
 use exchange::row::Row;
+use refusals::Refusal;
 use text::write::{number_length, put_line};
 
 // The numbers of the d line.
@@ -78,7 +79,7 @@ pub fn write_plan(head: Head, rows: &[Row], out: &mut [u8]) -> u64
     ensures { let t = within (length out.old) (wrote (rows_text head.changed head.window head.interleave head.tracked rows.now)) in (result ≡ answer t) × (out.new ≡ after t out.old) }
 {
     if out.len() < plan_text_length(head, rows) {
-        return 51539607552;
+        return Refusal::OutputTooShort.on_line(0).word();
     }
     put_plan(out, 0, head, rows) as u64
 }

@@ -10,6 +10,7 @@ ghost use Rattle.plananswer.specs.SheetTexts.{tree_row_line, child_row_line, fac
 use crate::rows::put_rows;
 use crate::sheet_line::{ChildLine, FactLine, TreeLine, put_settings};
 use exchange::fact::FactRow;
+use exchange::facts::PlanFacts;
 use exchange::partitioning::NodeRow;
 use exchange::row::Row;
 use exchange::settings::Settings;
@@ -25,23 +26,14 @@ fn put_node_facts(out: &mut [u8], at: usize, b: NodeRow) -> usize
 }
 
 // The sheet.
-pub fn put_plan_sheet(
-    out: &mut [u8],
-    at: usize,
-    s: Settings,
-    tree: &[Row],
-    b: NodeRow,
-    children: &[ChildRow],
-    facts: &[FactRow],
-    masks: &[u64],
-) -> usize
-    requires { at + length (sheet_rows_text s tree.now b children.now facts.now masks.now) ≤ length out.old }
-    ensures { Wrote out.old at (sheet_rows_text s tree.now b children.now facts.now masks.now) out.new result }
+pub fn put_plan_sheet(out: &mut [u8], at: usize, s: Settings, tree: &[Row], f: PlanFacts) -> usize
+    requires { at + length (sheet_rows_text s tree.now f.node f.children.now f.xs.rows.now f.masks.now) ≤ length out.old }
+    ensures { Wrote out.old at (sheet_rows_text s tree.now f.entry.node f.entry.children.now f.entry.xs.rows.now f.entry.masks.now) out.new result }
 {
     let at_tree = put_settings(out, at, s);
     let at_node = put_rows::<Row, TreeLine>(out, at_tree, tree);
-    let at_children = put_node_facts(out, at_node, b);
-    let at_facts = put_rows::<ChildRow, ChildLine>(out, at_children, children);
-    let at_masks = put_rows::<FactRow, FactLine>(out, at_facts, facts);
-    put_numbers(out, at_masks, 89, masks)
+    let at_children = put_node_facts(out, at_node, f.node);
+    let at_facts = put_rows::<ChildRow, ChildLine>(out, at_children, f.children);
+    let at_masks = put_rows::<FactRow, FactLine>(out, at_facts, f.xs.rows);
+    put_numbers(out, at_masks, 89, f.masks)
 }

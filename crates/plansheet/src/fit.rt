@@ -87,7 +87,7 @@ fn child_fits(target: u64, rows: &[Row], x: FactRow, place: usize, f: ChildRow) 
 }
 
 // A row of a known form of a known child.
-fn row_fits(target: u64, rows: &[Row], places: &[u64], facts: &[ChildRow], x: FactRow) -> bool
+fn row_fits(target: u64, rows: &[Row], places: &[usize], facts: &[ChildRow], x: FactRow) -> bool
     requires { (length facts.now ≡ length places.now) × Placed rows.now places.now }
     ensures { result ≡ row_fits_by target rows.now places.now facts.now x }
 {
@@ -102,7 +102,7 @@ fn row_fits(target: u64, rows: &[Row], places: &[u64], facts: &[ChildRow], x: Fa
         return false;
     }
     let i = (number - 1) as usize;
-    child_fits(target, rows, x, places[i] as usize, facts[i])
+    child_fits(target, rows, x, places[i], facts[i])
 }
 
 // Whether the row was found at that place.
@@ -116,7 +116,13 @@ fn found_at(f: Fact, i: usize) -> bool
 }
 
 // Every row fits, and is the first of its child and form.
-pub fn rows_fit(target: u64, rows: &[Row], places: &[u64], facts: &[ChildRow], xs: FactRows) -> bool
+pub fn rows_fit(
+    target: u64,
+    rows: &[Row],
+    places: &[usize],
+    facts: &[ChildRow],
+    xs: FactRows,
+) -> bool
     requires { (length facts.now ≡ length places.now) × (length places.now ≤ 8) × Placed rows.now places.now }
     ensures { result ≡ fact_rows_fit target rows.now places.now facts.now xs.entry.rows.now }
 {
@@ -148,22 +154,8 @@ pub fn facts_fit(
     requires worked_in_bounds { (worked < length rows.now) × (length facts.now ≤ 8) }
     ensures { (s : Settings) (o : Operator) (b : NodeFacts) (ts : Plans) (rest : List (List ℕ)) → s.target ≡ target → trees ts ≡ length facts.now → drop (worked + 1) rows.now ≡ flattens ts ++ rest → result ≡ worked_fits s (record { node = b; children = map child_facts facts.now; rows = map fact_row xs.entry.rows.now; masks = masks.now }) (node o ts) }
 {
-    let children = facts.len() as u64;
-    let mut places = [0u64; 8];
-    let mut needs = [0u64; 8];
-    let mut counts = [0u64; 8];
-    child_places(
-        rows,
-        worked + 1,
-        children,
-        &mut places,
-        &mut needs,
-        &mut counts,
-        0,
-    );
-    let end = facts.len();
-    if !rows_fit(target, rows, &places[0..end], facts, xs) {
-        return false;
-    }
-    masks_fit(children, masks)
+    let mut room = [0usize; 8];
+    let places = &mut room[..facts.len()];
+    child_places(rows, worked + 1, &mut *places);
+    rows_fit(target, rows, &*places, facts, xs) && masks_fit(facts.len() as u64, masks)
 }

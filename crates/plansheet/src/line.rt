@@ -8,6 +8,7 @@ ghost use Rattle.plansheet.specs.Shapes.{fixed_line, plain_shape};
 ghost use Rattle.plansheet.specs.PlanLines.{settings_line, node_line, child_line, fact_line, mask_line, two_to};
 ghost use Rattle.plansheet.specs.ReadRows.{masks_number};
 
+use crate::description::LineShape;
 use crate::shape::{over_any, shaped_line};
 use linekinds::line::Read;
 use text::line::line_at;
@@ -105,7 +106,13 @@ pub fn settings_line(s: &[u8], at: usize, fields: &mut [[u64; 2]]) -> Read
     ];
     let sizes: [u64; 0] = [];
     let codes: [u64; 9] = [ANY, 1, 1, ANY, 1, ANY, ANY, 1, 1];
-    shaped_line(s, at, 68, &bounds, &sizes, &codes, fields)
+    let shape = LineShape {
+        letter: 68,
+        bounds: &bounds,
+        sizes: &sizes,
+        codes: &codes,
+    };
+    shaped_line(s, at, shape, fields)
 }
 
 // The B line.
@@ -117,7 +124,13 @@ pub fn node_line(s: &[u8], at: usize, fields: &mut [[u64; 2]]) -> Read
     let bounds: [[u64; 2]; 4] = [[0, PLAIN], [0, PLAIN], [0, PLAIN], [0, PLAIN]];
     let sizes: [u64; 0] = [];
     let codes: [u64; 4] = [1, 1, 1, 1];
-    shaped_line(s, at, 66, &bounds, &sizes, &codes, fields)
+    let shape = LineShape {
+        letter: 66,
+        bounds: &bounds,
+        sizes: &sizes,
+        codes: &codes,
+    };
+    shaped_line(s, at, shape, fields)
 }
 
 // An F line.
@@ -137,7 +150,13 @@ pub fn child_line(s: &[u8], at: usize, fields: &mut [[u64; 2]]) -> Read
     ];
     let sizes: [u64; 7] = [ANY, ANY, ANY, ANY, ANY, ANY, 8];
     let codes: [u64; 6] = [1, 1, 2, ANY, 1, 1];
-    shaped_line(s, at, 70, &bounds, &sizes, &codes, fields)
+    let shape = LineShape {
+        letter: 70,
+        bounds: &bounds,
+        sizes: &sizes,
+        codes: &codes,
+    };
+    shaped_line(s, at, shape, fields)
 }
 
 // An X line.

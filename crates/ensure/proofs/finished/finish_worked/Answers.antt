@@ -1,5 +1,5 @@
 -- `finish_worked` meets its contract: the worked node's row and then its children are the rows of the answer (`answer_wrote`).
-use lib.ListN.{length, take}
+use lib.ListN.{length}
 use native.Mathlib.Omega.{arith}
 use Rattle.ensure.proofs.Finishing.{root_in, root_legal, came_shape, came_counted, came_room, came_each, came_readys, answer_wrote, shape_of, mark_byte}
 use Rattle.ensure.proofs.finished.finish_worked.Goals as goal

@@ -10,19 +10,20 @@ use Rattle.forms.proofs.Turns.{turns_turn, turns_end}
 use Rattle.forms.proofs.relationship.any_givable.Goals as goal
 
 pub is_givable-requires : goal.is_givable-requires
-is_givable-requires c = let p = c.requires.needs_len_bound in record { numbered = (omega arith, omega (arith, p.0), p.2 c.loop-i.i c.loop-i-test.true) }
+is_givable-requires c = let p = c.requires in let n = p.numbered c.loop-i.i c.loop-i-test.true in
+    record { numbered = (omega (arith, n), omega (arith, n, p.few.0), p.small c.loop-i.i (omega (arith, p.few.1, c.loop-i-test.true))) }
 
 pub returns-then-is_givable : goal.returns-then-is_givable
 unfolding any_turn
-returns-then-is_givable c = let a = c.args in let l = c.loop-i in let t = turns_turn a.needs.now a.forms.now c.requires.needs_len_bound.1 l.i l.m c.loop-i-test.true in
+returns-then-is_givable c = let a = c.args in let l = c.loop-i in let t = turns_turn a.asks.now a.forms.now c.requires.few.1 l.i l.m c.requires.numbered c.loop-i-test.true in
     enough _ _ (sym c.is_givable.ensures ∙ c.if-is_givable.true) ∙ sym (l.invariant ∙ ap (λ (xs : List Turn). any_turn (map fact_row a.xs.rows.now) xs) t)
 
 pub loop-i-preserved : goal.loop-i-preserved
 unfolding any_turn
-loop-i-preserved c = let a = c.args in let l = c.loop-i in let t = turns_turn a.needs.now a.forms.now c.requires.needs_len_bound.1 l.i l.m c.loop-i-test.true in
+loop-i-preserved c = let a = c.args in let l = c.loop-i in let t = turns_turn a.asks.now a.forms.now c.requires.few.1 l.i l.m c.requires.numbered c.loop-i-test.true in
     l.invariant ∙ ap (λ (xs : List Turn). any_turn (map fact_row a.xs.rows.now) xs) t ∙ sym (besides _ _ _ (sym c.is_givable.ensures ∙ c.if-is_givable.false) refl)
 
 pub returns : goal.returns
 unfolding any_turn
-returns c = let a = c.args in let l = c.loop-i in let t = turns_end a.needs.now a.forms.now c.requires.needs_len_bound.1 l.i l.m c.loop-i-test.false in
+returns c = let a = c.args in let l = c.loop-i in let t = turns_end a.asks.now a.forms.now c.requires.few.1 l.i l.m c.loop-i-test.false in
     sym (l.invariant ∙ ap (λ (xs : List Turn). any_turn (map fact_row a.xs.rows.now) xs) t)

@@ -2,15 +2,16 @@
 use mathlib.Core.Path.{◌≡◌}
 use mathlib.Core.List.{map}
 use Prim.Native.Nat.{ℕ, ◌≤◌, ◌<◌}
-use lib.ListN.{length, take, get_or}
+use lib.ListN.{length, get_or}
 use Rattle.exchange.specs.Facts.{unsatisfied_at}
 use Rattle.exchange.specs.FactRows.{fact_row}
+use Rattle.exchange.specs.Standings.{asked_needs}
 use Rattle.exchange.specs.Turns.{set_of, rounds_by}
 use Rattle.forms.proofs.relationship.enforce_distribution_relationships.Given as goal
 
 abbrev pub invariant-loop-mask : goal.invariant-loop-mask
-invariant-loop-mask l = (length l.forms ≡ length l.initial.forms) × ((k : ℕ) → k < length l.needs → get_or l.forms k 0 ≤ 15) × (l.mask ≡ unsatisfied_at l.masks (set_of l.forms))
-    × (rounds_by (map fact_row l.xs.rows.now) l.masks l.needs (length l.needs) l.initial.forms ≡ rounds_by (map fact_row l.xs.rows.now) l.masks l.needs l.left l.forms)
+invariant-loop-mask l = (length l.forms ≡ length l.initial.forms) × ((k : ℕ) → k < length l.forms → get_or l.forms k 0 ≤ 15) × (l.mask ≡ unsatisfied_at l.masks (set_of l.forms))
+    × (rounds_by (map fact_row l.xs.rows.now) l.masks (asked_needs l.asks) (length (asked_needs l.asks)) l.initial.forms ≡ rounds_by (map fact_row l.xs.rows.now) l.masks (asked_needs l.asks) l.left l.forms)
 
 abbrev pub decreases-loop-mask : goal.decreases-loop-mask
 decreases-loop-mask l = l.left

@@ -1,5 +1,5 @@
 -- `forms::relationship::give` meets its contract: the child passes into the form with a relationship exchange, or stays.
-use mathlib.Core.Path.{sym, ap, ◌∙◌}
+use mathlib.Core.Path.{sym, ap}
 use mathlib.Core.Bool.{not}
 use mathlib.Core.List.{map}
 use Rattle.exchange.specs.Forms.{form_of, with_relationship}

@@ -2,60 +2,60 @@
 use mathlib.Core.Path.{◌≡◌, refl, sym, ap, ◌∙◌}
 use mathlib.Core.List.{List, map}
 use mathlib.Core.Option.{Option}
-use Prim.Native.Nat.{ℕ, ◌+◌, ◌/◌, ◌%◌, ◌<◌}
+use Prim.Native.Nat.{ℕ, ◌+◌, ◌/◌, ◌<◌}
 use native.Mathlib.Omega.{arith}
-use lib.ListN.{length, take, drop, get_or, set, length-set}
+use lib.ListN.{length, take, drop, set, length-set}
 use lib.Seq.{take_all, drop-set-lt}
 use Rattle.std.specs.Prelude.{Option as Answer}
 use Rattle.exchange.specs.declared.relationship.Turn.{Turn}
 use Rattle.exchange.specs.FactRows.{fact_row}
-use Rattle.exchange.specs.Standings.{with_forms, each_form}
+use Rattle.exchange.specs.Standings.{asked_needs, with_forms, each_form}
 use Rattle.exchange.specs.Turns.{turn_form, turns_by}
 use Rattle.forms.proofs.Each.{prepend, each_first, each_turn, each_missing, each_end}
 use Rattle.forms.proofs.Turns.{turns_turn, turns_end, turn_small, small_set}
 use Rattle.forms.proofs.relationship.round.Goals as goal
 
 pub loop-i-init : goal.loop-i-init
-loop-i-init c = (refl, c.requires.needs_len_bound.2, each_first _)
+loop-i-init c = (refl, c.requires.small, each_first _)
 
 pub give-requires : goal.give-requires
-give-requires c = let p = c.requires.needs_len_bound in record { numbered = (omega arith, omega (arith, p.0), c.loop-i.invariant.1 c.loop-i.i c.loop-i-test.true) }
+give-requires c = let p = c.requires in let n = p.numbered c.loop-i.i c.loop-i-test.true in let l = c.loop-i in
+    record { numbered = (omega (arith, n), omega (arith, n, p.few.0), l.invariant.1 l.i (omega (arith, l.invariant.0, p.few.1, c.loop-i-test.true))) }
 
-pub returns-in_err-forms-clause-by_index : goal.returns-in_err-forms-clause-by_index
-returns-in_err-forms-clause-by_index c = c.loop-i.invariant.1
+pub returns-in_err-forms-clause-small : goal.returns-in_err-forms-clause-small
+returns-in_err-forms-clause-small c = c.loop-i.invariant.1
 
 pub returns-in_err-forms-clause-forms_after : goal.returns-in_err-forms-clause-forms_after
 unfolding each_form
 returns-in_err-forms-clause-forms_after c = let a = c.args in let l = c.loop-i in let f = turn_form (map fact_row a.xs.rows.now) in
-    let t = turns_turn a.needs.now l.forms (omega (arith, l.invariant.0, c.requires.needs_len_bound.1)) l.i l.m c.loop-i-test.true in
-    let rest = each_form f (turns_by (l.i + 1 + 1) (l.m / 2) (drop (l.i + 1) a.needs.now) (drop (l.i + 1) l.forms)) in
+    let t = turns_turn a.asks.now l.forms (omega (arith, l.invariant.0, c.requires.few.1)) l.i l.m c.requires.numbered c.loop-i-test.true in
+    let rest = each_form f (turns_by (l.i + 1 + 1) (l.m / 2) (asked_needs (drop (l.i + 1) a.asks.now)) (drop (l.i + 1) l.forms)) in
     rw c.from_residual.ensures (each_missing _ (take l.i l.forms) rest
     (l.invariant.2 ∙ ap (λ (xs : List Turn). prepend (take l.i l.forms) (each_form f xs)) t
     ∙ ap (λ (o : Answer ℕ). prepend (take l.i l.forms) (with_forms o rest)) (sym c.give.ensures ∙ c.in_err-forms.was)))
 
 pub loop-i-preserved : goal.loop-i-preserved
 unfolding each_form
-loop-i-preserved c = let a = c.args in let l = c.loop-i in let v = c.in_ok-forms.field-0 in let x : Turn = record { number = l.i + 1; need = get_or a.needs.now l.i 0; form = get_or l.forms l.i 0; bit = l.m % 2 } in
+loop-i-preserved c = let a = c.args in let l = c.loop-i in let v = c.in_ok-forms.field-0 in
     let f = turn_form (map fact_row a.xs.rows.now) in
-    let fits : l.i < length l.forms = omega (arith, l.invariant.0, c.requires.needs_len_bound.1, c.loop-i-test.true) in
-    let t = turns_turn a.needs.now l.forms (omega (arith, l.invariant.0, c.requires.needs_len_bound.1)) l.i l.m c.loop-i-test.true in
-    let rest : List ℕ → Option (List ℕ) = λ fs. each_form f (turns_by (l.i + 1 + 1) (l.m / 2) (drop (l.i + 1) a.needs.now) fs) in
+    let fits : l.i < length l.forms = omega (arith, l.invariant.0, c.requires.few.1, c.loop-i-test.true) in
+    let t = turns_turn a.asks.now l.forms (omega (arith, l.invariant.0, c.requires.few.1)) l.i l.m c.requires.numbered c.loop-i-test.true in
+    let rest : List ℕ → Option (List ℕ) = λ fs. each_form f (turns_by (l.i + 1 + 1) (l.m / 2) (asked_needs (drop (l.i + 1) a.asks.now)) fs) in
     let made = sym c.give.ensures ∙ c.in_ok-forms.was in (
       simp length-set l.invariant.0,
-      small_set l.forms (length a.needs.now) l.i v
-          (turn_small (map fact_row a.xs.rows.now) x v (l.invariant.1 l.i c.loop-i-test.true) made) fits l.invariant.1,
+      small_set l.forms l.i v (turn_small (map fact_row a.xs.rows.now) _ v (l.invariant.1 l.i fits) made) fits l.invariant.1,
       each_turn _ l.forms l.i v fits (rest (drop (l.i + 1) l.forms))
           (l.invariant.2 ∙ ap (λ (xs : List Turn). prepend (take l.i l.forms) (each_form f xs)) t
           ∙ ap (λ (o : Answer ℕ). prepend (take l.i l.forms) (with_forms o (rest (drop (l.i + 1) l.forms)))) made)
           ∙ ap (λ (fs : List ℕ). prepend (take (l.i + 1) (set l.forms l.i v)) (rest fs)) (sym (drop-set-lt (l.i + 1) l.forms l.i v (omega arith))),
     )
 
-pub returns-clause-by_index : goal.returns-clause-by_index
-returns-clause-by_index c = c.loop-i.invariant.1
+pub returns-clause-small : goal.returns-clause-small
+returns-clause-small c = c.loop-i.invariant.1
 
 pub returns-clause-forms_after : goal.returns-clause-forms_after
 unfolding each_form
 returns-clause-forms_after c = let a = c.args in let l = c.loop-i in let f = turn_form (map fact_row a.xs.rows.now) in
-    let t = turns_end a.needs.now l.forms (omega (arith, l.invariant.0, c.requires.needs_len_bound.1)) l.i l.m c.loop-i-test.false in
-    let all : take l.i l.forms ≡ l.forms = take_all l.i l.forms (omega (arith, l.invariant.0, c.requires.needs_len_bound.1, c.loop-i-test.false)) in
+    let t = turns_end a.asks.now l.forms (omega (arith, l.invariant.0, c.requires.few.1)) l.i l.m c.loop-i-test.false in
+    let all : take l.i l.forms ≡ l.forms = take_all l.i l.forms (omega (arith, l.invariant.0, c.requires.few.1, c.loop-i-test.false)) in
     rw all at (each_end _ (take l.i l.forms) (l.invariant.2 ∙ ap (λ (xs : List Turn). prepend (take l.i l.forms) (each_form f xs)) t))

@@ -1,7 +1,6 @@
 -- `forms::step::ensure_children` meets its contract: the steps go by the children's numbers (`children_same`).
 use mathlib.Core.Path.{◌∙◌}
 use mathlib.Core.List.{map}
-use lib.ListN.{take}
 use Rattle.exchange.specs.FactRows.{fact_row}
 use Rattle.forms.proofs.Each.{children_same}
 use Rattle.forms.proofs.step.ensure_children.Goals as goal

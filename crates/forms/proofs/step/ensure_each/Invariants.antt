@@ -1,12 +1,11 @@
 -- `forms::step::ensure_each` meets its contract: the forms before i stand before those of the children from i on (`each_turn`).
 use mathlib.Core.Path.{◌≡◌}
 use mathlib.Core.List.{map}
-use Prim.Native.Nat.{◌+◌}
 use lib.ListN.{length, take, drop}
 use Rattle.exchange.specs.declared.status.Asked.{Asked}
 use Rattle.exchange.specs.Step.{ensure_child}
 use Rattle.exchange.specs.Status.{status_of}
-use Rattle.exchange.specs.FactRows.{fact_row, child_for, asked_by}
+use Rattle.exchange.specs.FactRows.{fact_row, child_for}
 use Rattle.exchange.specs.Standings.{worked_for, node_for, formed, each_form}
 use Rattle.forms.proofs.Each.{prepend}
 use Rattle.forms.proofs.step.ensure_each.Given as goal
@@ -14,5 +13,4 @@ use Rattle.forms.proofs.step.ensure_each.Given as goal
 abbrev pub invariant-loop-i : goal.invariant-loop-i
 invariant-loop-i l =
     let go = λ (a : Asked). formed (ensure_child l.s (worked_for l.w) (node_for l.w) (map fact_row l.xs.rows.now) (status_of l.s l.aligned (child_for a))) in
-    (length l.forms ≡ length l.initial.forms)
-    × (each_form go (asked_by 1 l.needs l.counts l.facts) ≡ prepend (take l.i l.forms) (each_form go (asked_by (l.i + 1) (drop l.i l.needs) (drop l.i l.counts) (drop l.i l.facts))))
+    (length l.forms ≡ length l.initial.forms) × (each_form go l.asks ≡ prepend (take l.i l.forms) (each_form go (drop l.i l.asks)))

@@ -51,8 +51,8 @@ overflow_add-n c =
     let second : DigitAt c.args.s.now c.loop-at.p = c.digit_at-in-loop-at.ensures.0 c.loop-at-test.true in
     omega (arith, (second).2, c.from.ensures, c.loop-at.invariant.1)
 
-pub returns-then-n-gt65535 : goal.returns-then-n-gt65535
-returns-then-n-gt65535 c = tt
+pub returns-then-n-gt-PLAIN : goal.returns-then-n-gt-PLAIN
+returns-then-n-gt-PLAIN c = tt
 
 pub overflow_add-p-in-loop-at : goal.overflow_add-p-in-loop-at
 overflow_add-p-in-loop-at c =

@@ -1,32 +1,35 @@
--- `needs::status::needs_alignment` meets its contract: the children from i on ask as all of them do, since none before i asks.
-use mathlib.Core.Path.{refl, sym, ap, ◌∙◌}
+-- `needs::status::needs_alignment` meets its contract: the children that are left ask as all of them do, since none before them asks.
+use mathlib.Core.Path.{◌≡◌, refl, sym, ◌∙◌}
+use mathlib.Core.Bool.{false, ◌||◌}
 use mathlib.Core.List.{List, map}
-use native.Mathlib.Omega.{arith}
+use Prim.Native.Nat.{ℕ, ◌+◌, ◌<◌, ◌≤◌}
+use native.Mathlib.Numerals.{add-one}
+use lib.ListN.{length, drop, get_or, drop_of_length-le}
+use lib.Seq.{drop-cons}
+use Rattle.exchange.specs.declared.settings.Settings.{Settings}
 use Rattle.exchange.specs.declared.status.Asked.{Asked}
-use Rattle.exchange.specs.Status.{needs_alignment}
+use Rattle.exchange.specs.Status.{asks_alignment, needs_alignment}
 use Rattle.exchange.specs.FactRows.{child_for}
-use Rattle.exchange.proofs.FactRows.{asked_turn, asked_end}
 use Rattle.exchange.proofs.Tests.{enough, besides}
-use borrow.Author.Rules.{rules as facts-list}
 use Rattle.needs.proofs.status.needs_alignment.Goals as goal
 
-pub loop-i-init : goal.loop-i-init
-loop-i-init c = (omega arith, refl)
+ask_turn : (s : Settings) (asks : List Asked) (i : ℕ) (a : Asked) → i < length asks
+    → needs_alignment s (map child_for (drop i asks)) ≡ asks_alignment s (child_for (get_or asks i a)) || needs_alignment s (map child_for (drop (i + 1) asks))
+unfolding needs_alignment
+ask_turn s asks i a h = rw (drop-cons asks i a h, add-one i)
 
-pub asks_alignment-requires : goal.asks_alignment-requires
-asks_alignment-requires c = search facts-list
+ask_end : (s : Settings) (asks : List Asked) (i : ℕ) → length asks ≤ i → needs_alignment s (map child_for (drop i asks)) ≡ false
+unfolding needs_alignment
+ask_end s asks i h = rw (drop_of_length-le asks {i = i} h)
+
+pub loop-a-init : goal.loop-a-init
+loop-a-init c = refl
 
 pub returns-then-asks_alignment : goal.returns-then-asks_alignment
-unfolding needs_alignment
-returns-then-asks_alignment c = let p = c.requires in let l = c.loop-i in let a = c.args in let t = asked_turn a.needs.now a.counts.now a.facts.now p.0 p.1 l.i c.loop-i-test.true in
-    sym (l.invariant.1 ∙ ap (λ (cs : List Asked). needs_alignment a.s (map child_for cs)) t ∙ sym (enough _ _ (sym c.asks_alignment.ensures ∙ c.if-asks_alignment.true)))
+returns-then-asks_alignment c = sym (c.loop-a.invariant ∙ ask_turn _ _ _ _ c.loop-a-test.true ∙ sym (enough _ _ (sym c.if-asks_alignment.ensures)))
 
-pub loop-i-preserved : goal.loop-i-preserved
-unfolding needs_alignment
-loop-i-preserved c = let p = c.requires in let l = c.loop-i in let a = c.args in let t = asked_turn a.needs.now a.counts.now a.facts.now p.0 p.1 l.i c.loop-i-test.true in
-    (omega arith, l.invariant.1 ∙ ap (λ (cs : List Asked). needs_alignment a.s (map child_for cs)) t ∙ sym (besides _ _ _ (sym c.asks_alignment.ensures ∙ c.if-asks_alignment.false) refl))
+pub loop-a-preserved : goal.loop-a-preserved
+loop-a-preserved c = c.loop-a.invariant ∙ ask_turn _ _ _ _ c.loop-a-test.true ∙ sym (besides _ _ _ (sym c.if-asks_alignment.ensures) refl)
 
 pub returns : goal.returns
-unfolding needs_alignment
-returns c = let p = c.requires in let l = c.loop-i in let a = c.args in let t = asked_end a.needs.now a.counts.now a.facts.now p.0 p.1 l.i c.loop-i-test.false in
-    sym (l.invariant.1 ∙ ap (λ (cs : List Asked). needs_alignment a.s (map child_for cs)) t)
+returns c = sym (c.loop-a.invariant ∙ ask_end _ _ _ c.loop-a-test.false)

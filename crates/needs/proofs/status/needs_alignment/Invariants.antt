@@ -1,13 +1,10 @@
--- `needs::status::needs_alignment` meets its contract: the children from i on ask as all of them do, since none before i asks.
+-- `needs::status::needs_alignment` meets its contract: the children that are left ask as all of them do, since none before them asks.
 use mathlib.Core.Path.{◌≡◌}
-use Prim.Native.Nat.{◌+◌, ◌-◌, ◌≤◌}
-use lib.ListN.{length, drop}
+use mathlib.Core.List.{map}
+use lib.ListN.{drop}
 use Rattle.exchange.specs.Status.{needs_alignment}
-use Rattle.exchange.specs.FactRows.{children_by}
+use Rattle.exchange.specs.FactRows.{child_for}
 use Rattle.needs.proofs.status.needs_alignment.Given as goal
 
-abbrev pub invariant-loop-i : goal.invariant-loop-i
-invariant-loop-i l = (l.i ≤ length l.needs) × (needs_alignment l.s (children_by 1 l.needs l.counts l.facts) ≡ needs_alignment l.s (children_by (l.i + 1) (drop l.i l.needs) (drop l.i l.counts) (drop l.i l.facts)))
-
-abbrev pub decreases-loop-i : goal.decreases-loop-i
-decreases-loop-i l = length l.needs - l.i
+abbrev pub invariant-loop-a : goal.invariant-loop-a
+invariant-loop-a l = needs_alignment l.s (map child_for l.asks) ≡ needs_alignment l.s (map child_for (drop l.a-index l.asks))
