@@ -9,6 +9,7 @@ ghost use Rattle.adjust.specs.Sheets.{IsDecided};
 
 use crate::sheet::Sheet;
 use keys::answer::{Adjusted, Handed, Outcome};
+use keys::codes::AggregateMode;
 use keys::list::{NumberList, permute};
 use keys::reorder::expected_expr_positions;
 
@@ -94,8 +95,8 @@ pub fn aggregate(sheet: &Sheet<'_>) -> Option<Adjusted>
     if sheet.required.is_empty() {
         return Some(Adjusted::unchanged());
     }
-    if sheet.operator.mode == 0 {
-        return reorder_aggregate_keys(sheet);
+    match AggregateMode::from(sheet.operator.mode) {
+        AggregateMode::FinalPartitioned => reorder_aggregate_keys(sheet),
+        AggregateMode::Other => Some(Adjusted::cleared()),
     }
-    Some(Adjusted::cleared())
 }
