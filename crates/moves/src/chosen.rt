@@ -2,7 +2,7 @@
 ghost use Rattle.std.specs.Prelude.{◌≡◌, cond, [], ◌≤◌, length, take, option_copied};
 ghost use Rattle.keys.specs.Expressions.{expressions};
 ghost use Rattle.keys.specs.Answers.{moved_or};
-ghost use Rattle.moves.specs.Chosen.{followed_or, handed_list, shifted_for};
+ghost use Rattle.moves.specs.Chosen.{tried_or, followed_or, handed_list, shifted_for};
 
 use adjust::adjust::shift_right_required;
 use keys::answer::{Handed, Outcome};
@@ -10,12 +10,21 @@ use keys::inputs::Attempt;
 use keys::reorder::Reordered;
 
 // The keys that moved, or those that stood.
+fn tried_or<'a>(tried: &Reordered, moved: &'a [u64], stood: &'a [u64]) -> &'a [u64]
+    ensures { result.now ≡ tried_or tried.now moved.now stood.now }
+{
+    let Reordered::Moved(_) = tried else {
+        return stood;
+    };
+    moved
+}
+
 pub fn moved_or<'a>(o: &Outcome, moved: &'a [u64], stood: &'a [u64]) -> &'a [u64]
     ensures { result.now ≡ moved_or o.now moved.now stood.now }
 {
     match o {
-        Outcome::Tried(Reordered::Moved(_)) => moved,
-        _ => stood,
+        Outcome::Tried(tried) => tried_or(tried, moved, stood),
+        Outcome::Unchanged | Outcome::Passed | Outcome::Regrouped { .. } => stood,
     }
 }
 
@@ -23,8 +32,8 @@ pub fn followed_or<'a>(o: &Attempt, moved: &'a [u64], stood: &'a [u64]) -> &'a [
     ensures { result.now ≡ followed_or o.now moved.now stood.now }
 {
     match o {
-        Attempt::Followed(_, Reordered::Moved(_)) => moved,
-        _ => stood,
+        Attempt::Followed(_, tried) => tried_or(tried, moved, stood),
+        Attempt::Untried | Attempt::Failed => stood,
     }
 }
 
