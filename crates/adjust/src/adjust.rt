@@ -14,8 +14,8 @@ use keys::reorder::try_reorder;
 
 // The index less `columns` in every key, into the room lent, and how many there are; none where one is no column or its index too small.
 pub fn shift_right_required(required: &[u64], columns: u64, out: &mut [u64; 32]) -> usize
-    requires { (length required.now ≤ 32) × (length out.old ≡ 32) }
-    ensures { (length out.new ≡ 32) × (result ≤ 32) × (expressions (take result out.new) ≡ shift_right_required columns (expressions required.now)) }
+    requires { length required.now ≤ 32 }
+    ensures { (result ≤ 32) × (expressions (take result out.new) ≡ shift_right_required columns (expressions required.now)) }
 {
     for (i, &key) in required.iter().enumerate() {
         if kind_of(key) != 0 || index_of(key) < columns {

@@ -15,8 +15,8 @@ use keys::reorder::expected_expr_positions;
 
 // The column that each group name stands for: kind 0, the name, its place.
 fn group_columns(groups: &[u64], out: &mut [u64; 32])
-    requires { (length groups.now ≤ 32) × (length out.old ≡ 32) × Below 65536 groups.now }
-    ensures { (length out.new ≡ 32) × (expressions (take (length groups.now) out.new) ≡ columns_from 0 groups.now) }
+    requires { (length groups.now ≤ 32) × Below 65536 groups.now }
+    ensures { expressions (take (length groups.now) out.new) ≡ columns_from 0 groups.now }
 {
     for (i, &name) in groups.iter().enumerate() {
         out[i] = name * 65536 + i as u64;

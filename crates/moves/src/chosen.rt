@@ -71,8 +71,8 @@ pub fn shifted_keys(
     columns: u64,
     out: &mut [u64; 32],
 ) -> usize
-    requires { (length required.now ≤ 32) × (length out.old ≡ 32) }
-    ensures { (length out.new ≡ 32) × (result ≤ 32) × (expressions (take result out.new) ≡ shifted_for first others columns (expressions required.now)) }
+    requires { length required.now ≤ 32 }
+    ensures { (result ≤ 32) × (expressions (take result out.new) ≡ shifted_for first others columns (expressions required.now)) }
 {
     if matches!(first, Handed::Shifted) || matches!(others, Handed::Shifted) {
         return shift_right_required(required, columns, out);
