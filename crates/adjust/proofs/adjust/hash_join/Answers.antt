@@ -7,11 +7,5 @@ use Rattle.keys.proofs.ByCode.{by_mode, mode_chosen}
 use Rattle.adjust.specs.Sheets.{sheet_of}
 use Rattle.adjust.proofs.adjust.hash_join.Goals as goal
 
-pub returns-in-Partitioned : goal.returns-in-Partitioned
-returns-in-Partitioned c = λ s cs. let t = sheet_of c.args.sheet.now s cs in c.reorder_partitioned_join_keys.ensures s cs ∙ ap (by_mode same_expr t) c.in-Partitioned.ensures ∙ mode_chosen same_expr t
-
-pub returns-in-CollectLeft : goal.returns-in-CollectLeft
-returns-in-CollectLeft c = λ s cs. let t = sheet_of c.args.sheet.now s cs in c.collect_left.ensures s cs ∙ ap (by_mode same_expr t) c.in-CollectLeft.ensures ∙ mode_chosen same_expr t
-
 pub returns-in-Auto : goal.returns-in-Auto
 returns-in-Auto c = λ s cs. let t = sheet_of c.args.sheet.now s cs in ap (λ a. adjusted_of t (Some a)) c.cleared.ensures ∙ ap (by_mode same_expr t) c.in-Auto.ensures ∙ mode_chosen same_expr t
