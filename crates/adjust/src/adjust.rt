@@ -8,13 +8,14 @@ ghost use Rattle.adjust.specs.Sheets.{IsDecided};
 use crate::aggregate::aggregate;
 use crate::sheet::Sheet;
 use keys::answer::{Adjusted, Handed, Outcome};
+use keys::codes::{HashMode, Join, Op};
 use keys::expr::{index_of, kind_of};
 use keys::reorder::try_reorder;
 
 // The index less `columns` in every key, into the room lent, and how many there are; none where one is no column or its index too small.
 pub fn shift_right_required(required: &[u64], columns: u64, out: &mut [u64; 32]) -> usize
-    requires { (length required.now ≤ 32) × (length out.old ≡ 32) }
-    ensures { (length out.new ≡ 32) × (result ≤ 32) × (expressions (take result out.new) ≡ shift_right_required columns (expressions required.now)) }
+    requires { length required.now ≤ 32 }
+    ensures { (result ≤ 32) × (expressions (take result out.new) ≡ shift_right_required columns (expressions required.now)) }
 {
     for (i, &key) in required.iter().enumerate() {
         if kind_of(key) != 0 || index_of(key) < columns {
@@ -35,10 +36,12 @@ fn cross_join(sheet: &Sheet<'_>) -> Adjusted
 fn collect_left(sheet: &Sheet<'_>) -> Adjusted
     ensures { IsDecided sheet.now (collect_left same_expr) (Some result) }
 {
-    match sheet.operator.join {
-        0 | 2 => cross_join(sheet),
-        5 | 7 | 9 => Adjusted::passed(Handed::Kept, Handed::Required),
-        _ => Adjusted::passed(Handed::Kept, Handed::Cleared),
+    match Join::from(sheet.operator.join) {
+        Join::Inner | Join::Right => cross_join(sheet),
+        Join::RightSemi | Join::RightAnti | Join::RightMark => {
+            Adjusted::passed(Handed::Kept, Handed::Required)
+        }
+        Join::Other => Adjusted::passed(Handed::Kept, Handed::Cleared),
     }
 }
 
@@ -58,10 +61,10 @@ pub fn reorder_partitioned_join_keys(sheet: &Sheet<'_>) -> Adjusted
 fn hash_join(sheet: &Sheet<'_>) -> Adjusted
     ensures { IsDecided sheet.now (hash_join same_expr) (Some result) }
 {
-    match sheet.operator.mode {
-        0 => reorder_partitioned_join_keys(sheet),
-        1 => collect_left(sheet),
-        _ => Adjusted::cleared(),
+    match HashMode::from(sheet.operator.mode) {
+        HashMode::Partitioned => reorder_partitioned_join_keys(sheet),
+        HashMode::CollectLeft => collect_left(sheet),
+        HashMode::Auto => Adjusted::cleared(),
     }
 }
 
@@ -84,17 +87,16 @@ fn other(sheet: &Sheet<'_>) -> Adjusted
 }
 
 // None where a group name is not found again among the reordered fields.
-#[tactic(auto, unfolding(keys::specs::Adjust::adjust_input_keys_ordering))]
 pub fn adjust_input_keys_ordering(sheet: &Sheet<'_>) -> Option<Adjusted>
     ensures { IsDecided sheet.now (adjust_input_keys_ordering same_expr) result }
 {
-    match sheet.operator.op {
-        0 => Some(hash_join(sheet)),
-        1 => Some(cross_join(sheet)),
-        2 => Some(reorder_partitioned_join_keys(sheet)),
-        3 => aggregate(sheet),
-        4 => Some(projection(sheet)),
-        5 => Some(Adjusted::cleared()),
-        _ => Some(other(sheet)),
+    match Op::from(sheet.operator.op) {
+        Op::HashJoin => Some(hash_join(sheet)),
+        Op::CrossJoin => Some(cross_join(sheet)),
+        Op::SortMergeJoin => Some(reorder_partitioned_join_keys(sheet)),
+        Op::Aggregate => aggregate(sheet),
+        Op::Projection => Some(projection(sheet)),
+        Op::Clearing => Some(Adjusted::cleared()),
+        Op::Other => Some(other(sheet)),
     }
 }

@@ -9,13 +9,14 @@ ghost use Rattle.adjust.specs.Sheets.{IsDecided};
 
 use crate::sheet::Sheet;
 use keys::answer::{Adjusted, Handed, Outcome};
+use keys::codes::AggregateMode;
 use keys::list::{NumberList, permute};
 use keys::reorder::expected_expr_positions;
 
 // The column that each group name stands for: kind 0, the name, its place.
 fn group_columns(groups: &[u64], out: &mut [u64; 32])
-    requires { (length groups.now ≤ 32) × (length out.old ≡ 32) × Below 65536 groups.now }
-    ensures { (length out.new ≡ 32) × (expressions (take (length groups.now) out.new) ≡ columns_from 0 groups.now) }
+    requires { (length groups.now ≤ 32) × Below 65536 groups.now }
+    ensures { expressions (take (length groups.now) out.new) ≡ columns_from 0 groups.now }
 {
     for (i, &name) in groups.iter().enumerate() {
         out[i] = name * 65536 + i as u64;
@@ -94,8 +95,8 @@ pub fn aggregate(sheet: &Sheet<'_>) -> Option<Adjusted>
     if sheet.required.is_empty() {
         return Some(Adjusted::unchanged());
     }
-    if sheet.operator.mode == 0 {
-        return reorder_aggregate_keys(sheet);
+    match AggregateMode::from(sheet.operator.mode) {
+        AggregateMode::FinalPartitioned => reorder_aggregate_keys(sheet),
+        AggregateMode::Other => Some(Adjusted::cleared()),
     }
-    Some(Adjusted::cleared())
 }

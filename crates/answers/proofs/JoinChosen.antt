@@ -10,14 +10,17 @@ use Rattle.keys.specs.declared.inputs.Attempt.{Attempt}
 use Rattle.sheet.specs.KeyAnswers.{join_answer_text}
 use Rattle.sheet.specs.Held.{held_at, held_join_sheet, JoinHeld}
 use Rattle.moves.specs.Chosen.{followed_or}
+use Rattle.moves.specs.declared.moved.MovedPairs.{MovedPairs}
 use Rattle.answers.specs.AnswerLists.{JoinFew, ReadyJoin}
 use Rattle.lines.specs.Texts.{join_lists_text}
+use Rattle.lines.specs.AnswerTexts.{join_text_of}
+use Rattle.lines.specs.declared.join_text.JoinLists.{JoinLists}
 use Rattle.lines.proofs.AnswerParts.{join_answer_text_lem}
 use Rattle.moves.proofs.Choices.{Short, moved_short, turned_short, followed_any}
 use Rattle.moves.proofs.HeldJoins.{join_few, join_even, join_directions}
 use Rattle.answers.proofs.JoinLists.{join_lists}
 
-module _ (lists : List (List ℕ)) (counts : List ℕ) (o : Attempt) (left right turned : List ℕ) where
+module _ (lists : List (List ℕ)) (counts : List ℕ) (o : Attempt) (m : MovedPairs) where
   abbrev ps : List ℕ
   ps = positions_by o
 
@@ -25,27 +28,28 @@ module _ (lists : List (List ℕ)) (counts : List ℕ) (o : Attempt) (left right
   At i = held_at lists counts i
 
   -- what was chosen, by the outcome
-  pub record JoinChosen (report followed : ℕ) (l g s : List ℕ) : Type 0 where
-    pub reports : report ≡ report_by o
-    pub follows : followed ≡ side_number (side_by o)
-    pub left_is : l ≡ followed_or o left (At 1)
-    pub right_is : g ≡ followed_or o right (At 2)
-    pub directions : s ≡ followed_or o turned (At 3)
+  pub record JoinChosen (x : JoinLists) : Type 0 where
+    pub reports : x.report ≡ report_by o
+    pub follows : x.followed ≡ side_number (side_by o)
+    pub positions : x.positions.now ≡ m.positions.now
+    pub left_is : x.left.now ≡ followed_or o m.left.now (At 1)
+    pub right_is : x.right.now ≡ followed_or o m.right.now (At 2)
+    pub directions : x.directions.now ≡ followed_or o m.directions.now (At 3)
 
-  module _ {report followed : ℕ} {l g s : List ℕ} (c : JoinChosen report followed l g s) (ready : ReadyJoin lists counts ps left right turned) where
-    pub join_short_lists : JoinHeld lists counts → JoinFew ps l g s
+  module _ {x : JoinLists} (c : JoinChosen x) (ready : ReadyJoin lists counts ps m) where
+    pub join_short_lists : JoinHeld lists counts → JoinFew x
     join_short_lists h =
         let second : Short (At 2) = omega (arith, join_few lists counts h, join_even lists counts h) in
         record {
-          positions = ready.positions;
-          left = rw c.left_is (followed_any Short o left (At 1) (rw ready.left (moved_short gone_number (At 1) ps ready.positions)) (join_few lists counts h));
-          right = rw c.right_is (followed_any Short o right (At 2) (rw ready.right (moved_short gone_number (At 2) ps ready.positions)) second);
-          directions = rw c.directions (followed_any Short o turned (At 3) (rw ready.directions (turned_short (At 3) ps ready.positions)) (join_directions lists counts h));
+          positions = rw (c.positions, ready.positions) ready.few;
+          left = rw c.left_is (followed_any Short o m.left.now (At 1) (rw ready.left (moved_short gone_number (At 1) ps ready.few)) (join_few lists counts h));
+          right = rw c.right_is (followed_any Short o m.right.now (At 2) (rw ready.right (moved_short gone_number (At 2) ps ready.few)) second);
+          directions = rw c.directions (followed_any Short o m.directions.now (At 3) (rw ready.directions (turned_short (At 3) ps ready.few)) (join_directions lists counts h));
         }
 
-    pub chosen_join_text : join_lists_text report followed ps l g s ≡ join_answer_text (attempt_of (held_join_sheet lists counts) o)
+    pub chosen_join_text : join_text_of x ≡ join_answer_text (attempt_of (held_join_sheet lists counts) o)
     chosen_join_text =
-        (λ i. join_lists_text (c.reports i) (c.follows i) ps
+        (λ i. join_lists_text (c.reports i) (c.follows i) ((c.positions ∙ ready.positions) i)
         ((c.left_is ∙ ap (λ (ks : List ℕ). followed_or o ks (At 1)) ready.left) i) ((c.right_is ∙ ap (λ (ks : List ℕ). followed_or o ks (At 2)) ready.right) i)
         ((c.directions ∙ ap (λ (ds : List ℕ). followed_or o ds (At 3)) ready.directions) i))
         ∙ sym (join_answer_text_lem _ _ _ _ _ _ _ (join_lists lists counts o))

@@ -1,7 +1,7 @@
 -- The lists of a K sheet's answer, by what was decided.
 -- Assumes nothing.
 use Prim.Native.Nat.{ℕ, zero, suc, ◌≤◌}
-use mathlib.Core.Path.{◌≡◌, refl, ap, ◌∙◌}
+use mathlib.Core.Path.{◌≡◌, refl, ap, sym, ◌∙◌}
 use mathlib.Core.Bool.{Bool, true, false, cond}
 use mathlib.Core.List.{List, []}
 use native.Mathlib.Omega.{arith}
@@ -9,21 +9,22 @@ use lib.ListN.{length, get_or}
 use Rattle.std.specs.Prelude.{Option, Some, None}
 use Rattle.keys.specs.Lists.{permute}
 use Rattle.keys.specs.Expressions.{Expression, placeholder, gone_number, expressions}
-use Rattle.keys.specs.Adjust.{KeySheet, KeyAnswer, Adjustment, hand_over, moved_directions}
+use Rattle.keys.specs.Adjust.{KeySheet, KeyAnswer, Adjustment, hand_over, moved_directions, shift_right_required}
 use Rattle.keys.specs.Answers.{changed_by, reported_by, moved_or, handed, side_by, answer_by, answer_of, adjusted_of}
 use Rattle.keys.specs.declared.reorder.Reordered.TheVariants.{Met, Moved, Impossible}
 use Rattle.keys.specs.declared.answer.Handed.{Handed}
+use Rattle.keys.specs.declared.answer.Handed.TheVariants.{Kept, Cleared, Required, Keys, Shifted, Mapped}
 use Rattle.keys.specs.declared.answer.Outcome.{Outcome}
 use Rattle.keys.specs.declared.answer.Outcome.TheVariants.{Unchanged, Passed, Tried, Regrouped}
 use Rattle.keys.specs.declared.answer.Adjusted.{Adjusted}
 use Rattle.keys.proofs.Packed.{permute_expressions}
 use Rattle.sheet.specs.KeyAnswers.{refused, wrote, key_answer_text, adjusted}
 use Rattle.sheet.specs.Held.{held_at, expr_lists, child_count, held_key_sheet, KeyHeld}
-use Rattle.moves.specs.Chosen.{keeps_by, handed_list, shifted_for}
+use Rattle.moves.specs.Chosen.{handed_list, shifted_for}
 use Rattle.lines.specs.Children.{chosen}
 use Rattle.answers.specs.AnswerLists.{held_projection}
 use Rattle.lines.proofs.AnswerParts.{KeyLists}
-use Rattle.moves.proofs.Choices.{ShiftedBy, shifted_first, shifted_others, handed_is}
+use Rattle.moves.proofs.Choices.{ShiftedBy, shifted_first, shifted_others}
 
 moved_packed : (o : Outcome) (moved stood : List ℕ) → moved_or o (expressions moved) (expressions stood) ≡ expressions (moved_or o moved stood)
 moved_packed Unchanged moved stood = refl
@@ -36,6 +37,16 @@ moved_packed (Regrouped at places) moved stood = refl
 cleared_packed : (b : Bool) (r : List ℕ) → cond b [] (expressions r) ≡ expressions (cond b [] r)
 cleared_packed true r = refl
 cleared_packed false r = refl
+
+pub handed_is :
+    (s : KeySheet) (side' : List Expression) (r side k m : List ℕ) → s.required ≡ expressions r → side' ≡ expressions side → s.mapped ≡ expressions m →
+    (h : Handed) → ShiftedBy h s.columns r k → (c : List Expression) → handed s side' h c ≡ chosen (handed_list h r side k m) c
+handed_is s side' r side k m p q u Kept t c = refl
+handed_is s side' r side k m p q u Cleared t c = refl
+handed_is s side' r side k m p q u Required t c = p
+handed_is s side' r side k m p q u Keys t c = q
+handed_is s side' r side k m p q u Shifted t c = ap (shift_right_required s.columns) p ∙ sym (t refl)
+handed_is s side' r side k m p q u Mapped t c = u
 
 module _ (lists : List (List ℕ)) (counts : List ℕ) where
   abbrev At : ℕ → List ℕ
@@ -80,12 +91,12 @@ module _ (lists : List (List ℕ)) (counts : List ℕ) where
     pub key_handed :
         (k : List ℕ) → expressions k ≡ shifted_for first others (get_or (At 0) 3 0) (expressions (At 1)) →
         the_answer.children ≡
-        hand_over (chosen (keeps_by first) (handed_list first (At 1) (side 2) k (At 8))) (chosen (keeps_by others) (handed_list others (At 1) (side 3) k (At 8))) (expr_lists lists counts 9 (child_count lists counts))
+        hand_over (chosen (handed_list first (At 1) (side 2) k (At 8))) (chosen (handed_list others (At 1) (side 3) k (At 8))) (expr_lists lists counts 9 (child_count lists counts))
     unfolding held_key_sheet
     key_handed k t =
         let s = held_key_sheet lists counts in
         let child : (i : ℕ) (h : Handed) → ShiftedBy h (get_or (At 0) 3 0) (At 1) k → (c : List Expression) →
-        handed s (side_by s o cleared first others ps places (expressions (At i))) h c ≡ chosen (keeps_by h) (handed_list h (At 1) (side i) k (At 8)) c
+        handed s (side_by s o cleared first others ps places (expressions (At i))) h c ≡ chosen (handed_list h (At 1) (side i) k (At 8)) c
         = λ i h d c. handed_is s (side_by s o cleared first others ps places (expressions (At i))) (At 1) (side i) k (At 8) refl (side_packed i) refl h d c in
         λ j. hand_over (λ c. child 2 first (shifted_first first others (get_or (At 0) 3 0) (At 1) k t) c j) (λ c. child 3 others (shifted_others first others (get_or (At 0) 3 0) (At 1) k t) c j) (expr_lists lists counts 9 (child_count lists counts))
 

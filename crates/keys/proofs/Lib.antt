@@ -29,3 +29,4 @@ pub mod InputMarks
 pub mod InputTurns
 pub mod InputLists
 pub mod Few
+pub mod ByCode

@@ -9,3 +9,4 @@ pub mod Searched
 pub mod Answers
 pub mod Kept
 pub mod InputValues
+pub mod Codes

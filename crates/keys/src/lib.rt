@@ -2,6 +2,7 @@
 #![tactic(auto)]
 
 pub mod answer;
+pub mod codes;
 pub mod expr;
 pub mod inputs;
 pub mod list;

@@ -116,8 +116,8 @@ pub fn entry(gone: u64, all: &[u64], p: u8) -> u64
 
 // The numbers at the positions, in the front of the room lent; `gone` where nothing stands.
 pub fn permute(gone: u64, all: &[u64], at: &[u8], out: &mut [u64; 32])
-    requires { (length at.now ≤ 32) × (length out.old ≡ 32) }
-    ensures { (length out.new ≡ 32) × (take (length at.now) out.new ≡ permute gone all.now at.now) }
+    requires { length at.now ≤ 32 }
+    ensures { take (length at.now) out.new ≡ permute gone all.now at.now }
 {
     for (i, &p) in at.iter().enumerate() {
         out[i] = entry(gone, all, p);

@@ -49,8 +49,8 @@ fn rewrite_one(w: &[[u64; 2]], x: u64) -> u64
 }
 
 fn rewrite_keys(w: &[[u64; 2]], keys: &[u64], out: &mut [u64; 32])
-    requires { (length keys.now ≤ 32) × (length out.old ≡ 32) }
-    ensures { (length out.new ≡ 32) × (take (length keys.now) out.new ≡ rewrite eqb (number_rules w.now) keys.now) }
+    requires { length keys.now ≤ 32 }
+    ensures { take (length keys.now) out.new ≡ rewrite eqb (number_rules w.now) keys.now }
 {
     for (i, &key) in keys.iter().enumerate() {
         out[i] = rewrite_one(w, key);

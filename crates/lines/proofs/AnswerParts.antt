@@ -2,7 +2,7 @@
 -- Assumes nothing.
 use mathlib.Core.Path.{◌≡◌, ap, ◌∙◌}
 use mathlib.Core.List.{List, [], ◌∷◌, ◌++◌, append_assoc, append-nil}
-use mathlib.Core.Bool.{Bool}
+use Rattle.std.specs.Prelude.{Option}
 use Prim.Native.Nat.{ℕ, ◌+◌}
 use lib.ListN.{length, length-append}
 use Rattle.keys.specs.Expressions.{Expression, expressions}
@@ -38,11 +38,11 @@ key_answer_text_lem a changed report p r l g s j h =
 -- where each child's list is kept or replaced, the lines of the children are those that are written from what is held
 pub key_answer_held :
     (a : KeyAnswer) (changed report : ℕ) (p r l g s j : List ℕ) → KeyLists a changed report p r l g s j →
-    (firstKept : Bool) (first : List ℕ) (kept : Bool) (others : List ℕ) (lists : List (List ℕ)) (counts : List ℕ) (n : ℕ) →
-    a.children ≡ hand_over (chosen firstKept first) (chosen kept others) (expr_lists lists counts 9 n) →
-    key_answer_text a ≡ key_lists_text changed report p r l g s j ++ children_text firstKept first kept others lists counts n
-key_answer_held a changed report p r l g s j h firstKept first kept others lists counts n e =
-    rw (children_text_lem firstKept first kept others lists counts n)
+    (first others : Option (List ℕ)) (lists : List (List ℕ)) (counts : List ℕ) (n : ℕ) →
+    a.children ≡ hand_over (chosen first) (chosen others) (expr_lists lists counts 9 n) →
+    key_answer_text a ≡ key_lists_text changed report p r l g s j ++ children_text first others lists counts n
+key_answer_held a changed report p r l g s j h first others lists counts n e =
+    rw (children_text_lem first others lists counts n)
     (key_answer_text_lem a changed report p r l g s j h ∙ ap (λ (cs : List (List Expression)). key_lists_text changed report p r l g s j ++ child_lines cs) e)
 
 module _ (changed report : ℕ) (p r l g s j : List ℕ) where

@@ -2,7 +2,7 @@
 -- Assumes nothing.
 use mathlib.Core.Path.{◌≡◌, refl, ap, ◌∙◌}
 use mathlib.Core.List.{List, [], ◌∷◌, ◌++◌, map, append_assoc}
-use Prim.Native.Nat.{ℕ, zero, suc, ◌-◌}
+use Prim.Native.Nat.{ℕ, zero, suc, ◌+◌, ◌-◌, ◌≤◌}
 use native.Mathlib.Omega.{arith}
 use lib.ListN.{length, take, drop, length-drop}
 use lib.Seq.{take_all}
@@ -16,7 +16,7 @@ use Rattle.linekinds.specs.declared.kind.Codes.TheVariants as C
 use Rattle.linekinds.specs.declared.lists.SheetKind.{SheetKind}
 use Rattle.sheet.specs.KeyAnswers.{numbers_line, expr_numbers}
 use Rattle.sheet.specs.Held.{held_at, field_numbers, held_text}
-use Rattle.lines.proofs.Pieces.{pieces, joined}
+use Rattle.lines.proofs.Pieces.{pieces, joined, Due, due_all}
 
 -- the letter, the mark, the expressions, the LF
 pub input_parts :
@@ -29,6 +29,12 @@ input_parts letter ns =
     let b = expr_numbers (expressions (drop 1 ns)) in
     ap (λ (t : List ℕ). letter ∷ (t ++ (10 ∷ []))) (ap fields_text (map-append number a b) ∙ fields_append (map number a) (map number b))
     ∙ ap (λ (t : List ℕ). letter ∷ t) (append_assoc (fields_text (map number a)) (fields_text (map number b)) (10 ∷ []))
+
+pub input_due :
+    {out : List ℕ} {at : ℕ} (letter : ℕ) (ns : List ℕ) → at + length (numbers_line letter (field_numbers C.Input ns)) ≤ length out →
+    Due out at (numbers_line letter (field_numbers C.Input ns)) out at
+    ((letter ∷ []) ∷ fields_text (map number (take 1 ns)) ∷ fields_text (map number (expr_numbers (expressions (drop 1 ns)))) ∷ (10 ∷ []) ∷ [])
+input_due letter ns h = due_all _ _ (input_parts letter ns) h
 
 -- where there is no mark there is nothing
 pub input_none : (ns : List ℕ) → length ns ≡ 0 → field_numbers C.Input ns ≡ ns

@@ -2,7 +2,7 @@
 -- Assumes nothing.
 use mathlib.Core.Path.{◌≡◌, refl, sym, ap, ◌∙◌}
 use mathlib.Core.List.{List, [], ◌∷◌, ◌++◌, map, append_assoc, append-nil}
-use Prim.Native.Nat.{ℕ, ◌+◌}
+use Prim.Native.Nat.{ℕ, ◌+◌, ◌≤◌}
 use native.Mathlib.Omega.{arith}
 use lib.ListN.{length, get_or, length-append}
 use Rattle.text.specs.declared.field.Field.{Field}
@@ -10,9 +10,9 @@ use Rattle.text.specs.declared.field.Field.TheVariants.{Number as number}
 use Rattle.text.specs.Write.{decimal, field_text, fields_text, line_text}
 use Rattle.text.proofs.Lengths.{line_length}
 use Rattle.keys.specs.Expressions.{expression, expressions}
-use Rattle.sheet.specs.KeyAnswers.{numbers_line, expr_numbers}
+use Rattle.sheet.specs.KeyAnswers.{numbers_line, expr_numbers, exprs_line}
 use Rattle.lines.specs.Fields.{number_field, expr_fields}
-use Rattle.lines.proofs.Pieces.{pieces, joined, pieces_later}
+use Rattle.lines.proofs.Pieces.{pieces, joined, pieces_later, Due, due_all}
 
 -- a piece for each entry
 abbrev pub listed : (ℕ → List ℕ) → List ℕ → List ℕ
@@ -67,3 +67,25 @@ pair_parts letter a b =
 pub expr_parts : (e : ℕ) → expr_fields e ≡ joined (number_field (expression e).kind ∷ number_field (expression e).name ∷ number_field (expression e).index ∷ [])
 unfolding expr_fields
 expr_parts e = rw (append-nil (number_field (expression e).index))
+
+-- the letter, the fields, the LF are to be written
+module _ {out : List ℕ} {at : ℕ} (letter : ℕ) (list : List ℕ) where
+  pub numbers_due :
+      at + length (numbers_line letter list) ≤ length out →
+      Due out at (numbers_line letter list) out at ((letter ∷ []) ∷ fields_text (map number list) ∷ (10 ∷ []) ∷ [])
+  numbers_due h = due_all out at (line_parts letter (map number list)) h
+
+  pub exprs_due :
+      at + length (exprs_line letter (expressions list)) ≤ length out →
+      Due out at (exprs_line letter (expressions list)) out at ((letter ∷ []) ∷ fields_text (map number (expr_numbers (expressions list))) ∷ (10 ∷ []) ∷ [])
+  exprs_due h = due_all out at (line_parts letter (map number (expr_numbers (expressions list)))) h
+
+pub pair_due :
+    {out : List ℕ} {at : ℕ} (letter a b : ℕ) → at + length (numbers_line letter (a ∷ b ∷ [])) ≤ length out →
+    Due out at (numbers_line letter (a ∷ b ∷ [])) out at ((letter ∷ []) ∷ number_field a ∷ number_field b ∷ (10 ∷ []) ∷ [])
+pair_due letter a b h = due_all _ _ (pair_parts letter a b) h
+
+pub expr_due :
+    {out : List ℕ} {at : ℕ} (e : ℕ) → at + length (expr_fields e) ≤ length out →
+    Due out at (expr_fields e) out at (number_field (expression e).kind ∷ number_field (expression e).name ∷ number_field (expression e).index ∷ [])
+expr_due e h = due_all _ _ (expr_parts e) h

@@ -15,13 +15,11 @@ pub fn numbers_length(list: &[u64]) -> usize
     ensures exact { (letter : ℕ) → result ≡ length (numbers_line letter list.now) }
     ensures few { result ≤ 4096 }
 {
-    let mut n: usize = 2;
-    let mut i: usize = 0;
-    while i < list.len() {
-        n += 1 + number_length(list[i]);
-        i += 1;
+    let mut length = 2;
+    for &n in list {
+        length += 1 + number_length(n);
     }
-    n
+    length
 }
 
 // The length of a line of two numbers.
@@ -46,13 +44,11 @@ pub fn exprs_length(list: &[u64]) -> usize
     ensures exact { (letter : ℕ) → result ≡ length (exprs_line letter (expressions list.now)) }
     ensures few { result ≤ 4096 }
 {
-    let mut n: usize = 2;
-    let mut i: usize = 0;
-    while i < list.len() {
-        n += expr_length(list[i]);
-        i += 1;
+    let mut length = 2;
+    for &e in list {
+        length += expr_length(e);
     }
-    n
+    length
 }
 
 // A number, and a comma before it.
@@ -70,10 +66,8 @@ pub fn put_number_fields(out: &mut [u8], at: usize, list: &[u64]) -> usize
     ensures { Wrote out.old at (fields_text (map number list.now)) out.new result }
 {
     let mut p = at;
-    let mut i: usize = 0;
-    while i < list.len() {
-        p = put_number_field(out, p, list[i]);
-        i += 1;
+    for &n in list {
+        p = put_number_field(out, p, n);
     }
     p
 }
@@ -93,10 +87,8 @@ pub fn put_expr_fields(out: &mut [u8], at: usize, list: &[u64]) -> usize
     ensures { Wrote out.old at (fields_text (map number (expr_numbers (expressions list.now)))) out.new result }
 {
     let mut p = at;
-    let mut i: usize = 0;
-    while i < list.len() {
-        p = put_expr(out, p, list[i]);
-        i += 1;
+    for &e in list {
+        p = put_expr(out, p, e);
     }
     p
 }

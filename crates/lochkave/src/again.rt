@@ -17,6 +17,7 @@ use lines::sheet_text::put_sheet;
 use plananswer::sheet_text::put_plan_sheet;
 use plansheet::plan::read_plan;
 use refusals::Refusal;
+use sheet::held::Lists;
 use sheet::sheets::{read_join_sheet, read_key_sheet};
 
 // The sheet that is held, at the front of the output, where there is room for its bytes.
@@ -24,19 +25,18 @@ fn put_again(
     bytes: usize,
     kind: SheetKind,
     n: usize,
-    lists: &[[u64; 64]],
-    counts: &[usize],
+    held: Lists,
     out: &mut [u8],
 ) -> u64
-    requires lines { (n ≤ length lists.now) × (n ≤ length counts.now) }
-    requires counts { (i : ℕ) → i < n → get_or counts.now i 0 ≤ 64 }
-    requires bytes { bytes ≡ length (held_text kind lists.now counts.now 0 n) }
-    ensures { Gives (within (length out.old) (wrote (held_text kind lists.now counts.now 0 n))) result out.old out.new }
+    requires lines { (n ≤ length held.lists.now) × (n ≤ length held.counts.now) }
+    requires counts { (i : ℕ) → i < n → get_or held.counts.now i 0 ≤ 64 }
+    requires bytes { bytes ≡ length (held_text kind held.lists.now held.counts.now 0 n) }
+    ensures { Gives (within (length out.old) (wrote (held_text kind held.entry.lists.now held.entry.counts.now 0 n))) result out.old out.new }
 {
     if out.len() < bytes {
         return Refusal::OutputTooShort.on_line(0).word();
     }
-    put_sheet(out, kind, n, lists, counts) as u64
+    put_sheet(out, kind, n, held) as u64
 }
 
 pub(crate) fn rewrite_key_sheet(sheet: &[u8], out: &mut [u8]) -> u64
@@ -50,7 +50,11 @@ pub(crate) fn rewrite_key_sheet(sheet: &[u8], out: &mut [u8]) -> u64
         Err(refused) => refused.word(),
         Ok(()) => {
             let n = 9 + lists[0][6] as usize;
-            put_again(sheet.len(), SheetKind::Key, n, &lists, &counts, out)
+            let held = Lists {
+                lists: &lists,
+                counts: &counts,
+            };
+            put_again(sheet.len(), SheetKind::Key, n, held, out)
         }
     }
 }
@@ -64,7 +68,13 @@ pub(crate) fn rewrite_join_sheet(sheet: &[u8], out: &mut [u8]) -> u64
     let mut counts = [0usize; 8];
     match read_join_sheet(sheet, &mut rows, &mut lists, &mut counts) {
         Err(refused) => refused.word(),
-        Ok(()) => put_again(sheet.len(), SheetKind::Join, 8, &lists, &counts, out),
+        Ok(()) => {
+            let held = Lists {
+                lists: &lists,
+                counts: &counts,
+            };
+            put_again(sheet.len(), SheetKind::Join, 8, held, out)
+        }
     }
 }
 

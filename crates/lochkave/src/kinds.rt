@@ -6,6 +6,7 @@ ghost use Rattle.lochkave.specs.Entry.{adjust_outcome, inputs_outcome};
 
 use answers::join::answer_join_sheet;
 use answers::key::answer_key_sheet;
+use sheet::held::Lists;
 use sheet::sheets::{read_join_sheet, read_key_sheet};
 
 // So many bytes of output suffice for every answer.
@@ -27,7 +28,11 @@ pub(crate) fn adjust_in(
         Err(refused) => refused.word(),
         Ok(()) => {
             let roomy = out.len() >= ANSWER_MOST;
-            answer_key_sheet(roomy, &*lists, &counts, fields, out)
+            let held = Lists {
+                lists: &*lists,
+                counts: &counts,
+            };
+            answer_key_sheet(roomy, held, fields, out)
         }
     }
 }
@@ -49,7 +54,11 @@ pub(crate) fn follow_in(
         Err(refused) => refused.word(),
         Ok(()) => {
             let roomy = out.len() >= ANSWER_MOST;
-            answer_join_sheet(roomy, &*lists, &counts, fields, rules, out)
+            let held = Lists {
+                lists: &*lists,
+                counts: &counts,
+            };
+            answer_join_sheet(roomy, held, fields, rules, out)
         }
     }
 }

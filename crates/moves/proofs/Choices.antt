@@ -1,17 +1,18 @@
 -- The list that was chosen is the one that stands on the answer.
 -- Assumes nothing.
 use Prim.Native.Nat.{ℕ, ◌≤◌}
-use mathlib.Core.Path.{◌≡◌, refl, ap, sym, ◌∙◌}
+use mathlib.Core.Path.{◌≡◌, refl}
 use mathlib.Core.Bool.{Bool, true, false, cond}
 use mathlib.Core.List.{List, []}
-use Rattle.keys.specs.Expressions.{Expression, expressions}
-use Rattle.keys.specs.Adjust.{KeySheet, moved_directions, shift_right_required}
+use Rattle.keys.specs.Expressions.{expressions}
+use Rattle.keys.specs.Adjust.{moved_directions, shift_right_required}
 use native.Mathlib.Omega.{arith}
 use lib.ListN.{length, get_or, take, length-map, length-take}
+use Rattle.std.specs.Prelude.{IfSome}
 use Rattle.keys.specs.Lists.{permute}
 use Rattle.keys.specs.declared.inputs.Attempt.{Attempt}
 use Rattle.keys.specs.declared.inputs.Attempt.TheVariants.{Untried, Followed, Failed}
-use Rattle.keys.specs.Answers.{moved_or, handed}
+use Rattle.keys.specs.Answers.{moved_or}
 use Rattle.keys.specs.declared.reorder.Reordered.{Reordered}
 use Rattle.keys.specs.declared.reorder.Reordered.TheVariants.{Met, Moved, Impossible}
 use Rattle.keys.specs.declared.answer.Handed.{Handed}
@@ -19,7 +20,7 @@ use Rattle.keys.specs.declared.answer.Handed.TheVariants.{Kept, Cleared, Require
 use Rattle.keys.specs.declared.answer.Outcome.{Outcome}
 use Rattle.keys.specs.declared.answer.Outcome.TheVariants.{Unchanged, Passed, Tried, Regrouped}
 use Rattle.keys.proofs.Truths.{or_first, or_second}
-use Rattle.moves.specs.Chosen.{tried_or, followed_or, keeps_by, handed_list, shifts_by, shifted_for}
+use Rattle.moves.specs.Chosen.{tried_or, followed_or, handed_list, shifts_by, shifted_for}
 
 pub tried_is : {A : Type 0} (o : Reordered) (moved stood : A) → tried_or o moved stood ≡ moved_or (Tried o) moved stood
 tried_is Met moved stood = refl
@@ -36,16 +37,6 @@ module _ (first others : Handed) (columns : ℕ) (r k : List ℕ) (e : expressio
 
   pub shifted_others : ShiftedBy others columns r k
   shifted_others h = rw (or_second (shifts_by first) (shifts_by others) h) at e
-
-pub handed_is :
-    (s : KeySheet) (side' : List Expression) (r side k m : List ℕ) → s.required ≡ expressions r → side' ≡ expressions side → s.mapped ≡ expressions m →
-    (h : Handed) → ShiftedBy h s.columns r k → (c : List Expression) → handed s side' h c ≡ cond (keeps_by h) c (expressions (handed_list h r side k m))
-handed_is s side' r side k m p q u Kept t c = refl
-handed_is s side' r side k m p q u Cleared t c = refl
-handed_is s side' r side k m p q u Required t c = p
-handed_is s side' r side k m p q u Keys t c = q
-handed_is s side' r side k m p q u Shifted t c = ap (shift_right_required s.columns) p ∙ sym (t refl)
-handed_is s side' r side k m p q u Mapped t c = u
 
 -- a list that a line has room for
 abbrev pub Short : List ℕ → Type 0
@@ -72,8 +63,8 @@ module _ (P : List ℕ → Type 0) where
   moved_any (Tried Impossible) moved stood m s = s
   moved_any (Regrouped at places) moved stood m s = s
 
-  pub handed_any : (h : Handed) (r side k m : List ℕ) → P [] → P r → P side → P k → P m → P (handed_list h r side k m)
-  handed_any Kept r side k m n p q t u = n
+  pub handed_any : (h : Handed) (r side k m : List ℕ) → P [] → P r → P side → P k → P m → IfSome (handed_list h r side k m) P
+  handed_any Kept r side k m n p q t u = tt
   handed_any Cleared r side k m n p q t u = n
   handed_any Required r side k m n p q t u = p
   handed_any Keys r side k m n p q t u = q

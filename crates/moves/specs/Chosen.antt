@@ -1,5 +1,5 @@
 -- Which list goes on an answer, by what was decided.
-use Rattle.std.specs.Prelude.{ℕ, Bool, true, false, cond, ◌||◌, List, []}
+use Rattle.std.specs.Prelude.{ℕ, Bool, true, false, cond, ◌||◌, List, [], Option, Some, None}
 use Rattle.keys.specs.Expressions.{Expression}
 use Rattle.keys.specs.Adjust.{shift_right_required}
 use Rattle.keys.specs.declared.reorder.Reordered.{Reordered}
@@ -21,23 +21,14 @@ followed_or Untried moved stood = stood
 followed_or (Followed side o) moved stood = tried_or o moved stood
 followed_or Failed moved stood = stood
 
--- the child keeps its list
-abbrev pub keeps_by : Handed → Bool
-keeps_by Kept = true
-keeps_by Cleared = false
-keeps_by Required = false
-keeps_by Keys = false
-keeps_by Shifted = false
-keeps_by Mapped = false
-
--- the list that a child is handed, where it does not keep its own
-abbrev pub handed_list : Handed → List ℕ → List ℕ → List ℕ → List ℕ → List ℕ
-handed_list Kept required side shifted mapped = []
-handed_list Cleared required side shifted mapped = []
-handed_list Required required side shifted mapped = required
-handed_list Keys required side shifted mapped = side
-handed_list Shifted required side shifted mapped = shifted
-handed_list Mapped required side shifted mapped = mapped
+-- the list that a child is handed; none where it keeps its own
+abbrev pub handed_list : Handed → List ℕ → List ℕ → List ℕ → List ℕ → Option (List ℕ)
+handed_list Kept required side shifted mapped = None
+handed_list Cleared required side shifted mapped = Some []
+handed_list Required required side shifted mapped = Some required
+handed_list Keys required side shifted mapped = Some side
+handed_list Shifted required side shifted mapped = Some shifted
+handed_list Mapped required side shifted mapped = Some mapped
 
 -- the child is handed R shifted
 abbrev pub shifts_by : Handed → Bool

@@ -1,8 +1,8 @@
 // Which list goes on an answer.
-ghost use Rattle.std.specs.Prelude.{◌≡◌, cond, ◌||◌, [], ◌≤◌, length, take};
+ghost use Rattle.std.specs.Prelude.{◌≡◌, cond, [], ◌≤◌, length, take, option_copied};
 ghost use Rattle.keys.specs.Expressions.{expressions};
 ghost use Rattle.keys.specs.Answers.{moved_or};
-ghost use Rattle.moves.specs.Chosen.{followed_or, keeps_by, handed_list, shifted_for};
+ghost use Rattle.moves.specs.Chosen.{tried_or, followed_or, handed_list, shifted_for};
 
 use adjust::adjust::shift_right_required;
 use keys::answer::{Handed, Outcome};
@@ -10,12 +10,21 @@ use keys::inputs::Attempt;
 use keys::reorder::Reordered;
 
 // The keys that moved, or those that stood.
+fn tried_or<'a>(tried: &Reordered, moved: &'a [u64], stood: &'a [u64]) -> &'a [u64]
+    ensures { result.now ≡ tried_or tried.now moved.now stood.now }
+{
+    let Reordered::Moved(_) = tried else {
+        return stood;
+    };
+    moved
+}
+
 pub fn moved_or<'a>(o: &Outcome, moved: &'a [u64], stood: &'a [u64]) -> &'a [u64]
     ensures { result.now ≡ moved_or o.now moved.now stood.now }
 {
     match o {
-        Outcome::Tried(Reordered::Moved(_)) => moved,
-        _ => stood,
+        Outcome::Tried(tried) => tried_or(tried, moved, stood),
+        Outcome::Unchanged | Outcome::Passed | Outcome::Regrouped { .. } => stood,
     }
 }
 
@@ -23,8 +32,8 @@ pub fn followed_or<'a>(o: &Attempt, moved: &'a [u64], stood: &'a [u64]) -> &'a [
     ensures { result.now ≡ followed_or o.now moved.now stood.now }
 {
     match o {
-        Attempt::Followed(_, Reordered::Moved(_)) => moved,
-        _ => stood,
+        Attempt::Followed(_, tried) => tried_or(tried, moved, stood),
+        Attempt::Untried | Attempt::Failed => stood,
     }
 }
 
@@ -34,28 +43,23 @@ pub fn cleared_or<'a>(cleared: bool, r: &'a [u64]) -> &'a [u64]
     if cleared { &[] } else { r }
 }
 
-pub fn keeps(h: Handed) -> bool
-    ensures { result ≡ keeps_by h }
-{
-    matches!(h, Handed::Kept)
-}
-
-// The list that a child is handed; nothing where it keeps its own.
+// The list that a child is handed; none where it keeps its own.
 pub fn handed_list<'a>(
     h: Handed,
     required: &'a [u64],
     side: &'a [u64],
     shifted: &'a [u64],
     mapped: &'a [u64],
-) -> &'a [u64]
-    ensures { result.now ≡ handed_list h required.now side.now shifted.now mapped.now }
+) -> Option<&'a [u64]>
+    ensures { option_copied result ≡ handed_list h required.now side.now shifted.now mapped.now }
 {
     match h {
-        Handed::Kept | Handed::Cleared => &[],
-        Handed::Required => required,
-        Handed::Keys => side,
-        Handed::Shifted => shifted,
-        Handed::Mapped => mapped,
+        Handed::Kept => None,
+        Handed::Cleared => Some(&[]),
+        Handed::Required => Some(required),
+        Handed::Keys => Some(side),
+        Handed::Shifted => Some(shifted),
+        Handed::Mapped => Some(mapped),
     }
 }
 
@@ -67,8 +71,8 @@ pub fn shifted_keys(
     columns: u64,
     out: &mut [u64; 32],
 ) -> usize
-    requires { (length required.now ≤ 32) × (length out.old ≡ 32) }
-    ensures { (length out.new ≡ 32) × (result ≤ 32) × (expressions (take result out.new) ≡ shifted_for first others columns (expressions required.now)) }
+    requires { length required.now ≤ 32 }
+    ensures { (result ≤ 32) × (expressions (take result out.new) ≡ shifted_for first others columns (expressions required.now)) }
 {
     if matches!(first, Handed::Shifted) || matches!(others, Handed::Shifted) {
         return shift_right_required(required, columns, out);

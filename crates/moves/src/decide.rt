@@ -13,7 +13,7 @@ use inputs::current::join_keys_to_inputs;
 use inputs::sheet::{Input, Inputs};
 use keys::answer::{Adjusted, Operator};
 use keys::inputs::Attempt;
-use sheet::held::held;
+use sheet::held::Lists;
 
 // Every two numbers a row.
 fn rule_rows(list: &[u64], rows: &mut [[u64; 2]]) -> usize
@@ -43,47 +43,42 @@ fn operator(h: &[u64]) -> Operator
 }
 
 // R, L, G, W, O, A and M of a K sheet; W as rows in the room lent.
-pub fn adjust(lists: &[[u64; 64]], counts: &[usize], rules: &mut [[u64; 2]]) -> Option<Adjusted>
-    requires { KeyHeld lists.now counts.now × (32 ≤ length rules.old) }
-    ensures { let s = held_key_sheet lists.now counts.now in adjusted_of s result ≡ adjust_input_keys_ordering same_expr s }
+pub fn adjust(held: Lists<'_>, rules: &mut [[u64; 2]]) -> Option<Adjusted>
+    requires { KeyHeld held.lists.now held.counts.now × (32 ≤ length rules.old) }
+    ensures { let s = held_key_sheet held.entry.lists.now held.entry.counts.now in adjusted_of s result ≡ adjust_input_keys_ordering same_expr s }
 {
-    let n = rule_rows(held(lists, counts, 5), rules);
+    let n = rule_rows(held.list(5), rules);
     adjust_input_keys_ordering(&Sheet {
-        operator: operator(held(lists, counts, 0)),
-        required: held(lists, counts, 1),
-        left: held(lists, counts, 2),
-        right: held(lists, counts, 3),
+        operator: operator(held.list(0)),
+        required: held.list(1),
+        left: held.list(2),
+        right: held.list(3),
         rewriting: &rules[..n],
-        groups: held(lists, counts, 6),
-        aggregates: held(lists, counts, 7),
-        mapped: held(lists, counts, 8),
+        groups: held.list(6),
+        aggregates: held.list(7),
+        mapped: held.list(8),
     })
 }
 
 // Op, mode, L, G, H and N of an I sheet; W and V as rows in the rooms lent.
-pub fn follow(
-    lists: &[[u64; 64]],
-    counts: &[usize],
-    w: &mut [[u64; 2]],
-    v: &mut [[u64; 2]],
-) -> Attempt
-    requires { JoinHeld lists.now counts.now × (32 ≤ length w.old) × (32 ≤ length v.old) }
-    ensures { let s = held_join_sheet lists.now counts.now in attempt_of s result ≡ reorder_join_keys_to_inputs s same_expr }
+pub fn follow(held: Lists<'_>, w: &mut [[u64; 2]], v: &mut [[u64; 2]]) -> Attempt
+    requires { JoinHeld held.lists.now held.counts.now × (32 ≤ length w.old) × (32 ≤ length v.old) }
+    ensures { let s = held_join_sheet held.entry.lists.now held.entry.counts.now in attempt_of s result ≡ reorder_join_keys_to_inputs s same_expr }
 {
-    let head = held(lists, counts, 0);
-    let p = rule_rows(held(lists, counts, 6), w);
-    let q = rule_rows(held(lists, counts, 7), v);
+    let head = held.list(0);
+    let p = rule_rows(held.list(6), w);
+    let q = rule_rows(held.list(7), v);
     join_keys_to_inputs(Inputs {
         op: head[0],
         mode: head[1],
-        left: held(lists, counts, 1),
-        right: held(lists, counts, 2),
+        left: held.list(1),
+        right: held.list(2),
         left_input: Input {
-            list: held(lists, counts, 4),
+            list: held.list(4),
             rewriting: &w[..p],
         },
         right_input: Input {
-            list: held(lists, counts, 5),
+            list: held.list(5),
             rewriting: &v[..q],
         },
     })

@@ -8,8 +8,8 @@ use keys::answer::Outcome;
 
 // The group names at their places.
 fn placed_names(o: &[u64], places: &[u8], out: &mut [u64; 128]) -> usize
-    requires { (length o.now ≤ 32) × (length out.old ≡ 128) }
-    ensures { (result ≤ 64) × (length out.new ≡ 128) × (take result out.new ≡ projected_numbers (placed_names o.now places.now)) }
+    requires { length o.now ≤ 32 }
+    ensures { (result ≤ 64) × (take result out.new ≡ projected_numbers (placed_names o.now places.now)) }
 {
     let n = o.len().min(places.len());
     for i in 0..n {
@@ -21,8 +21,8 @@ fn placed_names(o: &[u64], places: &[u8], out: &mut [u64; 128]) -> usize
 
 // The names at the places from the first on, from a place of the output on.
 fn names_from(first: usize, a: &[u64], out: &mut [u64; 128], at: usize) -> usize
-    requires { (first ≤ 32) × (length a.now ≤ 32) × (at ≤ 64) × (length out.old ≡ 128) }
-    ensures { (result ≤ 128) × (length out.new ≡ 128) × (take result out.new ≡ take at out.old ++ projected_numbers (names_from first a.now)) }
+    requires { (first ≤ 32) × (length a.now ≤ 32) × (at ≤ 64) }
+    ensures { (result ≤ 128) × (take result out.new ≡ take at out.old ++ projected_numbers (names_from first a.now)) }
 {
     for (i, &name) in a.iter().enumerate() {
         out[at + 2 * i] = name;
@@ -33,8 +33,8 @@ fn names_from(first: usize, a: &[u64], out: &mut [u64; 128], at: usize) -> usize
 
 // The group names at their places, and the aggregate names after them.
 fn projected(o: &[u64], places: &[u8], a: &[u64], out: &mut [u64; 128]) -> usize
-    requires { (length o.now ≤ 32) × (length a.now ≤ 32) × (length out.old ≡ 128) }
-    ensures { (result ≤ 128) × (length out.new ≡ 128) × (take result out.new ≡ projected_numbers (placed_names o.now places.now ++ names_from (length o.now) a.now)) }
+    requires { (length o.now ≤ 32) × (length a.now ≤ 32) }
+    ensures { (result ≤ 128) × (take result out.new ≡ projected_numbers (placed_names o.now places.now ++ names_from (length o.now) a.now)) }
 {
     let n = placed_names(o, places, out);
     names_from(o.len(), a, out, n)
@@ -42,8 +42,8 @@ fn projected(o: &[u64], places: &[u8], a: &[u64], out: &mut [u64; 128]) -> usize
 
 // Only an aggregate that acts has a projection.
 pub fn projected_by(outcome: &Outcome, o: &[u64], a: &[u64], out: &mut [u64; 128]) -> usize
-    requires { (length o.now ≤ 32) × (length a.now ≤ 32) × (length out.old ≡ 128) }
-    ensures { (result ≤ 128) × (length out.new ≡ 128) × (take result out.new ≡ projected_numbers (projected_by outcome.now (placed_names o.now (places_by outcome.now) ++ names_from (length o.now) a.now))) }
+    requires { (length o.now ≤ 32) × (length a.now ≤ 32) }
+    ensures { (result ≤ 128) × (take result out.new ≡ projected_numbers (projected_by outcome.now (placed_names o.now (places_by outcome.now) ++ names_from (length o.now) a.now))) }
 {
     match outcome {
         Outcome::Regrouped { places, .. } => projected(o, places.numbers(), a, out),

@@ -5,6 +5,7 @@ use lib.ListN.{length, length-map}
 use Rattle.std.specs.Prelude.{Some}
 use Rattle.keys.specs.Expressions.{same_expr, expression}
 use Rattle.keys.specs.Answers.{adjusted_of}
+use Rattle.keys.proofs.ByCode.{other_mode}
 use Rattle.keys.proofs.Rules.{aggregate_unchanged, aggregate_other}
 use Rattle.adjust.specs.Sheets.{sheet_of}
 use Rattle.adjust.proofs.aggregate.aggregate.Goals as goal
@@ -13,6 +14,6 @@ pub returns-then-is_empty : goal.returns-then-is_empty
 returns-then-is_empty c = let x = c.args.sheet.now in let empty : length x.required.now ≡ 0 = search (rules, tests) in
     λ s cs. let t = sheet_of x s cs in ap (λ a. adjusted_of t (Some a)) c.unchanged.ensures ∙ aggregate_unchanged same_expr t (length-map x.required.now expression ∙ empty)
 
-pub returns : goal.returns
-returns c = let x = c.args.sheet.now in let there : length x.required.now ≡ 0 → ⊥ = search (rules, tests) in
-    λ s cs. let t = sheet_of x s cs in ap (λ a. adjusted_of t (Some a)) c.cleared.ensures ∙ aggregate_other same_expr t (λ z. there (sym (length-map x.required.now expression) ∙ z)) c.if-sheet-eq0.false
+pub returns-in-Other : goal.returns-in-Other
+returns-in-Other c = let x = c.args.sheet.now in let there : length x.required.now ≡ 0 → ⊥ = search (rules, tests) in
+    λ s cs. let t = sheet_of x s cs in ap (λ a. adjusted_of t (Some a)) c.cleared.ensures ∙ aggregate_other same_expr t (λ z. there (sym (length-map x.required.now expression) ∙ z)) (other_mode x.operator.mode c.in-Other.ensures)

@@ -25,7 +25,7 @@ returns-then-sheet-n c = let x = c.args.sheet.now in λ s cs. let t = sheet_of x
 -- R is the group names' columns already
 asked : (c : After-eq) → same_list same_expr (columns_from 0 c.args.sheet.now.groups.now) (expressions c.args.sheet.now.required.now) ≡ c.eq.result
 asked c = let x = c.args.sheet.now in
-    ap (λ (xs : List Expression). same_list same_expr xs (expressions x.required.now)) (sym c.group_columns.ensures.1)
+    ap (λ (xs : List Expression). same_list same_expr xs (expressions x.required.now)) (sym c.group_columns.ensures)
     ∙ same_expressions (take (length x.groups.now) c.group_columns.new.out) x.required.now ∙ search rules
 
 pub returns-then-eq : goal.returns-then-eq

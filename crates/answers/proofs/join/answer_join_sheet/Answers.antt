@@ -1,7 +1,6 @@
 -- What was followed is the sheet's answer, and its pairs are at the positions.
 use mathlib.Core.Path.{ap, ◌∙◌}
 use native.Mathlib.Omega.{arith}
-use Rattle.std.proofs.Common.{rules}
 use lib.ListN.{length}
 use Rattle.keys.specs.Lists.{permute}
 use Rattle.keys.specs.Expressions.{gone_number}
@@ -13,26 +12,30 @@ use Rattle.sheet.specs.Outcomes.{answer, after, within}
 use Rattle.moves.proofs.HeldJoins.{join_there}
 use Rattle.answers.proofs.join.answer_join_sheet.Goals as goal
 
-pub held-requires : goal.held-requires
-held-requires c = join_there c.args.lists.now c.args.counts.now c.requires.0 1 (omega arith)
+pub list-requires : goal.list-requires
+list-requires c = join_there c.args.held.lists.now c.args.held.counts.now c.requires.0 1 (omega arith)
 
-pub held-requires-2 : goal.held-requires-2
-held-requires-2 c = join_there c.args.lists.now c.args.counts.now c.requires.0 2 (omega arith)
+pub list-requires-2 : goal.list-requires-2
+list-requires-2 c = join_there c.args.held.lists.now c.args.held.counts.now c.requires.0 2 (omega arith)
 
-pub held-requires-3 : goal.held-requires-3
-held-requires-3 c = join_there c.args.lists.now c.args.counts.now c.requires.0 3 (omega arith)
+pub list-requires-3 : goal.list-requires-3
+list-requires-3 c = join_there c.args.held.lists.now c.args.held.counts.now c.requires.0 3 (omega arith)
+
+pub wide_positions-requires : goal.wide_positions-requires
+wide_positions-requires c = rw c.positions-at.ensures (attempt_few c.follow-attempt.result)
 
 pub moved_pairs-m-requires : goal.moved_pairs-m-requires
-moved_pairs-m-requires c = (rw c.positions-at.ensures (attempt_few c.follow-attempt.result), search rules, search rules, search rules)
+moved_pairs-m-requires c = rw c.positions-at.ensures (attempt_few c.follow-attempt.result)
 
 pub answer_lists-requires : goal.answer_lists-requires
 answer_lists-requires c = let f = c.follow-attempt in let p = c.moved_pairs-m.ensures in let at = c.positions-at.ensures in (
   c.requires.0,
   record {
-    positions = attempt_few f.result;
-    left = p.4 ∙ (λ i. permute gone_number (c.held.ensures i) (at i));
-    right = p.5 ∙ (λ i. permute gone_number (c.held-2.ensures i) (at i));
-    directions = p.6 ∙ (λ i. moved_directions (c.held-3.ensures i) (at i));
+    few = attempt_few f.result;
+    positions = c.wide_positions.ensures ∙ at;
+    left = p.1 ∙ (λ i. permute gone_number (c.list.ensures i) (at i));
+    right = p.2 ∙ (λ i. permute gone_number (c.list-2.ensures i) (at i));
+    directions = p.3 ∙ (λ i. moved_directions (c.list-3.ensures i) (at i));
   },
   λ e. rw f.ensures (c.requires.3 e),
 )

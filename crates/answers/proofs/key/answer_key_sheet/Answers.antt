@@ -1,5 +1,6 @@
 -- Whether a name was not found (`key_refused`) or an answer is written (`key_written`).
-use mathlib.Core.Path.{refl, subst}
+use mathlib.Core.Path.{refl, ap, subst, ◌∙◌}
+use Rattle.refusals.specs.Refusals.{refused_word}
 use lib.ListN.{length}
 use Rattle.sheet.specs.KeyAnswers as A
 use Rattle.sheet.specs.Held.{held_key_sheet}
@@ -8,11 +9,11 @@ use Rattle.answers.proofs.KeyLists.{key_refused, key_written}
 use Rattle.answers.proofs.key.answer_key_sheet.Goals as goal
 
 pub returns-in_default : goal.returns-in_default
-returns-in_default c = let d = c.adjust in rw (key_refused (held_key_sheet c.args.lists.now c.args.counts.now) d.result d.ensures c.in_default.is) (refl, refl)
+returns-in_default c = let d = c.adjust in rw (key_refused (held_key_sheet c.args.held.lists.now c.args.held.counts.now) d.result d.ensures c.in_default.is) (c.word.ensures ∙ ap refused_word c.on_line.ensures, refl)
 
 pub answer_adjusted-requires : goal.answer_adjusted-requires
 answer_adjusted-requires c = let d = c.adjust in
-    (c.requires.0, λ e. subst (λ (t : A.Outcome). FitsIn (length c.args.out.now) t) (key_written (held_key_sheet c.args.lists.now c.args.counts.now) d.result c.in-Some.x d.ensures c.in-Some.is) (c.requires.2 e))
+    (c.requires.0, λ e. subst (λ (t : A.Outcome). FitsIn (length c.args.out.now) t) (key_written (held_key_sheet c.args.held.lists.now c.args.held.counts.now) d.result c.in-Some.x d.ensures c.in-Some.is) (c.requires.2 e))
 
 pub returns : goal.returns
-returns c = let d = c.adjust in rw (key_written (held_key_sheet c.args.lists.now c.args.counts.now) d.result c.in-Some.x d.ensures c.in-Some.is) c.answer_adjusted.ensures
+returns c = let d = c.adjust in rw (key_written (held_key_sheet c.args.held.lists.now c.args.held.counts.now) d.result c.in-Some.x d.ensures c.in-Some.is) c.answer_adjusted.ensures

@@ -3,12 +3,9 @@ use mathlib.Core.Path.{◌≡◌, sym, ◌∙◌}
 use mathlib.Core.Option.{some}
 use Rattle.keys.specs.Expressions.{expressions}
 use Rattle.keys.specs.InputValues.{input_of}
-use Rattle.keys.proofs.InputMarks.{part_few, part_input}
+use Rattle.keys.proofs.InputMarks.{part_input}
 use Rattle.keys.proofs.InputTurns.{side_failed, side_followed}
 use Rattle.inputs.proofs.current.try_side.Goals as goal
-
-pub try_reorder-requires : goal.try_reorder-requires
-try_reorder-requires c = (part_few c.args.input.list c.keys.result c.keys.ensures c.args.input.few, c.requires.0, c.requires.1)
 
 pub returns-in-Impossible : goal.returns-in-Impossible
 returns-in-Impossible c = let a = c.args in let k = c.keys in

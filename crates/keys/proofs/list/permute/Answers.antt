@@ -17,4 +17,4 @@ loop-i-preserved c = let k = c.args.all.now in let ps = c.args.at.now in let gon
 
 pub returns : goal.returns
 returns c = let ps = c.args.at.now in let e : length ps ≡ c.loop-i.i = omega (arith, c.loop-i.auto.i-end) in
-    (c.loop-i.invariant.0, rw e (fill_end (permute c.args.gone c.args.all.now ps) c.loop-i.out c.loop-i.i c.loop-i.invariant.1 (rw (length-map ps) c.loop-i-test.false)))
+    rw e (fill_end (permute c.args.gone c.args.all.now ps) c.loop-i.out c.loop-i.i c.loop-i.invariant.1 (rw (length-map ps) c.loop-i-test.false))

@@ -19,4 +19,4 @@ loop-i-preserved c = let k = c.args.keys.now in let f = rewrite_one eqb (number_
 pub returns : goal.returns
 returns c = let k = c.args.keys.now in let f = rewrite_one eqb (number_rules c.args.w.now) in
     let e : length k ≡ c.loop-i.i = omega (arith, c.loop-i.auto.i-end) in
-    (c.loop-i.invariant.0, rw e (fill_end (map f k) c.loop-i.out c.loop-i.i c.loop-i.invariant.1 (rw (length-map k f) c.loop-i-test.false)))
+    rw e (fill_end (map f k) c.loop-i.out c.loop-i.i c.loop-i.invariant.1 (rw (length-map k f) c.loop-i-test.false))

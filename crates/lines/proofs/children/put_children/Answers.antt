@@ -1,24 +1,27 @@
--- `put_children` meets its contract: the lines from child `i` on are left to write.
+-- The lines from child `i` on are left to write.
 use Prim.Native.Nat.{◌+◌}
 use native.Mathlib.Omega.{arith}
+use Rattle.std.specs.Prelude.{option_copied}
 use Rattle.lines.proofs.Pieces.{writing_first, writing_room, writing_more, writing_done}
 use Rattle.lines.proofs.ChildPieces.{children_pieces}
 use Rattle.lines.proofs.children.put_children.Goals as goal
 
 pub loop-i-init : goal.loop-i-init
-loop-i-init c = writing_first _ _ _ _ (rw (children_pieces c.args.stays c.args.first.now c.args.kept c.args.others.now c.args.lists.now c.args.counts.now c.args.n) at c.requires.4)
+loop-i-init c = let x = c.args.children in let h = c.args.held in
+    writing_first _ _ _ _ (rw (children_pieces (option_copied x.first) (option_copied x.others) h.lists.now h.counts.now c.args.n) at c.requires.4)
 
-pub held-own-requires : goal.held-own-requires
-held-own-requires c = let t = c.loop-i-test.true in (omega (arith, t, c.requires.0, c.requires.1), omega (arith, t, c.requires.0, c.requires.2), c.requires.3 (9 + c.loop-i.i) (omega (arith, t)))
+pub list-requires : goal.list-requires
+list-requires c = let t = c.loop-i-test.true in (omega (arith, t, c.requires.0, c.requires.1), omega (arith, t, c.requires.0, c.requires.2), c.requires.3 (9 + c.loop-i.i) (omega (arith, t)))
 
-pub put_child-p-requires : goal.put_child-p-requires
-put_child-p-requires c = rw c.held-own.ensures (writing_room _ _ _ _ _ _ _ c.loop-i.invariant c.loop-i-test.true)
+pub put_exprs-p-requires : goal.put_exprs-p-requires
+put_exprs-p-requires c = rw (c.child_list.ensures, c.list.ensures) (writing_room _ _ _ _ _ _ _ c.loop-i.invariant c.loop-i-test.true)
 
 pub loop-i-preserved : goal.loop-i-preserved
-loop-i-preserved c = writing_more _ _ _ _ _ _ _ c.loop-i.invariant c.loop-i-test.true _ _ (rw c.held-own.ensures at c.put_child-p.ensures)
+loop-i-preserved c = writing_more _ _ _ _ _ _ _ c.loop-i.invariant c.loop-i-test.true _ _ (rw (c.child_list.ensures, c.list.ensures) at c.put_exprs-p.ensures)
 
 pub shape_of-out : goal.shape_of-out
 shape_of-out c = c.loop-i.invariant.owed.room
 
 pub returns : goal.returns
-returns c = rw (children_pieces c.args.stays c.args.first.now c.args.kept c.args.others.now c.args.lists.now c.args.counts.now c.args.n) (writing_done _ _ _ _ _ _ _ c.loop-i.invariant c.loop-i-test.false)
+returns c = let x = c.args.children in let h = c.args.held in
+    rw (children_pieces (option_copied x.first) (option_copied x.others) h.lists.now h.counts.now c.args.n) (writing_done _ _ _ _ _ _ _ c.loop-i.invariant c.loop-i-test.false)

@@ -1,55 +1,22 @@
--- `put_join_lists` meets its contract: five lines, one after another.
-use mathlib.Core.List.{[], ◌∷◌}
-use lib.ListN.{drop}
-use native.Mathlib.Omega.{arith}
-use Rattle.keys.specs.Expressions.{expressions}
-use Rattle.sheet.specs.KeyAnswers.{numbers_line, exprs_line}
-use Rattle.lines.specs.Texts.{join_lists_text}
-use Rattle.lines.proofs.Pieces.{Due, due_all, due_room, due_then, due_none}
-use Rattle.lines.proofs.AnswerParts.{join_parts}
+-- Five lines, one after another.
+use Rattle.lines.proofs.Dues.{join_due}
+use Rattle.lines.proofs.Pieces.{due_room, due_then, due_none}
 use Rattle.lines.proofs.join_text.put_join_lists.Goals as goal
 
 pub put_pair-at_p-requires : goal.put_pair-at_p-requires
-put_pair-at_p-requires c =
-    let start : (Due c.args.out.now 0 (join_lists_text c.args.report c.args.followed c.args.p.now c.args.l.now c.args.g.now c.args.s.now) c.args.out.now 0 (drop 0 ((numbers_line 105 (c.args.report ∷ c.args.followed ∷ []) ∷ numbers_line 80 c.args.p.now ∷ exprs_line 76 (expressions c.args.l.now) ∷ exprs_line 71 (expressions c.args.g.now) ∷ numbers_line 83 c.args.s.now ∷ [])))) = due_all c.args.out.now 0 (join_parts c.args.report c.args.followed c.args.p.now c.args.l.now c.args.g.now c.args.s.now) (omega (arith, c.requires)) in
-    due_room (start)
+put_pair-at_p-requires c = due_room (join_due c.args.x.now c.args.out.now c.requires)
 
 pub put_numbers-at_l-requires : goal.put_numbers-at_l-requires
-put_numbers-at_l-requires c =
-    let start : (Due c.args.out.now 0 (join_lists_text c.args.report c.args.followed c.args.p.now c.args.l.now c.args.g.now c.args.s.now) c.args.out.now 0 (drop 0 ((numbers_line 105 (c.args.report ∷ c.args.followed ∷ []) ∷ numbers_line 80 c.args.p.now ∷ exprs_line 76 (expressions c.args.l.now) ∷ exprs_line 71 (expressions c.args.g.now) ∷ numbers_line 83 c.args.s.now ∷ [])))) = due_all c.args.out.now 0 (join_parts c.args.report c.args.followed c.args.p.now c.args.l.now c.args.g.now c.args.s.now) (omega (arith, c.requires)) in
-    let after_1 : (Due c.args.out.now 0 (join_lists_text c.args.report c.args.followed c.args.p.now c.args.l.now c.args.g.now c.args.s.now) c.put_pair-at_p.new.out c.put_pair-at_p.result (drop 1 ((numbers_line 105 (c.args.report ∷ c.args.followed ∷ []) ∷ numbers_line 80 c.args.p.now ∷ exprs_line 76 (expressions c.args.l.now) ∷ exprs_line 71 (expressions c.args.g.now) ∷ numbers_line 83 c.args.s.now ∷ [])))) = due_then (start) c.put_pair-at_p.ensures in
-    due_room (after_1)
+put_numbers-at_l-requires c = due_room (due_then (join_due c.args.x.now c.args.out.now c.requires) c.put_pair-at_p.ensures)
 
 pub put_exprs-at_g-requires : goal.put_exprs-at_g-requires
-put_exprs-at_g-requires c =
-    let start : (Due c.args.out.now 0 (join_lists_text c.args.report c.args.followed c.args.p.now c.args.l.now c.args.g.now c.args.s.now) c.args.out.now 0 (drop 0 ((numbers_line 105 (c.args.report ∷ c.args.followed ∷ []) ∷ numbers_line 80 c.args.p.now ∷ exprs_line 76 (expressions c.args.l.now) ∷ exprs_line 71 (expressions c.args.g.now) ∷ numbers_line 83 c.args.s.now ∷ [])))) = due_all c.args.out.now 0 (join_parts c.args.report c.args.followed c.args.p.now c.args.l.now c.args.g.now c.args.s.now) (omega (arith, c.requires)) in
-    let after_1 : (Due c.args.out.now 0 (join_lists_text c.args.report c.args.followed c.args.p.now c.args.l.now c.args.g.now c.args.s.now) c.put_pair-at_p.new.out c.put_pair-at_p.result (drop 1 ((numbers_line 105 (c.args.report ∷ c.args.followed ∷ []) ∷ numbers_line 80 c.args.p.now ∷ exprs_line 76 (expressions c.args.l.now) ∷ exprs_line 71 (expressions c.args.g.now) ∷ numbers_line 83 c.args.s.now ∷ [])))) = due_then (start) c.put_pair-at_p.ensures in
-    let after_2 : (Due c.args.out.now 0 (join_lists_text c.args.report c.args.followed c.args.p.now c.args.l.now c.args.g.now c.args.s.now) c.put_numbers-at_l.new.out c.put_numbers-at_l.result (drop 2 ((numbers_line 105 (c.args.report ∷ c.args.followed ∷ []) ∷ numbers_line 80 c.args.p.now ∷ exprs_line 76 (expressions c.args.l.now) ∷ exprs_line 71 (expressions c.args.g.now) ∷ numbers_line 83 c.args.s.now ∷ [])))) = due_then (after_1) c.put_numbers-at_l.ensures in
-    due_room (after_2)
+put_exprs-at_g-requires c = due_room (due_then (due_then (join_due c.args.x.now c.args.out.now c.requires) c.put_pair-at_p.ensures) c.put_numbers-at_l.ensures)
 
 pub put_exprs-at_s-requires : goal.put_exprs-at_s-requires
-put_exprs-at_s-requires c =
-    let start : (Due c.args.out.now 0 (join_lists_text c.args.report c.args.followed c.args.p.now c.args.l.now c.args.g.now c.args.s.now) c.args.out.now 0 (drop 0 ((numbers_line 105 (c.args.report ∷ c.args.followed ∷ []) ∷ numbers_line 80 c.args.p.now ∷ exprs_line 76 (expressions c.args.l.now) ∷ exprs_line 71 (expressions c.args.g.now) ∷ numbers_line 83 c.args.s.now ∷ [])))) = due_all c.args.out.now 0 (join_parts c.args.report c.args.followed c.args.p.now c.args.l.now c.args.g.now c.args.s.now) (omega (arith, c.requires)) in
-    let after_1 : (Due c.args.out.now 0 (join_lists_text c.args.report c.args.followed c.args.p.now c.args.l.now c.args.g.now c.args.s.now) c.put_pair-at_p.new.out c.put_pair-at_p.result (drop 1 ((numbers_line 105 (c.args.report ∷ c.args.followed ∷ []) ∷ numbers_line 80 c.args.p.now ∷ exprs_line 76 (expressions c.args.l.now) ∷ exprs_line 71 (expressions c.args.g.now) ∷ numbers_line 83 c.args.s.now ∷ [])))) = due_then (start) c.put_pair-at_p.ensures in
-    let after_2 : (Due c.args.out.now 0 (join_lists_text c.args.report c.args.followed c.args.p.now c.args.l.now c.args.g.now c.args.s.now) c.put_numbers-at_l.new.out c.put_numbers-at_l.result (drop 2 ((numbers_line 105 (c.args.report ∷ c.args.followed ∷ []) ∷ numbers_line 80 c.args.p.now ∷ exprs_line 76 (expressions c.args.l.now) ∷ exprs_line 71 (expressions c.args.g.now) ∷ numbers_line 83 c.args.s.now ∷ [])))) = due_then (after_1) c.put_numbers-at_l.ensures in
-    let after_3 : (Due c.args.out.now 0 (join_lists_text c.args.report c.args.followed c.args.p.now c.args.l.now c.args.g.now c.args.s.now) c.put_exprs-at_g.new.out c.put_exprs-at_g.result (drop 3 ((numbers_line 105 (c.args.report ∷ c.args.followed ∷ []) ∷ numbers_line 80 c.args.p.now ∷ exprs_line 76 (expressions c.args.l.now) ∷ exprs_line 71 (expressions c.args.g.now) ∷ numbers_line 83 c.args.s.now ∷ [])))) = due_then (after_2) c.put_exprs-at_g.ensures in
-    due_room (after_3)
+put_exprs-at_s-requires c = due_room (due_then (due_then (due_then (join_due c.args.x.now c.args.out.now c.requires) c.put_pair-at_p.ensures) c.put_numbers-at_l.ensures) c.put_exprs-at_g.ensures)
 
 pub put_numbers-requires : goal.put_numbers-requires
-put_numbers-requires c =
-    let start : (Due c.args.out.now 0 (join_lists_text c.args.report c.args.followed c.args.p.now c.args.l.now c.args.g.now c.args.s.now) c.args.out.now 0 (drop 0 ((numbers_line 105 (c.args.report ∷ c.args.followed ∷ []) ∷ numbers_line 80 c.args.p.now ∷ exprs_line 76 (expressions c.args.l.now) ∷ exprs_line 71 (expressions c.args.g.now) ∷ numbers_line 83 c.args.s.now ∷ [])))) = due_all c.args.out.now 0 (join_parts c.args.report c.args.followed c.args.p.now c.args.l.now c.args.g.now c.args.s.now) (omega (arith, c.requires)) in
-    let after_1 : (Due c.args.out.now 0 (join_lists_text c.args.report c.args.followed c.args.p.now c.args.l.now c.args.g.now c.args.s.now) c.put_pair-at_p.new.out c.put_pair-at_p.result (drop 1 ((numbers_line 105 (c.args.report ∷ c.args.followed ∷ []) ∷ numbers_line 80 c.args.p.now ∷ exprs_line 76 (expressions c.args.l.now) ∷ exprs_line 71 (expressions c.args.g.now) ∷ numbers_line 83 c.args.s.now ∷ [])))) = due_then (start) c.put_pair-at_p.ensures in
-    let after_2 : (Due c.args.out.now 0 (join_lists_text c.args.report c.args.followed c.args.p.now c.args.l.now c.args.g.now c.args.s.now) c.put_numbers-at_l.new.out c.put_numbers-at_l.result (drop 2 ((numbers_line 105 (c.args.report ∷ c.args.followed ∷ []) ∷ numbers_line 80 c.args.p.now ∷ exprs_line 76 (expressions c.args.l.now) ∷ exprs_line 71 (expressions c.args.g.now) ∷ numbers_line 83 c.args.s.now ∷ [])))) = due_then (after_1) c.put_numbers-at_l.ensures in
-    let after_3 : (Due c.args.out.now 0 (join_lists_text c.args.report c.args.followed c.args.p.now c.args.l.now c.args.g.now c.args.s.now) c.put_exprs-at_g.new.out c.put_exprs-at_g.result (drop 3 ((numbers_line 105 (c.args.report ∷ c.args.followed ∷ []) ∷ numbers_line 80 c.args.p.now ∷ exprs_line 76 (expressions c.args.l.now) ∷ exprs_line 71 (expressions c.args.g.now) ∷ numbers_line 83 c.args.s.now ∷ [])))) = due_then (after_2) c.put_exprs-at_g.ensures in
-    let after_4 : (Due c.args.out.now 0 (join_lists_text c.args.report c.args.followed c.args.p.now c.args.l.now c.args.g.now c.args.s.now) c.put_exprs-at_s.new.out c.put_exprs-at_s.result (drop 4 ((numbers_line 105 (c.args.report ∷ c.args.followed ∷ []) ∷ numbers_line 80 c.args.p.now ∷ exprs_line 76 (expressions c.args.l.now) ∷ exprs_line 71 (expressions c.args.g.now) ∷ numbers_line 83 c.args.s.now ∷ [])))) = due_then (after_3) c.put_exprs-at_s.ensures in
-    due_room (after_4)
+put_numbers-requires c = due_room (due_then (due_then (due_then (due_then (join_due c.args.x.now c.args.out.now c.requires) c.put_pair-at_p.ensures) c.put_numbers-at_l.ensures) c.put_exprs-at_g.ensures) c.put_exprs-at_s.ensures)
 
 pub returns : goal.returns
-returns c =
-    let start : (Due c.args.out.now 0 (join_lists_text c.args.report c.args.followed c.args.p.now c.args.l.now c.args.g.now c.args.s.now) c.args.out.now 0 (drop 0 ((numbers_line 105 (c.args.report ∷ c.args.followed ∷ []) ∷ numbers_line 80 c.args.p.now ∷ exprs_line 76 (expressions c.args.l.now) ∷ exprs_line 71 (expressions c.args.g.now) ∷ numbers_line 83 c.args.s.now ∷ [])))) = due_all c.args.out.now 0 (join_parts c.args.report c.args.followed c.args.p.now c.args.l.now c.args.g.now c.args.s.now) (omega (arith, c.requires)) in
-    let after_1 : (Due c.args.out.now 0 (join_lists_text c.args.report c.args.followed c.args.p.now c.args.l.now c.args.g.now c.args.s.now) c.put_pair-at_p.new.out c.put_pair-at_p.result (drop 1 ((numbers_line 105 (c.args.report ∷ c.args.followed ∷ []) ∷ numbers_line 80 c.args.p.now ∷ exprs_line 76 (expressions c.args.l.now) ∷ exprs_line 71 (expressions c.args.g.now) ∷ numbers_line 83 c.args.s.now ∷ [])))) = due_then (start) c.put_pair-at_p.ensures in
-    let after_2 : (Due c.args.out.now 0 (join_lists_text c.args.report c.args.followed c.args.p.now c.args.l.now c.args.g.now c.args.s.now) c.put_numbers-at_l.new.out c.put_numbers-at_l.result (drop 2 ((numbers_line 105 (c.args.report ∷ c.args.followed ∷ []) ∷ numbers_line 80 c.args.p.now ∷ exprs_line 76 (expressions c.args.l.now) ∷ exprs_line 71 (expressions c.args.g.now) ∷ numbers_line 83 c.args.s.now ∷ [])))) = due_then (after_1) c.put_numbers-at_l.ensures in
-    let after_3 : (Due c.args.out.now 0 (join_lists_text c.args.report c.args.followed c.args.p.now c.args.l.now c.args.g.now c.args.s.now) c.put_exprs-at_g.new.out c.put_exprs-at_g.result (drop 3 ((numbers_line 105 (c.args.report ∷ c.args.followed ∷ []) ∷ numbers_line 80 c.args.p.now ∷ exprs_line 76 (expressions c.args.l.now) ∷ exprs_line 71 (expressions c.args.g.now) ∷ numbers_line 83 c.args.s.now ∷ [])))) = due_then (after_2) c.put_exprs-at_g.ensures in
-    let after_4 : (Due c.args.out.now 0 (join_lists_text c.args.report c.args.followed c.args.p.now c.args.l.now c.args.g.now c.args.s.now) c.put_exprs-at_s.new.out c.put_exprs-at_s.result (drop 4 ((numbers_line 105 (c.args.report ∷ c.args.followed ∷ []) ∷ numbers_line 80 c.args.p.now ∷ exprs_line 76 (expressions c.args.l.now) ∷ exprs_line 71 (expressions c.args.g.now) ∷ numbers_line 83 c.args.s.now ∷ [])))) = due_then (after_3) c.put_exprs-at_s.ensures in
-    let after_5 : (Due c.args.out.now 0 (join_lists_text c.args.report c.args.followed c.args.p.now c.args.l.now c.args.g.now c.args.s.now) c.put_numbers.new.out c.put_numbers.result (drop 5 ((numbers_line 105 (c.args.report ∷ c.args.followed ∷ []) ∷ numbers_line 80 c.args.p.now ∷ exprs_line 76 (expressions c.args.l.now) ∷ exprs_line 71 (expressions c.args.g.now) ∷ numbers_line 83 c.args.s.now ∷ [])))) = due_then (after_4) c.put_numbers.ensures in
-    due_none (after_5)
+returns c = due_none (due_then (due_then (due_then (due_then (due_then (join_due c.args.x.now c.args.out.now c.requires) c.put_pair-at_p.ensures) c.put_numbers-at_l.ensures) c.put_exprs-at_g.ensures) c.put_exprs-at_s.ensures) c.put_numbers.ensures)

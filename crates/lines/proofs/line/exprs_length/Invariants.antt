@@ -1,12 +1,8 @@
 -- `exprs_length` meets its contract: the length so far, with that of the expressions from `i` on, is the line's.
-use Prim.Native.Nat.{◌-◌}
 use lib.ListN.{length, get_or}
 use Rattle.lines.specs.Fields.{expr_fields}
 use Rattle.lines.proofs.Pieces.{Adding}
 use Rattle.lines.proofs.line.exprs_length.Given as goal
 
-abbrev pub invariant-loop-i : goal.invariant-loop-i
-invariant-loop-i l = Adding (λ k. expr_fields (get_or l.list k 0)) (length l.list) 2 63 l.n l.i
-
-abbrev pub decreases-loop-i : goal.decreases-loop-i
-decreases-loop-i l = length l.list - l.i
+abbrev pub invariant-loop-e : goal.invariant-loop-e
+invariant-loop-e l = Adding (λ k. expr_fields (get_or l.list k 0)) (length l.list) 2 63 l.length l.e-index

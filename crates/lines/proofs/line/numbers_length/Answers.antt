@@ -7,21 +7,21 @@ use Rattle.lines.proofs.Pieces.{adding_first, adding_more, adding_done}
 use Rattle.lines.proofs.Lines.{number_fields_lem, line_long}
 use Rattle.lines.proofs.line.numbers_length.Goals as goal
 
-pub loop-i-init : goal.loop-i-init
-loop-i-init c = adding_first _ _ 2 21
+pub loop-n-init : goal.loop-n-init
+loop-n-init c = adding_first _ _ 2 21
 
-pub overflow_add-n : goal.overflow_add-n
-overflow_add-n c = omega (arith, c.number_length.ensures.few)
+pub overflow_add-length : goal.overflow_add-length
+overflow_add-length c = omega (arith, c.number_length.ensures.few)
 
-pub overflow_add-n-in-loop-i : goal.overflow_add-n-in-loop-i
-overflow_add-n-in-loop-i c = omega (arith, c.number_length.ensures.few, c.loop-i.invariant.near)
+pub overflow_add-length-in-loop-n : goal.overflow_add-length-in-loop-n
+overflow_add-length-in-loop-n c = omega (arith, c.number_length.ensures.few, c.loop-n.invariant.near)
 
-pub loop-i-preserved : goal.loop-i-preserved
+pub loop-n-preserved : goal.loop-n-preserved
 unfolding number_field
-loop-i-preserved c = adding_more _ _ 2 21 _ _ c.loop-i.invariant c.loop-i-test.true _ (omega (arith, c.number_length.ensures.exact)) (omega (arith, c.number_length.ensures.few))
+loop-n-preserved c = adding_more _ _ 2 21 _ _ c.loop-n.invariant c.loop-n-test.true _ (omega (arith, c.number_length.ensures.exact)) (omega (arith, c.number_length.ensures.few))
 
 pub returns-clause-exact : goal.returns-clause-exact
-returns-clause-exact c = let v = c.loop-i.invariant in line_long (map number c.args.list.now) (number_fields_lem c.args.list.now) _ (adding_done _ _ 2 21 _ _ v c.loop-i-test.false)
+returns-clause-exact c = let v = c.loop-n.invariant in line_long (map number c.args.list.now) (number_fields_lem c.args.list.now) _ (adding_done _ _ 2 21 _ _ v c.loop-n-test.false)
 
 pub returns-clause-few : goal.returns-clause-few
-returns-clause-few c = let v = c.loop-i.invariant in omega (arith, v.near, v.within, c.requires)
+returns-clause-few c = let v = c.loop-n.invariant in omega (arith, v.near, v.within, c.requires)

@@ -1,34 +1,16 @@
--- `put_expr` meets its contract: kind, name and index, one after another.
-use mathlib.Core.List.{[], ◌∷◌}
-use lib.ListN.{drop}
-use Rattle.keys.specs.Expressions.{expression}
-use Rattle.lines.specs.Fields.{number_field, expr_fields}
-use Rattle.lines.proofs.Pieces.{Due, due_all, due_room, due_then, due_none}
-use Rattle.lines.proofs.Lines.{expr_parts}
+-- Kind, name and index, one after another.
+use Rattle.lines.proofs.Lines.{expr_due}
+use Rattle.lines.proofs.Pieces.{due_room, due_then, due_none}
 use Rattle.lines.proofs.line.put_expr.Goals as goal
 
 pub put_number_field-p-requires : goal.put_number_field-p-requires
-put_number_field-p-requires c =
-    let start : (Due c.args.out.now c.args.at (expr_fields c.args.e) c.args.out.now c.args.at (drop 0 (number_field (expression c.args.e).kind ∷ number_field (expression c.args.e).name ∷ number_field (expression c.args.e).index ∷ []))) = due_all c.args.out.now c.args.at (expr_parts c.args.e) c.requires in
-    rw c.kind_of.ensures (due_room (start))
+put_number_field-p-requires c = rw c.kind_of.ensures (due_room (expr_due c.args.e c.requires))
 
 pub put_number_field-q-requires : goal.put_number_field-q-requires
-put_number_field-q-requires c =
-    let start : (Due c.args.out.now c.args.at (expr_fields c.args.e) c.args.out.now c.args.at (drop 0 (number_field (expression c.args.e).kind ∷ number_field (expression c.args.e).name ∷ number_field (expression c.args.e).index ∷ []))) = due_all c.args.out.now c.args.at (expr_parts c.args.e) c.requires in
-    let after_1 : (Due c.args.out.now c.args.at (expr_fields c.args.e) c.put_number_field-p.new.out c.put_number_field-p.result (drop 1 (number_field (expression c.args.e).kind ∷ number_field (expression c.args.e).name ∷ number_field (expression c.args.e).index ∷ []))) = due_then (start) (rw c.kind_of.ensures at c.put_number_field-p.ensures) in
-    rw c.name_of.ensures (due_room (after_1))
+put_number_field-q-requires c = rw c.name_of.ensures (due_room (due_then (expr_due c.args.e c.requires) (rw c.kind_of.ensures at c.put_number_field-p.ensures)))
 
 pub put_number_field-requires : goal.put_number_field-requires
-put_number_field-requires c =
-    let start : (Due c.args.out.now c.args.at (expr_fields c.args.e) c.args.out.now c.args.at (drop 0 (number_field (expression c.args.e).kind ∷ number_field (expression c.args.e).name ∷ number_field (expression c.args.e).index ∷ []))) = due_all c.args.out.now c.args.at (expr_parts c.args.e) c.requires in
-    let after_1 : (Due c.args.out.now c.args.at (expr_fields c.args.e) c.put_number_field-p.new.out c.put_number_field-p.result (drop 1 (number_field (expression c.args.e).kind ∷ number_field (expression c.args.e).name ∷ number_field (expression c.args.e).index ∷ []))) = due_then (start) (rw c.kind_of.ensures at c.put_number_field-p.ensures) in
-    let after_2 : (Due c.args.out.now c.args.at (expr_fields c.args.e) c.put_number_field-q.new.out c.put_number_field-q.result (drop 2 (number_field (expression c.args.e).kind ∷ number_field (expression c.args.e).name ∷ number_field (expression c.args.e).index ∷ []))) = due_then (after_1) (rw c.name_of.ensures at c.put_number_field-q.ensures) in
-    rw c.index_of.ensures (due_room (after_2))
+put_number_field-requires c = rw c.index_of.ensures (due_room (due_then (due_then (expr_due c.args.e c.requires) (rw c.kind_of.ensures at c.put_number_field-p.ensures)) (rw c.name_of.ensures at c.put_number_field-q.ensures)))
 
 pub returns : goal.returns
-returns c =
-    let start : (Due c.args.out.now c.args.at (expr_fields c.args.e) c.args.out.now c.args.at (drop 0 (number_field (expression c.args.e).kind ∷ number_field (expression c.args.e).name ∷ number_field (expression c.args.e).index ∷ []))) = due_all c.args.out.now c.args.at (expr_parts c.args.e) c.requires in
-    let after_1 : (Due c.args.out.now c.args.at (expr_fields c.args.e) c.put_number_field-p.new.out c.put_number_field-p.result (drop 1 (number_field (expression c.args.e).kind ∷ number_field (expression c.args.e).name ∷ number_field (expression c.args.e).index ∷ []))) = due_then (start) (rw c.kind_of.ensures at c.put_number_field-p.ensures) in
-    let after_2 : (Due c.args.out.now c.args.at (expr_fields c.args.e) c.put_number_field-q.new.out c.put_number_field-q.result (drop 2 (number_field (expression c.args.e).kind ∷ number_field (expression c.args.e).name ∷ number_field (expression c.args.e).index ∷ []))) = due_then (after_1) (rw c.name_of.ensures at c.put_number_field-q.ensures) in
-    let after_3 : (Due c.args.out.now c.args.at (expr_fields c.args.e) c.put_number_field.new.out c.put_number_field.result (drop 3 (number_field (expression c.args.e).kind ∷ number_field (expression c.args.e).name ∷ number_field (expression c.args.e).index ∷ []))) = due_then (after_2) (rw c.index_of.ensures at c.put_number_field.ensures) in
-    due_none (after_3)
+returns c = due_none (due_then (due_then (due_then (expr_due c.args.e c.requires) (rw c.kind_of.ensures at c.put_number_field-p.ensures)) (rw c.name_of.ensures at c.put_number_field-q.ensures)) (rw c.index_of.ensures at c.put_number_field.ensures))

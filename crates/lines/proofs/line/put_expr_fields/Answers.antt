@@ -3,17 +3,17 @@ use Rattle.lines.proofs.Pieces.{writing_first, writing_room, writing_more, writi
 use Rattle.lines.proofs.Lines.{expr_fields_lem}
 use Rattle.lines.proofs.line.put_expr_fields.Goals as goal
 
-pub loop-i-init : goal.loop-i-init
-loop-i-init c = writing_first _ _ _ _ (rw (expr_fields_lem c.args.list.now) at c.requires)
+pub loop-e-init : goal.loop-e-init
+loop-e-init c = writing_first _ _ _ _ (rw (expr_fields_lem c.args.list.now) at c.requires)
 
 pub put_expr-p-requires : goal.put_expr-p-requires
-put_expr-p-requires c = writing_room _ _ _ _ _ _ _ c.loop-i.invariant c.loop-i-test.true
+put_expr-p-requires c = writing_room _ _ _ _ _ _ _ c.loop-e.invariant c.loop-e-test.true
 
-pub loop-i-preserved : goal.loop-i-preserved
-loop-i-preserved c = writing_more _ _ _ _ _ _ _ c.loop-i.invariant c.loop-i-test.true _ _ c.put_expr-p.ensures
+pub loop-e-preserved : goal.loop-e-preserved
+loop-e-preserved c = writing_more _ _ _ _ _ _ _ c.loop-e.invariant c.loop-e-test.true _ _ c.put_expr-p.ensures
 
 pub shape_of-out : goal.shape_of-out
-shape_of-out c = c.loop-i.invariant.owed.room
+shape_of-out c = c.loop-e.invariant.owed.room
 
 pub returns : goal.returns
-returns c = rw (expr_fields_lem c.args.list.now) (writing_done _ _ _ _ _ _ _ c.loop-i.invariant c.loop-i-test.false)
+returns c = rw (expr_fields_lem c.args.list.now) (writing_done _ _ _ _ _ _ _ c.loop-e.invariant c.loop-e-test.false)

@@ -1,29 +1,16 @@
--- `put_exprs` meets its contract: the letter, the fields, the LF.
-use mathlib.Core.List.{[], ◌∷◌, map}
-use Rattle.text.specs.declared.field.Field.TheVariants.{Number as number}
-use Rattle.text.specs.Write.{fields_text}
-use Rattle.keys.specs.Expressions.{expressions}
-use Rattle.sheet.specs.KeyAnswers.{expr_numbers, exprs_line}
-use Rattle.lines.proofs.Pieces.{Due, due_all, due_room, due_then, due_none}
-use Rattle.lines.proofs.Lines.{line_parts}
+-- The letter, the fields, the LF.
+use Rattle.lines.proofs.Lines.{exprs_due}
+use Rattle.lines.proofs.Pieces.{due_room, due_then, due_none}
 use Rattle.lines.proofs.line.put_exprs.Goals as goal
 
 pub put_byte-p-requires : goal.put_byte-p-requires
-put_byte-p-requires c =
-    let start : Due c.args.out.now c.args.at (exprs_line c.args.letter (expressions c.args.list.now)) c.args.out.now c.args.at ((c.args.letter ∷ []) ∷ fields_text (map number (expr_numbers (expressions c.args.list.now))) ∷ (10 ∷ []) ∷ []) = due_all c.args.out.now c.args.at (line_parts c.args.letter (map number (expr_numbers (expressions c.args.list.now)))) c.requires in
-    due_room (start)
+put_byte-p-requires c = due_room (exprs_due c.args.letter c.args.list.now c.requires)
 
 pub put_expr_fields-q-requires : goal.put_expr_fields-q-requires
-put_expr_fields-q-requires c =
-    let start : Due c.args.out.now c.args.at (exprs_line c.args.letter (expressions c.args.list.now)) c.args.out.now c.args.at ((c.args.letter ∷ []) ∷ fields_text (map number (expr_numbers (expressions c.args.list.now))) ∷ (10 ∷ []) ∷ []) = due_all c.args.out.now c.args.at (line_parts c.args.letter (map number (expr_numbers (expressions c.args.list.now)))) c.requires in
-    due_room (due_then (start) c.put_byte-p.ensures)
+put_expr_fields-q-requires c = due_room (due_then (exprs_due c.args.letter c.args.list.now c.requires) c.put_byte-p.ensures)
 
 pub put_byte-requires : goal.put_byte-requires
-put_byte-requires c =
-    let start : Due c.args.out.now c.args.at (exprs_line c.args.letter (expressions c.args.list.now)) c.args.out.now c.args.at ((c.args.letter ∷ []) ∷ fields_text (map number (expr_numbers (expressions c.args.list.now))) ∷ (10 ∷ []) ∷ []) = due_all c.args.out.now c.args.at (line_parts c.args.letter (map number (expr_numbers (expressions c.args.list.now)))) c.requires in
-    due_room (due_then (due_then (start) c.put_byte-p.ensures) c.put_expr_fields-q.ensures)
+put_byte-requires c = due_room (due_then (due_then (exprs_due c.args.letter c.args.list.now c.requires) c.put_byte-p.ensures) c.put_expr_fields-q.ensures)
 
 pub returns : goal.returns
-returns c =
-    let start : Due c.args.out.now c.args.at (exprs_line c.args.letter (expressions c.args.list.now)) c.args.out.now c.args.at ((c.args.letter ∷ []) ∷ fields_text (map number (expr_numbers (expressions c.args.list.now))) ∷ (10 ∷ []) ∷ []) = due_all c.args.out.now c.args.at (line_parts c.args.letter (map number (expr_numbers (expressions c.args.list.now)))) c.requires in
-    due_none (due_then (due_then (due_then (start) c.put_byte-p.ensures) c.put_expr_fields-q.ensures) c.put_byte.ensures)
+returns c = due_none (due_then (due_then (due_then (exprs_due c.args.letter c.args.list.now c.requires) c.put_byte-p.ensures) c.put_expr_fields-q.ensures) c.put_byte.ensures)

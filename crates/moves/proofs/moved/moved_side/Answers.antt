@@ -27,4 +27,4 @@ pub returns : goal.returns
 returns c = let ks = c.keys-key-items.result.now in let k = c.moved-moved in let v = c.loop-i.invariant in
     let e : length c.args.at.now ≡ c.loop-i.i = omega (arith, few (goal.at.returns c).After-keys-key-items, c.loop-i.auto.i-end) in
     let same : map number_of ks ≡ take k.result.count (map number_of k.result.items) = rw c.keys-key-items.ensures (sym (take-map number_of k.result.count k.result.items)) in
-    (v.0, rw e (fill_end (map number_of ks) c.loop-i.out c.loop-i.i v.1 (rw (length-map ks number_of) c.loop-i-test.false) ∙ same ∙ k.ensures.keys))
+    rw e (fill_end (map number_of ks) c.loop-i.out c.loop-i.i v.1 (rw (length-map ks number_of) c.loop-i-test.false) ∙ same ∙ k.ensures.keys)

@@ -8,7 +8,7 @@ use Rattle.moves.proofs.projection.names_from.Goals as goal
 
 pub loop-i-init : goal.loop-i-init
 loop-i-init c = let z : c.args.first + 0 ≡ c.args.first = omega arith in let y : c.args.at + 2 * 0 ≡ c.args.at = omega arith in
-    (c.requires.3, rw (z, y))
+    (c.told-out, rw (z, y))
 
 pub loop-i-preserved : goal.loop-i-preserved
 loop-i-preserved c = let v = c.loop-i.invariant in let n = c.args.at + 2 * c.loop-i.i in
@@ -19,4 +19,4 @@ loop-i-preserved c = let v = c.loop-i.invariant in let n = c.args.at + 2 * c.loo
 
 pub returns : goal.returns
 returns c = let v = c.loop-i.invariant in let e : length c.args.a.now ≡ c.loop-i.i = omega (arith, c.loop-i.auto.i-end) in
-    (omega (arith, c.requires.1, c.requires.2), v.0, rw e (names_end c.args.first c.args.a.now c.loop-i.out _ (c.args.at + 2 * c.loop-i.i) c.loop-i.i v.1 c.loop-i-test.false))
+    (omega (arith, c.requires.1, c.requires.2), rw e (names_end c.args.first c.args.a.now c.loop-i.out _ (c.args.at + 2 * c.loop-i.i) c.loop-i.i v.1 c.loop-i-test.false))

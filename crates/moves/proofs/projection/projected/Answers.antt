@@ -10,4 +10,4 @@ use Rattle.moves.proofs.projection.projected.Goals as goal
 
 pub returns : goal.returns
 returns c = let e = c.names_from.ensures in let o = c.args.o.now in let f = names_from (length o) c.args.a.now in
-    (e.0, e.1, e.2 ∙ ap (λ (l : List ℕ). l ++ projected_numbers f) c.placed_names-n.ensures.2 ∙ sym (numbers_append (placed_names o c.args.places.now) f))
+    (e.0, e.1 ∙ ap (λ (l : List ℕ). l ++ projected_numbers f) c.placed_names-n.ensures.1 ∙ sym (numbers_append (placed_names o c.args.places.now) f))
