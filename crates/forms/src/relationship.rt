@@ -115,7 +115,7 @@ fn round(mask: u64, asks: &[Asked], forms: &mut [u64], xs: FactRows) -> Option<(
     Some(())
 }
 
-// The set of children that were given one, as its own mask.
+// The set of children that were given one, as its own mask. From the last to the first, so that each bit is proved to fit.
 fn given_set(forms: &[u64]) -> u64
     requires { (length forms.now ≤ 8) × ((k : ℕ) → k < length forms.now → get_or forms.now k 0 ≤ 15) }
     ensures { result ≡ set_of forms.now }
