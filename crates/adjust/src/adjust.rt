@@ -1,146 +1,100 @@
 // What a requirement on an operator's output asks of its keys and of its children. Ports `adjust_input_keys_ordering` and what it calls.
-ghost use Rattle.std.specs.Prelude.{◌≡◌, List, ℕ, ◌≤◌, length, take};
-ghost use Rattle.keys.specs.Expressions.{Expression, same_expr, expressions};
-ghost use Rattle.keys.specs.Adjust.{KeySheet, shift_right_required, reorder_partitioned_join_keys};
-ghost use Rattle.keys.specs.Adjust.{collect_left, hash_join, cross_join, projection, other, adjust_input_keys_ordering};
-ghost use Rattle.keys.specs.Arrange.{Below};
-ghost use Rattle.keys.specs.Answers.{key_sheet, WholeAdjusted, adjusted_of};
+ghost use Rattle.std.specs.Prelude.{◌≡◌, Some, ◌≤◌, length, take};
+ghost use Rattle.keys.specs.Expressions.{same_expr, expressions};
+ghost use Rattle.keys.specs.Adjust.{shift_right_required, reorder_partitioned_join_keys};
+ghost use Rattle.keys.specs.Adjust.{collect_left, hash_join, cross_join, projection, other, adjust_input_keys_ordering, cleared};
+ghost use Rattle.adjust.specs.Sheets.{IsDecided};
 
-use keys::answer::{Adjusted, Handed, Operator, Outcome};
-use keys::reorder::Reordered;
+use crate::aggregate::aggregate;
+use crate::sheet::Sheet;
+use keys::answer::{Adjusted, Handed, Outcome};
+use keys::expr::{index_of, kind_of};
+use keys::reorder::try_reorder;
 
 // The index less `columns` in every key, into the room lent, and how many there are; none where one is no column or its index too small.
 pub fn shift_right_required(required: &[u64], columns: u64, out: &mut [u64; 32]) -> usize
     requires { (length required.now ≤ 32) × (length out.old ≡ 32) }
     ensures { (length out.new ≡ 32) × (result ≤ 32) × (expressions (take result out.new) ≡ shift_right_required columns (expressions required.now)) }
 {
-    let mut i: usize = 0;
-    while i < required.len() {
-        let e = required[i];
-        if keys::expr::kind_of(e) != 0 {
+    for (i, &key) in required.iter().enumerate() {
+        if kind_of(key) != 0 || index_of(key) < columns {
             return 0;
         }
-        if keys::expr::index_of(e) < columns {
-            return 0;
-        }
-        out[i] = e - columns;
-        i += 1;
+        out[i] = key - columns;
     }
-    i
+    required.len()
 }
 
 // The second child's list is R shifted.
-fn cross_join() -> Adjusted
-    ensures { WholeAdjusted result × ((s : KeySheet) → adjusted_of s result ≡ cross_join same_expr s) }
+fn cross_join(sheet: &Sheet<'_>) -> Adjusted
+    ensures { IsDecided sheet.now (cross_join same_expr) (Some result) }
 {
-    keys::answer::passed(Outcome::Passed, false, Handed::Kept, Handed::Shifted)
+    Adjusted::passed(Handed::Kept, Handed::Shifted)
 }
 
-fn collect_left(k: Operator) -> Adjusted
-    ensures { WholeAdjusted result × ((r l g s : List ℕ) (w : List (List ℕ)) (o a m : List ℕ) (cs : List (List Expression)) → let t = key_sheet k r l g s w o a m cs in adjusted_of t result ≡ collect_left same_expr t) }
+fn collect_left(sheet: &Sheet<'_>) -> Adjusted
+    ensures { IsDecided sheet.now (collect_left same_expr) (Some result) }
 {
-    if k.join == 0 {
-        return cross_join();
+    match sheet.operator.join {
+        0 | 2 => cross_join(sheet),
+        5 | 7 | 9 => Adjusted::passed(Handed::Kept, Handed::Required),
+        _ => Adjusted::passed(Handed::Kept, Handed::Cleared),
     }
-    if k.join == 2 {
-        return cross_join();
-    }
-    if k.join == 5 {
-        return keys::answer::passed(Outcome::Passed, false, Handed::Kept, Handed::Required);
-    }
-    if k.join == 7 {
-        return keys::answer::passed(Outcome::Passed, false, Handed::Kept, Handed::Required);
-    }
-    if k.join == 9 {
-        return keys::answer::passed(Outcome::Passed, false, Handed::Kept, Handed::Required);
-    }
-    keys::answer::passed(Outcome::Passed, false, Handed::Kept, Handed::Cleared)
 }
 
 // The pairs and their directions in the order that the requirement asks.
-pub fn reorder_partitioned_join_keys(w: &[[u64; 2]], r: &[u64], l: &[u64], g: &[u64]) -> Adjusted
-    requires { (length r.now ≤ 32) × (length l.now ≤ 32) × (length g.now ≡ length l.now) }
-    ensures { WholeAdjusted result × ((k : Operator) (s o a m : List ℕ) (cs : List (List Expression)) → let t = key_sheet k r.now l.now g.now s w.now o a m cs in adjusted_of t result ≡ reorder_partitioned_join_keys same_expr t) }
+pub fn reorder_partitioned_join_keys(sheet: &Sheet<'_>) -> Adjusted
+    ensures { IsDecided sheet.now (reorder_partitioned_join_keys same_expr) (Some result) }
 {
-    let t = keys::reorder::try_reorder(w, r, l, g);
-    let o = t.outcome;
-    let Reordered::Moved = o else {
-        return keys::answer::passed(Outcome::Tried(o), false, Handed::Keys, Handed::Keys);
-    };
-    let at = t.at;
-    let places = keys::list::no_numbers();
+    let tried = try_reorder(sheet.rewriting, sheet.required, sheet.left, sheet.right);
     Adjusted {
-        outcome: Outcome::Tried(Reordered::Moved),
+        outcome: Outcome::Tried(tried),
         cleared: false,
         first: Handed::Keys,
         others: Handed::Keys,
-        at: at,
-        places: places,
     }
 }
 
-fn hash_join(k: Operator, w: &[[u64; 2]], r: &[u64], l: &[u64], g: &[u64]) -> Adjusted
-    requires { (length r.now ≤ 32) × (length l.now ≤ 32) × (length g.now ≡ length l.now) }
-    ensures { WholeAdjusted result × ((s o a m : List ℕ) (cs : List (List Expression)) → let t = key_sheet k r.now l.now g.now s w.now o a m cs in adjusted_of t result ≡ hash_join same_expr t) }
+fn hash_join(sheet: &Sheet<'_>) -> Adjusted
+    ensures { IsDecided sheet.now (hash_join same_expr) (Some result) }
 {
-    if k.mode == 0 {
-        return reorder_partitioned_join_keys(w, r, l, g);
+    match sheet.operator.mode {
+        0 => reorder_partitioned_join_keys(sheet),
+        1 => collect_left(sheet),
+        _ => Adjusted::cleared(),
     }
-    if k.mode == 1 {
-        return collect_left(k);
-    }
-    keys::answer::passed(Outcome::Passed, true, Handed::Kept, Handed::Kept)
 }
 
-fn projection(r: &[u64], m: &[u64]) -> Adjusted
-    ensures { WholeAdjusted result × ((k : Operator) (l g s : List ℕ) (w : List (List ℕ)) (o a : List ℕ) (cs : List (List Expression)) → let t = key_sheet k r.now l g s w o a m.now cs in adjusted_of t result ≡ projection same_expr t) }
+fn projection(sheet: &Sheet<'_>) -> Adjusted
+    ensures { IsDecided sheet.now (projection same_expr) (Some result) }
 {
-    if m.len() == r.len() {
-        return keys::answer::passed(Outcome::Passed, false, Handed::Mapped, Handed::Kept);
+    if sheet.mapped.len() == sheet.required.len() {
+        return Adjusted::passed(Handed::Mapped, Handed::Kept);
     }
-    keys::answer::passed(Outcome::Passed, true, Handed::Kept, Handed::Kept)
+    Adjusted::cleared()
 }
 
-fn other(r: &[u64]) -> Adjusted
-    ensures { WholeAdjusted result × ((k : Operator) (l g s : List ℕ) (w : List (List ℕ)) (o a m : List ℕ) (cs : List (List Expression)) → let t = key_sheet k r.now l g s w o a m cs in adjusted_of t result ≡ other same_expr t) }
+fn other(sheet: &Sheet<'_>) -> Adjusted
+    ensures { IsDecided sheet.now (other same_expr) (Some result) }
 {
-    if r.len() == 0 {
-        return keys::answer::passed(Outcome::Unchanged, false, Handed::Kept, Handed::Kept);
+    if sheet.required.is_empty() {
+        return Adjusted::unchanged();
     }
-    keys::answer::passed(Outcome::Passed, false, Handed::Required, Handed::Required)
+    Adjusted::passed(Handed::Required, Handed::Required)
 }
 
-// R, L, G, W, O, A and M of a key sheet; what becomes of S and of each child's list is in the answer.
-pub fn adjust_input_keys_ordering(
-    k: Operator,
-    r: &[u64],
-    l: &[u64],
-    g: &[u64],
-    w: &[[u64; 2]],
-    o: &[u64],
-    a: &[u64],
-    m: &[u64],
-) -> Adjusted
-    requires { (length r.now ≤ 32) × (length l.now ≤ 32) × (length g.now ≡ length l.now) × (length o.now ≤ 32) × (length a.now ≤ 32) × Below 65536 o.now }
-    ensures { WholeAdjusted result × ((s : List ℕ) (cs : List (List Expression)) → let t = key_sheet k r.now l.now g.now s w.now o.now a.now m.now cs in adjusted_of t result ≡ adjust_input_keys_ordering same_expr t) }
+// None where a group name is not found again among the reordered fields.
+#[tactic(auto, unfolding(keys::specs::Adjust::adjust_input_keys_ordering))]
+pub fn adjust_input_keys_ordering(sheet: &Sheet<'_>) -> Option<Adjusted>
+    ensures { IsDecided sheet.now (adjust_input_keys_ordering same_expr) result }
 {
-    if k.op == 0 {
-        return hash_join(k, w, r, l, g);
+    match sheet.operator.op {
+        0 => Some(hash_join(sheet)),
+        1 => Some(cross_join(sheet)),
+        2 => Some(reorder_partitioned_join_keys(sheet)),
+        3 => aggregate(sheet),
+        4 => Some(projection(sheet)),
+        5 => Some(Adjusted::cleared()),
+        _ => Some(other(sheet)),
     }
-    if k.op == 1 {
-        return cross_join();
-    }
-    if k.op == 2 {
-        return reorder_partitioned_join_keys(w, r, l, g);
-    }
-    if k.op == 3 {
-        return crate::aggregate::aggregate(k, r, o, a);
-    }
-    if k.op == 4 {
-        return projection(r, m);
-    }
-    if k.op == 5 {
-        return keys::answer::passed(Outcome::Passed, true, Handed::Kept, Handed::Kept);
-    }
-    other(r)
 }

@@ -1,157 +1,101 @@
 // An aggregate's group names in the order that a requirement asks. Ports `reorder_aggregate_keys`.
-ghost use Rattle.std.specs.Prelude.{◌≡◌, List, ◌++◌, ℕ, ◌≤◌, eqb, length, take};
-ghost use Rattle.std.proofs.Math.Option.{some};
-ghost use Rattle.keys.specs.Expressions.{Expression, same_expr, placeholder, expressions};
+ghost use Rattle.std.specs.Prelude.{◌≡◌, ◌++◌, ◌+◌, ◌<◌, ◌≤◌, eqb, length, take, IfSome};
+ghost use Rattle.keys.specs.Expressions.{same_expr, placeholder, expressions};
 ghost use Rattle.keys.specs.Lists.{place_of, expected_expr_positions, permute};
-ghost use Rattle.keys.specs.Adjust.{KeySheet, columns_from, name_places, regrouped, regrouped_by, reorder_aggregate_keys, aggregate};
+ghost use Rattle.keys.specs.Adjust.{columns_from, name_places, regrouped, regrouped_by, reorder_aggregate_keys, aggregate};
 ghost use Rattle.keys.specs.Arrange.{Below};
-ghost use Rattle.keys.specs.Values.{numbers, WholeNumbers, found, positions_of};
-ghost use Rattle.keys.specs.Answers.{key_sheet, WholeAdjusted, adjusted_of};
+ghost use Rattle.keys.specs.Values.{numbers, found, positions_of};
+ghost use Rattle.adjust.specs.Sheets.{IsDecided};
 
-use keys::aggregate::Found;
-use keys::answer::{Adjusted, Handed, Operator, Outcome};
-use keys::list::NumberList;
-use keys::reorder::{Placed, Positions};
+use crate::sheet::Sheet;
+use keys::answer::{Adjusted, Handed, Outcome};
+use keys::list::{NumberList, permute};
+use keys::reorder::expected_expr_positions;
 
 // The column that each group name stands for: kind 0, the name, its place.
-fn group_columns(o: &[u64], out: &mut [u64; 32])
-    requires { (length o.now ≤ 32) × (length out.old ≡ 32) × Below 65536 o.now }
-    ensures { (length out.new ≡ 32) × (expressions (take (length o.now) out.new) ≡ columns_from 0 o.now) }
+fn group_columns(groups: &[u64], out: &mut [u64; 32])
+    requires { (length groups.now ≤ 32) × (length out.old ≡ 32) × Below 65536 groups.now }
+    ensures { (length out.new ≡ 32) × (expressions (take (length groups.now) out.new) ≡ columns_from 0 groups.now) }
 {
-    let mut i: usize = 0;
-    while i < o.len() {
-        out[i] = o[i] * 65536 + keys::list::wide(i);
-        i += 1;
+    for (i, &name) in groups.iter().enumerate() {
+        out[i] = name * 65536 + i as u64;
     }
-}
-
-fn find(all: &[u64], x: u64) -> Found
-    ensures { found result ≡ place_of eqb x all.now }
-{
-    let mut i: usize = 0;
-    while i < all.len() {
-        if all[i] == x {
-            return Found::At(i);
-        }
-        i += 1;
-    }
-    Found::Nowhere
 }
 
 // The first place of a name among the moved group names and, after them, the aggregate names.
-fn find_field(moved: &[u64], aggregates: &[u64], name: u64) -> Found
+fn find_field(moved: &[u64], aggregates: &[u64], name: u64) -> Option<usize>
     requires { (length moved.now ≤ 32) × (length aggregates.now ≤ 32) }
-    ensures { found result ≡ place_of eqb name (moved.now ++ aggregates.now) }
+    ensures place { found result ≡ place_of eqb name (moved.now ++ aggregates.now) }
+    ensures within { IfSome result (λ p. p < 64) }
 {
-    let f = find(moved, name);
-    let Found::Nowhere = f else {
-        return f;
-    };
-    let Found::At(p) = find(aggregates, name) else {
-        return Found::Nowhere;
-    };
-    Found::At(moved.len() + p)
+    moved
+        .iter()
+        .chain(aggregates)
+        .position(|&field| field == name)
 }
 
-// The first place of each group name; missing where one is not found.
-fn name_places(moved: &[u64], aggregates: &[u64], names: &[u64]) -> Positions
+// The first place of each group name; none where one is not found.
+fn name_places(moved: &[u64], aggregates: &[u64], names: &[u64]) -> Option<NumberList>
     requires { (length moved.now ≤ 32) × (length aggregates.now ≤ 32) × (length names.now ≤ 32) }
-    ensures { WholeNumbers result.at × (positions_of result ≡ name_places (moved.now ++ aggregates.now) names.now) }
+    ensures { positions_of result ≡ name_places (moved.now ++ aggregates.now) names.now }
 {
-    let mut at = keys::list::no_numbers();
-    let mut i: usize = 0;
-    while i < names.len() {
-        let Found::At(p) = find_field(moved, aggregates, names[i]) else {
-            return Positions {
-                outcome: Placed::Missing,
-                at: at,
-            };
-        };
-        at.items[i] = keys::list::narrow(p);
-        i += 1;
+    let mut items = [0u8; 32];
+    for (i, &name) in names.iter().enumerate() {
+        let p = find_field(moved, aggregates, name)?;
+        items[i] = p as u8;
     }
-    at.count = i;
-    Positions {
-        outcome: Placed::All,
-        at: at,
-    }
-}
-
-fn regrouped(at: NumberList, places: NumberList) -> Adjusted
-    requires { WholeNumbers at × WholeNumbers places }
-    ensures { WholeAdjusted result × ((s : KeySheet) → adjusted_of s result ≡ regrouped same_expr s (numbers at) (some (numbers places))) }
-{
-    Adjusted {
-        outcome: Outcome::Regrouped,
-        cleared: true,
-        first: Handed::Cleared,
-        others: Handed::Kept,
-        at: at,
-        places: places,
-    }
+    Some(NumberList::new(items, names.len()))
 }
 
 // The aggregate acts: the names of the moved groups, and where each group name is found again.
-fn regroup(o: &[u64], a: &[u64], at: NumberList) -> Adjusted
-    requires { WholeNumbers at × (length o.now ≤ 32) × (length a.now ≤ 32) }
-    ensures { WholeAdjusted result × ((k : Operator) (r l g s : List ℕ) (w : List (List ℕ)) (m : List ℕ) (cs : List (List Expression)) → let t = key_sheet k r l g s w o.now a.now m cs in adjusted_of t result ≡ regrouped same_expr t (numbers at) (name_places (permute 0 o.now (numbers at) ++ a.now) o.now)) }
+fn regroup(sheet: &Sheet<'_>, at: NumberList) -> Option<Adjusted>
+    ensures { IsDecided sheet.now (λ t. regrouped same_expr t (numbers at) (name_places (permute 0 t.groups (numbers at) ++ t.aggregates) t.groups)) result }
 {
-    let n = at.count;
-    let items = at.items;
     let mut names = [0u64; 32];
-    keys::list::permute(0, o, &items[0..n], &mut names);
-    let p = name_places(&names[0..n], a, o);
-    let f = p.outcome;
-    let Placed::All = f else {
-        return keys::answer::passed(Outcome::NameNotFound, false, Handed::Kept, Handed::Kept);
-    };
-    regrouped(at, p.at)
+    permute(0, sheet.groups, at.numbers(), &mut names);
+    let places = name_places(&names[..at.count], sheet.aggregates, sheet.groups)?;
+    Some(Adjusted {
+        outcome: Outcome::Regrouped { at, places },
+        cleared: true,
+        first: Handed::Cleared,
+        others: Handed::Kept,
+    })
 }
 
 // Where the group names stand for other columns than R asks, in another order: their order, as R asks.
-fn regroup_by(k: Operator, r: &[u64], o: &[u64], a: &[u64], columns: &[u64]) -> Adjusted
-    requires { (length r.now ≤ 32) × (length o.now ≤ 32) × (length a.now ≤ 32) × (expressions columns.now ≡ columns_from 0 o.now) }
-    ensures { WholeAdjusted result × ((l g s : List ℕ) (w : List (List ℕ)) (m : List ℕ) (cs : List (List Expression)) → let t = key_sheet k r.now l g s w o.now a.now m cs in adjusted_of t result ≡ regrouped_by same_expr t (expected_expr_positions same_expr placeholder (columns_from 0 o.now) (expressions r.now))) }
+fn regroup_by(sheet: &Sheet<'_>, columns: &[u64]) -> Option<Adjusted>
+    requires { expressions columns.now ≡ columns_from 0 sheet.now.groups.now }
+    ensures { IsDecided sheet.now (λ t. regrouped_by same_expr t (expected_expr_positions same_expr placeholder (columns_from 0 t.groups) t.required)) result }
 {
-    let p = keys::reorder::expected_expr_positions(columns, r);
-    let f = p.outcome;
-    let Placed::All = f else {
-        return keys::answer::passed(Outcome::Passed, false, Handed::Kept, Handed::Kept);
-    };
-    if k.partial {
-        return regroup(o, a, p.at);
+    match expected_expr_positions(columns, sheet.required) {
+        Some(at) if sheet.operator.partial => regroup(sheet, at),
+        _ => Some(Adjusted::passed(Handed::Kept, Handed::Kept)),
     }
-    keys::answer::passed(Outcome::Passed, false, Handed::Kept, Handed::Kept)
 }
 
-fn reorder_aggregate_keys(k: Operator, r: &[u64], o: &[u64], a: &[u64]) -> Adjusted
-    requires { (length r.now ≤ 32) × (length o.now ≤ 32) × (length a.now ≤ 32) × Below 65536 o.now }
-    ensures { WholeAdjusted result × ((l g s : List ℕ) (w : List (List ℕ)) (m : List ℕ) (cs : List (List Expression)) → let t = key_sheet k r.now l g s w o.now a.now m cs in adjusted_of t result ≡ reorder_aggregate_keys same_expr t) }
+fn reorder_aggregate_keys(sheet: &Sheet<'_>) -> Option<Adjusted>
+    ensures { IsDecided sheet.now (reorder_aggregate_keys same_expr) result }
 {
-    if r.len() != o.len() {
-        return keys::answer::passed(Outcome::Passed, false, Handed::Kept, Handed::Kept);
+    let n = sheet.groups.len();
+    if sheet.required.len() != n || !sheet.operator.plain {
+        return Some(Adjusted::passed(Handed::Kept, Handed::Kept));
     }
-    if !k.plain {
-        return keys::answer::passed(Outcome::Passed, false, Handed::Kept, Handed::Kept);
-    }
-    let n = o.len();
     let mut columns = [0u64; 32];
-    group_columns(o, &mut columns);
-    if keys::reorder::same_keys(&columns[0..n], r) {
-        return keys::answer::passed(Outcome::Passed, false, Handed::Kept, Handed::Kept);
+    group_columns(sheet.groups, &mut columns);
+    if &columns[..n] == sheet.required {
+        return Some(Adjusted::passed(Handed::Kept, Handed::Kept));
     }
-    regroup_by(k, r, o, a, &columns[0..n])
+    regroup_by(sheet, &columns[..n])
 }
 
-pub fn aggregate(k: Operator, r: &[u64], o: &[u64], a: &[u64]) -> Adjusted
-    requires { (length r.now ≤ 32) × (length o.now ≤ 32) × (length a.now ≤ 32) × Below 65536 o.now }
-    ensures { WholeAdjusted result × ((l g s : List ℕ) (w : List (List ℕ)) (m : List ℕ) (cs : List (List Expression)) → let t = key_sheet k r.now l g s w o.now a.now m cs in adjusted_of t result ≡ aggregate same_expr t) }
+pub fn aggregate(sheet: &Sheet<'_>) -> Option<Adjusted>
+    ensures { IsDecided sheet.now (aggregate same_expr) result }
 {
-    if r.len() == 0 {
-        return keys::answer::passed(Outcome::Unchanged, false, Handed::Kept, Handed::Kept);
+    if sheet.required.is_empty() {
+        return Some(Adjusted::unchanged());
     }
-    if k.mode == 0 {
-        return reorder_aggregate_keys(k, r, o, a);
+    if sheet.operator.mode == 0 {
+        return reorder_aggregate_keys(sheet);
     }
-    keys::answer::passed(Outcome::Passed, true, Handed::Kept, Handed::Kept)
+    Some(Adjusted::cleared())
 }

@@ -3,3 +3,4 @@
 
 pub mod adjust;
 pub mod aggregate;
+pub mod sheet;

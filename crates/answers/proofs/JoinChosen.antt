@@ -5,7 +5,7 @@ use mathlib.Core.Path.{◌≡◌, sym, ap, ◌∙◌}
 use mathlib.Core.List.{List}
 use native.Mathlib.Omega.{arith}
 use Rattle.keys.specs.Expressions.{gone_number}
-use Rattle.keys.specs.InputValues.{side_number, attempt_of, report_by, side_by}
+use Rattle.keys.specs.InputValues.{side_number, attempt_of, report_by, side_by, positions_by}
 use Rattle.keys.specs.declared.inputs.Attempt.{Attempt}
 use Rattle.sheet.specs.KeyAnswers.{join_answer_text}
 use Rattle.sheet.specs.Held.{held_at, held_join_sheet, JoinHeld}
@@ -17,7 +17,10 @@ use Rattle.moves.proofs.Choices.{Short, moved_short, turned_short, followed_any}
 use Rattle.moves.proofs.HeldJoins.{join_few, join_even, join_directions}
 use Rattle.answers.proofs.JoinLists.{join_lists}
 
-module _ (lists : List (List ℕ)) (counts : List ℕ) (o : Attempt) (ps left right turned : List ℕ) where
+module _ (lists : List (List ℕ)) (counts : List ℕ) (o : Attempt) (left right turned : List ℕ) where
+  abbrev ps : List ℕ
+  ps = positions_by o
+
   abbrev At : ℕ → List ℕ
   At i = held_at lists counts i
 
@@ -29,7 +32,7 @@ module _ (lists : List (List ℕ)) (counts : List ℕ) (o : Attempt) (ps left ri
     pub right_is : g ≡ followed_or o right (At 2)
     pub directions : s ≡ followed_or o turned (At 3)
 
-  module _ {report followed : ℕ} {l g s : List ℕ} (c : JoinChosen report followed l g s) (ready : ReadyJoin lists counts o ps left right turned) where
+  module _ {report followed : ℕ} {l g s : List ℕ} (c : JoinChosen report followed l g s) (ready : ReadyJoin lists counts ps left right turned) where
     pub join_short_lists : JoinHeld lists counts → JoinFew ps l g s
     join_short_lists h =
         let second : Short (At 2) = omega (arith, join_few lists counts h, join_even lists counts h) in
@@ -40,9 +43,9 @@ module _ (lists : List (List ℕ)) (counts : List ℕ) (o : Attempt) (ps left ri
           directions = rw c.directions (followed_any Short o turned (At 3) (rw ready.directions (turned_short (At 3) ps ready.positions)) (join_directions lists counts h));
         }
 
-    pub chosen_join_text : join_lists_text report followed ps l g s ≡ join_answer_text (attempt_of (held_join_sheet lists counts) ps o)
+    pub chosen_join_text : join_lists_text report followed ps l g s ≡ join_answer_text (attempt_of (held_join_sheet lists counts) o)
     chosen_join_text =
         (λ i. join_lists_text (c.reports i) (c.follows i) ps
         ((c.left_is ∙ ap (λ (ks : List ℕ). followed_or o ks (At 1)) ready.left) i) ((c.right_is ∙ ap (λ (ks : List ℕ). followed_or o ks (At 2)) ready.right) i)
         ((c.directions ∙ ap (λ (ds : List ℕ). followed_or o ds (At 3)) ready.directions) i))
-        ∙ sym (join_answer_text_lem _ _ _ _ _ _ _ (join_lists lists counts ps o ready.only))
+        ∙ sym (join_answer_text_lem _ _ _ _ _ _ _ (join_lists lists counts o))

@@ -1,12 +1,13 @@
 -- The lists of an I sheet's answer, by what was decided.
 -- Assumes nothing.
 use Prim.Native.Nat.{ℕ}
-use mathlib.Core.Path.{refl, sym}
+use mathlib.Core.Path.{refl}
 use mathlib.Core.List.{List}
 use Rattle.keys.specs.Lists.{permute}
 use Rattle.keys.specs.Expressions.{gone_number}
 use Rattle.keys.specs.Adjust.{moved_directions}
-use Rattle.keys.specs.InputValues.{side_number, attempt_of, OnlyFollowed, report_by, side_by}
+use Rattle.keys.specs.Values.{numbers}
+use Rattle.keys.specs.InputValues.{side_number, attempt_of, report_by, side_by, positions_by}
 use Rattle.keys.specs.declared.reorder.Reordered.TheVariants.{Met, Moved, Impossible}
 use Rattle.keys.specs.declared.inputs.Attempt.{Attempt}
 use Rattle.keys.specs.declared.inputs.Attempt.TheVariants.{Untried, Followed, Failed}
@@ -15,24 +16,25 @@ use Rattle.sheet.specs.Held.{held_at, held_join_sheet}
 use Rattle.moves.specs.Chosen.{followed_or}
 use Rattle.lines.proofs.AnswerParts.{JoinLists}
 
-module _ (lists : List (List ℕ)) (counts : List ℕ) (ps : List ℕ) where
+module _ (lists : List (List ℕ)) (counts : List ℕ) where
   abbrev At : ℕ → List ℕ
   At i = held_at lists counts i
 
   pub join_lists :
-      (o : Attempt) → OnlyFollowed o ps →
-      JoinLists (attempt_of (held_join_sheet lists counts) ps o) (report_by o) (side_number (side_by o)) ps
-      (followed_or o (permute gone_number (At 1) ps) (At 1)) (followed_or o (permute gone_number (At 2) ps) (At 2)) (followed_or o (moved_directions (At 3) ps) (At 3))
+      (o : Attempt) →
+      JoinLists (attempt_of (held_join_sheet lists counts) o) (report_by o) (side_number (side_by o)) (positions_by o)
+      (followed_or o (permute gone_number (At 1) (positions_by o)) (At 1)) (followed_or o (permute gone_number (At 2) (positions_by o)) (At 2))
+      (followed_or o (moved_directions (At 3) (positions_by o)) (At 3))
   unfolding held_join_sheet
-  join_lists Untried e = record { report = refl; followed = refl; positions = sym e; left = refl; right = refl; directions = refl }
-  join_lists (Followed side Met) e = record { report = refl; followed = refl; positions = refl; left = refl; right = refl; directions = refl }
-  join_lists (Followed side Moved) e = record {
+  join_lists Untried = record { report = refl; followed = refl; positions = refl; left = refl; right = refl; directions = refl }
+  join_lists (Followed side Met) = record { report = refl; followed = refl; positions = refl; left = refl; right = refl; directions = refl }
+  join_lists (Followed side (Moved at)) = record {
     report = refl;
     followed = refl;
     positions = refl;
-    left = permute_expressions (At 1) ps;
-    right = permute_expressions (At 2) ps;
+    left = permute_expressions (At 1) (numbers at);
+    right = permute_expressions (At 2) (numbers at);
     directions = refl;
   }
-  join_lists (Followed side Impossible) e = record { report = refl; followed = refl; positions = refl; left = refl; right = refl; directions = refl }
-  join_lists Failed e = record { report = refl; followed = refl; positions = sym e; left = refl; right = refl; directions = refl }
+  join_lists (Followed side Impossible) = record { report = refl; followed = refl; positions = refl; left = refl; right = refl; directions = refl }
+  join_lists Failed = record { report = refl; followed = refl; positions = refl; left = refl; right = refl; directions = refl }

@@ -6,22 +6,22 @@ use mathlib.Core.Bool.{Bool, true, false, cond}
 use mathlib.Core.List.{List, []}
 use native.Mathlib.Omega.{arith}
 use lib.ListN.{length, get_or}
+use Rattle.std.specs.Prelude.{Option, Some, None}
 use Rattle.keys.specs.Lists.{permute}
 use Rattle.keys.specs.Expressions.{Expression, placeholder, gone_number, expressions}
 use Rattle.keys.specs.Adjust.{KeySheet, KeyAnswer, Adjustment, hand_over, moved_directions}
-use Rattle.keys.specs.Answers.{changed_by, reported_by, moved_or, handed, side_by, answer_by, answer_of, adjusted_by, adjusted_of}
+use Rattle.keys.specs.Answers.{changed_by, reported_by, moved_or, handed, side_by, answer_by, answer_of, adjusted_of}
 use Rattle.keys.specs.declared.reorder.Reordered.TheVariants.{Met, Moved, Impossible}
 use Rattle.keys.specs.declared.answer.Handed.{Handed}
 use Rattle.keys.specs.declared.answer.Outcome.{Outcome}
-use Rattle.keys.specs.declared.answer.Outcome.TheVariants.{Unchanged, Passed, Tried, Regrouped, NameNotFound}
+use Rattle.keys.specs.declared.answer.Outcome.TheVariants.{Unchanged, Passed, Tried, Regrouped}
 use Rattle.keys.specs.declared.answer.Adjusted.{Adjusted}
-use Rattle.keys.proofs.Truths.{true_false}
 use Rattle.keys.proofs.Packed.{permute_expressions}
 use Rattle.sheet.specs.KeyAnswers.{refused, wrote, key_answer_text, adjusted}
 use Rattle.sheet.specs.Held.{held_at, expr_lists, child_count, held_key_sheet, KeyHeld}
 use Rattle.moves.specs.Chosen.{keeps_by, handed_list, shifted_for}
 use Rattle.lines.specs.Children.{chosen}
-use Rattle.answers.specs.AnswerLists.{refused_by, held_projection}
+use Rattle.answers.specs.AnswerLists.{held_projection}
 use Rattle.lines.proofs.AnswerParts.{KeyLists}
 use Rattle.moves.proofs.Choices.{ShiftedBy, shifted_first, shifted_others, handed_is}
 
@@ -29,10 +29,9 @@ moved_packed : (o : Outcome) (moved stood : List ℕ) → moved_or o (expression
 moved_packed Unchanged moved stood = refl
 moved_packed Passed moved stood = refl
 moved_packed (Tried Met) moved stood = refl
-moved_packed (Tried Moved) moved stood = refl
+moved_packed (Tried (Moved at)) moved stood = refl
 moved_packed (Tried Impossible) moved stood = refl
-moved_packed Regrouped moved stood = refl
-moved_packed NameNotFound moved stood = refl
+moved_packed (Regrouped at places) moved stood = refl
 
 cleared_packed : (b : Bool) (r : List ℕ) → cond b [] (expressions r) ≡ expressions (cond b [] r)
 cleared_packed true r = refl
@@ -91,23 +90,9 @@ module _ (lists : List (List ℕ)) (counts : List ℕ) where
         λ j. hand_over (λ c. child 2 first (shifted_first first others (get_or (At 0) 3 0) (At 1) k t) c j) (λ c. child 3 others (shifted_others first others (get_or (At 0) 3 0) (At 1) k t) c j) (expr_lists lists counts 9 (child_count lists counts))
 
 -- refusal 10, or the text
-module _ (s : KeySheet) (x : Adjusted) {d : Adjustment} (e : adjusted_of s x ≡ d) where
-  pub key_refused : refused_by x.outcome ≡ true → adjusted d ≡ refused 10 0
-  key_refused h = rw (← e) (go x.outcome h)
-    where
-      go : (o : Outcome) → refused_by o ≡ true → adjusted (adjusted_by o (answer_of s x)) ≡ refused 10 0
-      go Unchanged h = absurd (true_false h refl)
-      go Passed h = absurd (true_false h refl)
-      go (Tried o) h = absurd (true_false h refl)
-      go Regrouped h = absurd (true_false h refl)
-      go NameNotFound h = refl
+module _ (s : KeySheet) {d : Adjustment} where
+  pub key_refused : (o : Option Adjusted) → adjusted_of s o ≡ d → o ≡ None → adjusted d ≡ refused 10 0
+  key_refused o e z = rw (← e, z)
 
-  pub key_written : refused_by x.outcome ≡ false → adjusted d ≡ wrote (key_answer_text (answer_of s x))
-  key_written h = rw (← e) (go x.outcome h)
-    where
-      go : (o : Outcome) → refused_by o ≡ false → adjusted (adjusted_by o (answer_of s x)) ≡ wrote (key_answer_text (answer_of s x))
-      go Unchanged h = refl
-      go Passed h = refl
-      go (Tried o) h = refl
-      go Regrouped h = refl
-      go NameNotFound h = absurd (true_false refl h)
+  pub key_written : (o : Option Adjusted) (x : Adjusted) → adjusted_of s o ≡ d → o ≡ Some x → adjusted d ≡ wrote (key_answer_text (answer_of s x))
+  key_written o x e z = rw (← e, z)

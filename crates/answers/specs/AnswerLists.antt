@@ -1,25 +1,14 @@
 -- What is asked of the packed lists of an answer before they are written.
-use Rattle.std.specs.Prelude.{ℕ, ◌≤◌, ◌≡◌, Bool, true, false, List, ◌++◌, length, get_or}
+use Rattle.std.specs.Prelude.{ℕ, ◌≤◌, ◌≡◌, List, ◌++◌, length, get_or}
 use Rattle.keys.specs.Lists.{permute}
 use Rattle.keys.specs.Expressions.{gone_number, expressions}
 use Rattle.keys.specs.Adjust.{moved_directions, placed_names, names_from}
-use Rattle.keys.specs.Answers.{projected_by, answer_by}
-use Rattle.keys.specs.InputValues.{OnlyFollowed}
+use Rattle.keys.specs.Answers.{projected_by}
 use Rattle.keys.specs.declared.answer.Handed.{Handed}
-use Rattle.keys.specs.declared.inputs.Attempt.{Attempt}
 use Rattle.keys.specs.declared.answer.Outcome.{Outcome}
-use Rattle.keys.specs.declared.answer.Outcome.TheVariants.{Unchanged, Passed, Tried, Regrouped, NameNotFound}
-use Rattle.sheet.specs.KeyAnswers.{projected_numbers, key_answer_text}
-use Rattle.sheet.specs.Held.{held_at, held_key_sheet}
+use Rattle.sheet.specs.KeyAnswers.{projected_numbers}
+use Rattle.sheet.specs.Held.{held_at}
 use Rattle.moves.specs.Chosen.{shifted_for}
-
--- refusal 10
-abbrev pub refused_by : Outcome → Bool
-refused_by Unchanged = false
-refused_by Passed = false
-refused_by (Tried o) = false
-refused_by Regrouped = false
-refused_by NameNotFound = true
 
 -- no list is longer than 32, and J than 128
 pub record KeyFew (p r l g s j f o : List ℕ) : Type 0 where
@@ -36,12 +25,6 @@ pub record KeyFew (p r l g s j f o : List ℕ) : Type 0 where
 abbrev pub held_projection : List (List ℕ) → List ℕ → Outcome → List ℕ → List ℕ
 held_projection lists counts o places =
     projected_numbers (projected_by o (placed_names (held_at lists counts 6) places ++ names_from (length (held_at lists counts 6)) (held_at lists counts 7)))
-
--- the answer, by the places that J was made of, has room
-pub record FitsKey (lists : List (List ℕ)) (counts : List ℕ) (o : Outcome) (cleared : Bool) (first others : Handed) (ps j : List ℕ) (room : ℕ) : Type 0 where
-  pub places : List ℕ
-  pub made : j ≡ held_projection lists counts o places
-  pub fits : length (key_answer_text (answer_by (held_key_sheet lists counts) o cleared first others ps places)) ≤ room
 
 -- k is R shifted, of a K sheet that is held, where a child is handed it
 pub record ShiftedKeys (lists : List (List ℕ)) (counts : List ℕ) (first others : Handed) (k : List ℕ) : Type 0 where
@@ -63,9 +46,8 @@ pub record JoinFew (p l g s : List ℕ) : Type 0 where
   pub directions : length s ≤ 32
 
 -- what stands at the positions ps, of an I sheet that is held
-pub record ReadyJoin (lists : List (List ℕ)) (counts : List ℕ) (o : Attempt) (ps l g s : List ℕ) : Type 0 where
+pub record ReadyJoin (lists : List (List ℕ)) (counts : List ℕ) (ps l g s : List ℕ) : Type 0 where
   pub positions : length ps ≤ 32
-  pub only : OnlyFollowed o ps
   pub left : l ≡ permute gone_number (held_at lists counts 1) ps
   pub right : g ≡ permute gone_number (held_at lists counts 2) ps
   pub directions : s ≡ moved_directions (held_at lists counts 3) ps

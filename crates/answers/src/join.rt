@@ -2,14 +2,14 @@
 ghost use Rattle.std.specs.Prelude.{◌≡◌, true, ◌≤◌, leb, length};
 ghost use Rattle.keys.specs.Expressions.{same_expr};
 ghost use Rattle.keys.specs.Inputs.{reorder_join_keys_to_inputs};
-ghost use Rattle.keys.specs.InputValues.{attempt_of};
+ghost use Rattle.keys.specs.InputValues.{attempt_of, positions_by};
 ghost use Rattle.sheet.specs.KeyAnswers.{wrote, join_answer_text};
 ghost use Rattle.sheet.specs.Outcomes.{answer, after, within};
 ghost use Rattle.sheet.specs.Held.{held_join_sheet, JoinHeld};
 ghost use Rattle.lines.specs.Texts.{join_lists_text};
 ghost use Rattle.answers.specs.AnswerLists.{JoinFew, ReadyJoin};
 
-use keys::inputs::{Attempt, report_number, side_followed, side_number};
+use keys::inputs::{Attempt, side_number};
 use lines::join_text::{join_lists_length, put_join_lists};
 use moves::chosen::followed_or;
 use moves::decide::follow;
@@ -61,24 +61,23 @@ fn answer_lists<'a>(
     roomy: bool,
     lists: &'a [[u64; 64]],
     counts: &[usize],
-    o: Attempt,
-    at: &[u8],
+    o: &Attempt,
     left: &'a [u64],
     right: &'a [u64],
     turned: &'a [u64],
     out: &mut [u8],
 ) -> u64
-    requires { JoinHeld lists.now counts.now × ReadyJoin lists.now counts.now o at.now left.now right.now turned.now × (roomy ≡ true → length (join_answer_text (attempt_of (held_join_sheet lists.now counts.now) at.now o)) ≤ length out.old) }
-    ensures { let t = within (length out.old) (wrote (join_answer_text (attempt_of (held_join_sheet lists.now counts.now) at.now o))) in (result ≡ answer t) × (out.new ≡ after t out.old) }
+    requires { JoinHeld lists.now counts.now × ReadyJoin lists.now counts.now (positions_by o.now) left.now right.now turned.now × (roomy ≡ true → length (join_answer_text (attempt_of (held_join_sheet lists.now counts.now) o.now)) ≤ length out.old) }
+    ensures { let t = within (length out.old) (wrote (join_answer_text (attempt_of (held_join_sheet lists.now counts.now) o.now))) in (result ≡ answer t) × (out.new ≡ after t out.old) }
 {
-    let n = at.len();
+    let at = o.positions();
     let mut positions = [0u64; 32];
     wide_positions(at, &mut positions);
     write_join(
         roomy,
-        report_number(o),
-        side_number(side_followed(o)),
-        &positions[0..n],
+        o.report(),
+        side_number(o.side()),
+        &positions[..at.len()],
         followed_or(o, left, held(lists, counts, 1)),
         followed_or(o, right, held(lists, counts, 2)),
         followed_or(o, turned, held(lists, counts, 3)),
@@ -98,11 +97,9 @@ pub fn answer_join_sheet(
     requires { JoinHeld lists.now counts.now × (32 ≤ length w.old) × (32 ≤ length v.old) × (roomy ≡ true → length (join_answer_text (reorder_join_keys_to_inputs (held_join_sheet lists.now counts.now) same_expr)) ≤ length out.old) }
     ensures { let t = within (length out.old) (wrote (join_answer_text (reorder_join_keys_to_inputs (held_join_sheet lists.now counts.now) same_expr))) in (result ≡ answer t) × (out.new ≡ after t out.old) }
 {
-    let c = follow(lists, counts, w, v);
-    let o = c.outcome;
-    let at = c.at;
-    let n = at.count;
-    let positions = at.items;
+    let attempt = follow(lists, counts, w, v);
+    let at = attempt.positions();
+    let n = at.len();
     let mut left = [0u64; 32];
     let mut right = [0u64; 32];
     let mut turned = [0u64; 32];
@@ -110,7 +107,7 @@ pub fn answer_join_sheet(
         held(lists, counts, 1),
         held(lists, counts, 2),
         held(lists, counts, 3),
-        &positions[0..n],
+        at,
         &mut left,
         &mut right,
         &mut turned,
@@ -119,11 +116,10 @@ pub fn answer_join_sheet(
         roomy,
         lists,
         counts,
-        o,
-        &positions[0..n],
-        &left[0..n],
-        &right[0..n],
-        &turned[0..m],
+        &attempt,
+        &left[..n],
+        &right[..n],
+        &turned[..m],
         out,
     )
 }

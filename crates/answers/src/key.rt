@@ -1,16 +1,16 @@
 // The answer of a K sheet that was read.
-ghost use Rattle.std.specs.Prelude.{◌≡◌, true, List, ◌++◌, ℕ, ◌≤◌, leb, length, get_or};
+ghost use Rattle.std.specs.Prelude.{◌≡◌, true, ◌++◌, ◌≤◌, leb, length, get_or};
 ghost use Rattle.keys.specs.Expressions.{same_expr};
 ghost use Rattle.keys.specs.Adjust.{adjust_input_keys_ordering};
-ghost use Rattle.keys.specs.Answers.{WholeAdjusted, answer_by, answer_of};
+ghost use Rattle.keys.specs.Answers.{positions_by, places_by, answer_of};
 ghost use Rattle.sheet.specs.KeyAnswers.{wrote, key_answer_text, adjusted};
 ghost use Rattle.sheet.specs.Outcomes.{answer, after, within, FitsIn};
 ghost use Rattle.sheet.specs.Held.{child_count, held_key_sheet, KeyHeld};
 ghost use Rattle.lines.specs.Texts.{key_lists_text};
 ghost use Rattle.lines.specs.Children.{children_text};
-ghost use Rattle.answers.specs.AnswerLists.{refused_by, FitsKey, KeyFew, held_projection, ShiftedKeys, ReadyKey};
+ghost use Rattle.answers.specs.AnswerLists.{KeyFew, held_projection, ShiftedKeys, ReadyKey};
 
-use keys::answer::{Adjusted, Handed, Outcome, changed_number, report_number};
+use keys::answer::Adjusted;
 use lines::children::{children_length, put_children};
 use lines::key_text::{key_lists_length, put_key_lists};
 use moves::chosen::{cleared_or, handed_list, keeps, moved_or, shifted_keys};
@@ -18,19 +18,6 @@ use moves::decide::adjust;
 use moves::moved::{moved_pairs, wide_positions};
 use moves::projection::projected_by;
 use sheet::held::held;
-
-// Refusal 10.
-fn refused(o: Outcome) -> bool
-    ensures { result ≡ refused_by o }
-{
-    match o {
-        Outcome::Unchanged => false,
-        Outcome::Passed => false,
-        Outcome::Tried(_) => false,
-        Outcome::Regrouped => false,
-        Outcome::NameNotFound => true,
-    }
-}
 
 // How many children a K line has.
 fn children(h: &[u64]) -> usize
@@ -123,11 +110,7 @@ fn answer_lists<'a>(
     roomy: bool,
     lists: &'a [[u64; 64]],
     counts: &[usize],
-    o: Outcome,
-    cleared: bool,
-    first: Handed,
-    others: Handed,
-    at: &[u8],
+    x: &Adjusted,
     left: &'a [u64],
     right: &'a [u64],
     turned: &'a [u64],
@@ -135,10 +118,11 @@ fn answer_lists<'a>(
     j: &[u64],
     out: &mut [u8],
 ) -> u64
-    requires { KeyHeld lists.now counts.now × ReadyKey lists.now counts.now first others at.now left.now right.now turned.now shifted.now × (length j.now ≤ 128) × (roomy ≡ true → FitsKey lists.now counts.now o cleared first others at.now j.now (length out.old)) }
-    ensures { (places : List ℕ) → j.now ≡ held_projection lists.now counts.now o places → let t = within (length out.old) (wrote (key_answer_text (answer_by (held_key_sheet lists.now counts.now) o cleared first others at.now places))) in (result ≡ answer t) × (out.new ≡ after t out.old) }
+    requires { KeyHeld lists.now counts.now × ReadyKey lists.now counts.now x.now.first x.now.others (positions_by x.now.outcome) left.now right.now turned.now shifted.now × (length j.now ≤ 128) × (j.now ≡ held_projection lists.now counts.now x.now.outcome (places_by x.now.outcome)) × (roomy ≡ true → length (key_answer_text (answer_of (held_key_sheet lists.now counts.now) x.now)) ≤ length out.old) }
+    ensures { let t = within (length out.old) (wrote (key_answer_text (answer_of (held_key_sheet lists.now counts.now) x.now))) in (result ≡ answer t) × (out.new ≡ after t out.old) }
 {
-    let n = at.len();
+    let o = &x.outcome;
+    let at = o.positions();
     let mut positions = [0u64; 32];
     wide_positions(at, &mut positions);
     let required = held(lists, counts, 1);
@@ -148,18 +132,18 @@ fn answer_lists<'a>(
     let s = moved_or(o, turned, held(lists, counts, 4));
     write_key(
         roomy,
-        changed_number(o),
-        report_number(o),
-        &positions[0..n],
-        cleared_or(cleared, required),
+        o.changed(),
+        o.report(),
+        &positions[..at.len()],
+        cleared_or(x.cleared, required),
         l,
         g,
         s,
         j,
-        keeps(first),
-        handed_list(first, required, l, shifted, mapped),
-        keeps(others),
-        handed_list(others, required, g, shifted, mapped),
+        keeps(x.first),
+        handed_list(x.first, required, l, shifted, mapped),
+        keeps(x.others),
+        handed_list(x.others, required, g, shifted, mapped),
         lists,
         counts,
         out,
@@ -171,18 +155,15 @@ fn answer_moved<'a>(
     roomy: bool,
     lists: &'a [[u64; 64]],
     counts: &[usize],
-    o: Outcome,
-    cleared: bool,
-    first: Handed,
-    others: Handed,
-    at: &[u8],
+    x: &Adjusted,
     shifted: &'a [u64],
     j: &[u64],
     out: &mut [u8],
 ) -> u64
-    requires { KeyHeld lists.now counts.now × (length at.now ≤ 32) × ShiftedKeys lists.now counts.now first others shifted.now × (length j.now ≤ 128) × (roomy ≡ true → FitsKey lists.now counts.now o cleared first others at.now j.now (length out.old)) }
-    ensures { (places : List ℕ) → j.now ≡ held_projection lists.now counts.now o places → let t = within (length out.old) (wrote (key_answer_text (answer_by (held_key_sheet lists.now counts.now) o cleared first others at.now places))) in (result ≡ answer t) × (out.new ≡ after t out.old) }
+    requires { KeyHeld lists.now counts.now × ShiftedKeys lists.now counts.now x.now.first x.now.others shifted.now × (length j.now ≤ 128) × (j.now ≡ held_projection lists.now counts.now x.now.outcome (places_by x.now.outcome)) × (roomy ≡ true → length (key_answer_text (answer_of (held_key_sheet lists.now counts.now) x.now)) ≤ length out.old) }
+    ensures { let t = within (length out.old) (wrote (key_answer_text (answer_of (held_key_sheet lists.now counts.now) x.now))) in (result ≡ answer t) × (out.new ≡ after t out.old) }
 {
+    let at = x.outcome.positions();
     let n = at.len();
     let l = held(lists, counts, 2);
     let g = held(lists, counts, 3);
@@ -195,14 +176,10 @@ fn answer_moved<'a>(
         roomy,
         lists,
         counts,
-        o,
-        cleared,
-        first,
-        others,
-        at,
-        &left[0..n],
-        &right[0..n],
-        &turned[0..m],
+        x,
+        &left[..n],
+        &right[..n],
+        &turned[..m],
         shifted,
         j,
         out,
@@ -214,41 +191,26 @@ fn answer_adjusted(
     roomy: bool,
     lists: &[[u64; 64]],
     counts: &[usize],
-    x: Adjusted,
+    x: &Adjusted,
     out: &mut [u8],
 ) -> u64
-    requires { KeyHeld lists.now counts.now × WholeAdjusted x × (roomy ≡ true → length (key_answer_text (answer_of (held_key_sheet lists.now counts.now) x)) ≤ length out.old) }
-    ensures { let t = within (length out.old) (wrote (key_answer_text (answer_of (held_key_sheet lists.now counts.now) x))) in (result ≡ answer t) × (out.new ≡ after t out.old) }
+    requires { KeyHeld lists.now counts.now × (roomy ≡ true → length (key_answer_text (answer_of (held_key_sheet lists.now counts.now) x.now)) ≤ length out.old) }
+    ensures { let t = within (length out.old) (wrote (key_answer_text (answer_of (held_key_sheet lists.now counts.now) x.now))) in (result ≡ answer t) × (out.new ≡ after t out.old) }
 {
-    let o = x.outcome;
-    let first = x.first;
-    let others = x.others;
-    let at = x.at;
-    let n = at.count;
-    let positions = at.items;
-    let found = x.places;
-    let k = found.count;
-    let places = found.items;
     let mut shifted = [0u64; 32];
     let mut j = [0u64; 128];
     let columns = held(lists, counts, 0)[3];
-    let h = shifted_keys(first, others, held(lists, counts, 1), columns, &mut shifted);
+    let h = shifted_keys(
+        x.first,
+        x.others,
+        held(lists, counts, 1),
+        columns,
+        &mut shifted,
+    );
     let groups = held(lists, counts, 6);
     let names = held(lists, counts, 7);
-    let w = projected_by(o, groups, &places[0..k], names, &mut j);
-    answer_moved(
-        roomy,
-        lists,
-        counts,
-        o,
-        x.cleared,
-        first,
-        others,
-        &positions[0..n],
-        &shifted[0..h],
-        &j[0..w],
-        out,
-    )
+    let w = projected_by(&x.outcome, groups, names, &mut j);
+    answer_moved(roomy, lists, counts, x, &shifted[..h], &j[..w], out)
 }
 
 // The decision on a K sheet and its answer's bytes; `rules` is room for the rewriting, `roomy` says that the answer fits.
@@ -262,10 +224,8 @@ pub fn answer_key_sheet(
     requires { KeyHeld lists.now counts.now × (32 ≤ length rules.old) × (roomy ≡ true → FitsIn (length out.old) (adjusted (adjust_input_keys_ordering same_expr (held_key_sheet lists.now counts.now)))) }
     ensures { let t = within (length out.old) (adjusted (adjust_input_keys_ordering same_expr (held_key_sheet lists.now counts.now))) in (result ≡ answer t) × (out.new ≡ after t out.old) }
 {
-    let x = adjust(lists, counts, rules);
-    let o = x.outcome;
-    if refused(o) {
+    let Some(x) = adjust(lists, counts, rules) else {
         return 42949672960;
-    }
-    answer_adjusted(roomy, lists, counts, x, out)
+    };
+    answer_adjusted(roomy, lists, counts, &x, out)
 }

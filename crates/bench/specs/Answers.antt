@@ -2,7 +2,8 @@
 use Rattle.std.specs.Prelude.{ℕ, ◌+◌, List, map, cond, leb, length}
 use Rattle.std.proofs.Math.Option.{Option, none, some}
 use Rattle.std.proofs.lemmas.List.Edits.{sets}
-use Rattle.text.specs.Text.{Field, state_of, value_of, greatest}
+use Rattle.text.specs.declared.field.Field.{Field}
+use Rattle.text.specs.Text.{state_of, value_of, greatest}
 use Rattle.bench.specs.declared.Found.{Found}
 
 abbrev pub found : ℕ → Option (List Field) → Found

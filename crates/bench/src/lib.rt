@@ -13,7 +13,7 @@ ghost use Rattle.bench.specs.Orders.{report_for, left_for, right_for};
 
 use keys::list::entry;
 use keys::reorder::{GONE, Reordered, try_reorder};
-use text::line::{Line, line_at};
+use text::line::line_at;
 use text::write::{line_length, put_line};
 
 // A line that was found, with the place after it; all 0 where there is none.
@@ -26,24 +26,12 @@ pub struct Found {
     pub largest: u64,
 }
 
-fn widened(n: usize) -> u64
-    ensures { result ≡ n }
-{
-    n as u64
-}
-
 #[unsafe(no_mangle)]
 pub extern "C" fn bench_line_at(s: &[u8], at: usize, letter: u8, out: &mut [[u64; 2]]) -> Found
     ensures answer { result ≡ found (after s.now at) (line_at letter s.now at) }
     ensures stored { out.new ≡ stored_in out.old (line_fields letter (line (drop at s.now))) }
 {
-    let Line::Fields {
-        count,
-        worst,
-        largest,
-        next,
-    } = line_at(s, at, letter, out)
-    else {
+    let Some(f) = line_at(s, at, letter, out) else {
         return Found {
             next: 0,
             count: 0,
@@ -52,10 +40,10 @@ pub extern "C" fn bench_line_at(s: &[u8], at: usize, letter: u8, out: &mut [[u64
         };
     };
     Found {
-        next: widened(next),
-        count: widened(count),
-        worst,
-        largest,
+        next: f.next as u64,
+        count: f.count as u64,
+        worst: f.worst,
+        largest: f.largest,
     }
 }
 
@@ -71,7 +59,7 @@ pub extern "C" fn bench_put_line(out: &mut [u8], at: usize, letter: u8, rows: &[
     if out.len() - at < line_length(rows) {
         return 0;
     }
-    widened(put_line(out, at, letter, rows))
+    put_line(out, at, letter, rows) as u64
 }
 
 fn store(out: &mut [u64], i: usize, value: u64)
@@ -86,10 +74,8 @@ fn store(out: &mut [u64], i: usize, value: u64)
 fn store_moved(all: &[u64], at: &[u8], out: &mut [u64])
     ensures { out.new ≡ sets out.old 0 (permute gone_number all.now at.now) }
 {
-    let mut i: usize = 0;
-    while i < at.len() {
-        store(out, i, entry(GONE, all, at[i]));
-        i += 1;
+    for (i, &p) in at.iter().enumerate() {
+        store(out, i, entry(GONE, all, p));
     }
 }
 
@@ -107,27 +93,14 @@ pub extern "C" fn bench_try_reorder(
     ensures left { left.new ≡ left_for w.now r.now l.now g.now left.old }
     ensures right { right.new ≡ right_for w.now r.now l.now g.now right.old }
 {
-    if r.len() > 32 {
+    if r.len() > 32 || l.len() > 32 || g.len() != l.len() {
         return 0;
     }
-    if l.len() > 32 {
-        return 0;
-    }
-    if g.len() != l.len() {
-        return 0;
-    }
-    let t = try_reorder(w, r, l, g);
-    let o = t.outcome;
-    match o {
-        Reordered::Met => 1,
-        Reordered::Impossible => 3,
-        Reordered::Moved => {
-            let at = t.at;
-            let n = at.count;
-            let items = at.items;
-            store_moved(l, &items[0..n], left);
-            store_moved(g, &items[0..n], right);
-            2
-        }
-    }
+    let tried = try_reorder(w, r, l, g);
+    let Reordered::Moved(at) = tried else {
+        return tried.report();
+    };
+    store_moved(l, at.numbers(), left);
+    store_moved(g, at.numbers(), right);
+    tried.report()
 }

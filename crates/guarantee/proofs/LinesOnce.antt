@@ -7,7 +7,8 @@ use mathlib.Core.Path.{◌≡◌, refl, sym, ap}
 use mathlib.Core.List.{List, [], ◌∷◌, ◌++◌, map, append_assoc}
 use native.Mathlib.Omega.{arith}
 use lib.ListN.{length}
-use Rattle.text.specs.Text.{Field, number, empty, malformed}
+use Rattle.text.specs.declared.field.Field.{Field}
+use Rattle.text.specs.declared.field.Field.TheVariants.{Number as number, Empty as empty, Malformed as malformed}
 use Rattle.text.specs.Write.{decimal, field_text, fields_text, line_text}
 use Rattle.text.proofs.Decimal.{decimal_one, decimal_more, decimal_some, by_tenths}
 use Rattle.text.proofs.Exact.{decimal_injective}

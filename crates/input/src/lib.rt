@@ -1,16 +1,16 @@
-// How a program reads its input, and a room for what it writes.
+// What the programs share: how they read their input, the rooms that they lend, and what an entry point's answer says.
 #![tactic(auto)]
 
-ghost use Rattle.std.specs.Prelude.{◌≡◌, ◌≤◌, ◌<◌, IfOk, length, take};
+ghost use Rattle.std.specs.Prelude.{◌≡◌, ◌≤◌, ◌<◌, ◌/◌, ◌%◌, IfOk, length, take};
 ghost use Rattle.std.specs.Io.KnownBytes.{Consumes, IsAtEnd};
 
-use std::io;
 use std::io::Read;
+use std::{fmt, io};
 
-pub fn large_buffer() -> [u8; 65536]
-    ensures { 65536 ≡ length result }
+pub fn buffer<const N: usize>() -> [u8; N]
+    ensures { N ≡ length result }
 {
-    [0; 65536]
+    [0; N]
 }
 
 // Reads until the room is full or the input ends: how many bytes stand at the room's front.
@@ -28,4 +28,47 @@ pub fn read_full<R: Read>(input: &mut R, room: &mut [u8]) -> io::Result<usize>
         done += n;
     }
     Ok(done)
+}
+
+// A refusal by its number, and its line.
+#[derive(Clone, Copy, Debug, PartialEq, Eq)]
+pub struct Refused {
+    pub number: u64,
+    pub line: u64,
+}
+
+impl fmt::Display for Refused {
+    fn fmt<W: fmt::Write>(&self, f: &mut fmt::Formatter<W>) -> fmt::Result {
+        write!(f, "e,{},{}", self.number, self.line)
+    }
+}
+
+// What the word says that an entry point answers: how many bytes were written, or the refusal.
+pub fn answered(word: u64) -> Result<usize, Refused>
+    ensures written { word < 4294967296 → result ≡ Ok word }
+    ensures refused { 4294967296 ≤ word → result ≡ Err (record { number = word / 4294967296; line = word % 4294967296 }) }
+{
+    if word < 0x1_0000_0000 {
+        Ok(word as usize)
+    } else {
+        Err(Refused {
+            number: word / 0x1_0000_0000,
+            line: word % 0x1_0000_0000,
+        })
+    }
+}
+
+// Prints the answer that stands at the room's front, or the refusal.
+pub fn print_answer(
+    rt: &impl Print,
+    answer: Result<usize, Refused>,
+    room: &[u8],
+) -> io::Result<()> {
+    match answer {
+        Ok(written) => match room.get(..written) {
+            Some(bytes) => rt.write_all(bytes),
+            None => Ok(()),
+        },
+        Err(refused) => println!(rt; "{refused}"),
+    }
 }

@@ -1,47 +1,38 @@
 // The order that the inputs of a join have already, with the keys that were followed handed back. Ports `reorder_join_keys_to_inputs`.
-ghost use Rattle.std.specs.Prelude.{◌≡◌, List, ℕ, ◌≤◌, length};
+ghost use Rattle.std.specs.Prelude.{List, ℕ};
 ghost use Rattle.keys.specs.Expressions.{same_expr};
 ghost use Rattle.keys.specs.Inputs.{reorder_join_keys_to_inputs};
-ghost use Rattle.keys.specs.InputValues.{join_sheet, side_number, HandedBack, InputsOrdered};
+ghost use Rattle.keys.specs.InputValues.{side_number, side_by, report_by, positions_by, HandedBack, InputsOrdered};
+ghost use Rattle.inputs.specs.Sheets.{sheet_of};
 
-use crate::current::{after_mark, join_keys_to_inputs};
-use keys::inputs::{Side, report_number, side_followed, side_number};
+use crate::current::join_keys_to_inputs;
+use crate::sheet::{Input, Inputs};
+use keys::inputs::{Attempt, Side};
+
+// What came of the try, and the caller's own keys of the side that was followed.
+#[derive(Clone, Copy)]
+pub struct Ordered<'a> {
+    pub attempt: Attempt,
+    pub keys: &'a [u64],
+}
 
 // The caller's own list of the side that was followed.
-pub fn followed_keys<'a>(side: Side, h: &'a [u64], n: &'a [u64]) -> &'a [u64]
-    ensures { HandedBack (side_number side) h.entry n.entry result }
+pub fn followed_keys<'a>(side: Option<Side>, left: Input<'a>, right: Input<'a>) -> &'a [u64]
+    ensures { HandedBack (side_number side) left.entry.list right.entry.list result }
 {
     match side {
-        Side::Neither => return &h[0..0],
-        Side::Left => return after_mark(h),
-        Side::Right => return after_mark(n),
+        None => &left.list[..0],
+        Some(Side::Left) => left.keys(),
+        Some(Side::Right) => right.keys(),
     }
 }
 
-// The keys that were followed, and in the lent places the report, the side and the positions.
-pub fn reorder_join_keys_to_inputs<'a>(
-    op: u64,
-    mode: u64,
-    l: &[u64],
-    g: &[u64],
-    h: &'a [u64],
-    n: &'a [u64],
-    w: &[[u64; 2]],
-    v: &[[u64; 2]],
-    report: &mut u64,
-    followed: &mut u64,
-    at: &mut [u8; 32],
-) -> &'a [u64]
-    requires { (length l.now ≤ 32) × (length g.now ≡ length l.now) × (length h.now ≤ 33) × (length n.now ≤ 33) }
-    ensures { HandedBack followed.new h.entry n.entry result × (length at.new ≡ 32) × ((s : List ℕ) → let t = join_sheet op mode l.now g.now s h.now n.now w.now v.now in InputsOrdered t (reorder_join_keys_to_inputs t same_expr) l.now report.new followed.new at.new result.now) }
+// The report, the side and the positions, and the keys that were followed.
+pub fn reorder_join_keys_to_inputs<'a>(sheet: Inputs<'a>) -> Ordered<'a>
+    ensures handed { HandedBack (side_number (side_by result.attempt)) sheet.entry.left_input.list sheet.entry.right_input.list result.keys }
+    ensures ordered { (s : List ℕ) → InputsOrdered (sheet_of sheet.entry s) (reorder_join_keys_to_inputs (sheet_of sheet.entry s) same_expr) sheet.entry.left.now (report_by result.attempt) (side_number (side_by result.attempt)) (positions_by result.attempt) result.keys.now }
 {
-    let current = join_keys_to_inputs(op, mode, l, g, h, n, w, v);
-    let o = current.outcome;
-    let side = side_followed(o);
-    *report = report_number(o);
-    *followed = side_number(side);
-    let positions = current.at;
-    let items = positions.items;
-    *at = items;
-    followed_keys(side, h, n)
+    let attempt = join_keys_to_inputs(sheet);
+    let keys = followed_keys(attempt.side(), sheet.left_input, sheet.right_input);
+    Ordered { attempt, keys }
 }

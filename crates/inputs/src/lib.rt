@@ -3,3 +3,4 @@
 
 pub mod current;
 pub mod followed;
+pub mod sheet;

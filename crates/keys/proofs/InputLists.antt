@@ -7,25 +7,25 @@
 use Prim.Native.Nat.{ℕ}
 use mathlib.Core.Path.{◌≡◌, refl, ap, sym, ◌∙◌, subst}
 use mathlib.Core.Bool.{Bool}
-use mathlib.Core.Option.{Option, some}
+use mathlib.Core.Option as maybe
+use mathlib.Core.Option.{some}
+use Rattle.std.specs.Prelude.{Option, Some, None}
 use mathlib.Core.List.{List}
 use native.Mathlib.Omega.{arith}
 use lib.ListN.{length, take, drop, length-map}
 use denote.Ref.{Bor}
-use lib.Seq.{take_all, length-take-le}
+use lib.Seq.{take_all}
 use Rattle.keys.specs.Lists.{permute}
 use Rattle.keys.specs.Reorder.{Rule, Tried, try_reorder}
 use Rattle.keys.specs.Expressions.{Expression, same_expr, placeholder, gone_number, expression, expressions}
 use Rattle.keys.specs.Arrange.{Below}
 use Rattle.keys.specs.Inputs.{JoinSheet, JoinAnswer, as_stood, following, reorder_join_keys_to_inputs, followed_keys}
 use Rattle.keys.specs.Kept.{asked_under}
-use Rattle.keys.specs.Values.{numbers}
-use Rattle.keys.specs.InputValues.{input_of, join_sheet, side_number, mark_length, HandedBack, answer_by, current_of, WholeCurrent, report_by, side_by, position_count, InputsOrdered, InputLists}
+use Rattle.keys.specs.InputValues.{input_of, join_sheet, side_number, mark_length, HandedBack, attempt_of, report_by, side_by, positions_by, position_count, InputsOrdered, InputLists}
 use Rattle.keys.specs.declared.inputs.Side.{Side}
-use Rattle.keys.specs.declared.inputs.Side.TheVariants.{Neither, Left, Right}
+use Rattle.keys.specs.declared.inputs.Side.TheVariants.{Left, Right}
 use Rattle.keys.specs.declared.inputs.Attempt.{Attempt}
 use Rattle.keys.specs.declared.inputs.Attempt.TheVariants.{Untried, Followed, Failed}
-use Rattle.keys.specs.declared.inputs.Current.{Current}
 use Rattle.keys.proofs.Lists.{found_below}
 use Rattle.keys.proofs.Placement.{AllLong, searched_long, searched_below}
 use Rattle.keys.proofs.Packed.{permute_expressions}
@@ -111,12 +111,12 @@ module _ (op mode : ℕ) (l g s h n : List ℕ) (w v : List (List ℕ)) where
   left_input_lem : (a : JoinAnswer) → InputWay same_expr sheet a → a.followed ≡ 1 → input_of h ≡ some (expressions (drop 1 h))
   left_input_lem a (unasked x) e = absurd (omega arith)
   left_input_lem a (all_impossible x f) e = absurd (omega arith)
-  left_input_lem a (followed x side r k f) e = let i : input_of h ≡ some r = rw e at k in i ∙ ap {B = Option (List Expression)} some (marked_keys h r i)
+  left_input_lem a (followed x side r k f) e = let i : input_of h ≡ some r = rw e at k in i ∙ ap {B = maybe.Option (List Expression)} some (marked_keys h r i)
 
   right_input_lem : (a : JoinAnswer) → InputWay same_expr sheet a → a.followed ≡ 2 → input_of n ≡ some (expressions (drop 1 n))
   right_input_lem a (unasked x) e = absurd (omega arith)
   right_input_lem a (all_impossible x f) e = absurd (omega arith)
-  right_input_lem a (followed x side r k f) e = let i : input_of n ≡ some r = rw e at k in i ∙ ap {B = Option (List Expression)} some (marked_keys n r i)
+  right_input_lem a (followed x side r k f) e = let i : input_of n ≡ some r = rw e at k in i ∙ ap {B = maybe.Option (List Expression)} some (marked_keys n r i)
 
   -- so the part handed back starts at 1
   pub left_marked : answered.followed ≡ 1 → mark_length h ≡ 1
@@ -132,60 +132,54 @@ module _ (op mode : ℕ) (l g s h n : List ℕ) (w v : List (List ℕ)) where
   right_keys e = rw (e, right_input_lem answered (input_way same_expr sheet) e)
 
 -- what the lent places and the part handed back say, where c is the answer
-module _ (op mode : ℕ) (l g s : List ℕ) (h n : Bor (List ℕ)) (w v : List (List ℕ)) (even : length g ≡ length l) (c : Current) (whole : WholeCurrent c) where
+module _ (op mode : ℕ) (l g s : List ℕ) (h n : Bor (List ℕ)) (w v : List (List ℕ)) (even : length g ≡ length l) (c : Attempt) where
   abbrev the_sheet : JoinSheet
   the_sheet = sheet op mode l g s h.now n.now w v
 
   abbrev the_answer : JoinAnswer
   the_answer = answered op mode l g s h.now n.now w v
 
-  module _ (e : current_of the_sheet c ≡ the_answer) where
-    abbrev answer_at : Attempt → JoinAnswer
-    answer_at o = answer_by the_sheet (numbers c.at) (as_stood the_sheet 3) (as_stood the_sheet 0) o
-
-    report_is : report_by c.outcome ≡ the_answer.report
-    report_is = go c.outcome ∙ ap (λ (a : JoinAnswer). a.report) e
+  module _ (e : attempt_of the_sheet c ≡ the_answer) where
+    report_is : report_by c ≡ the_answer.report
+    report_is = go c ∙ ap (λ (a : JoinAnswer). a.report) e
       where
-        go : (o : Attempt) → report_by o ≡ (answer_at o).report
+        go : (o : Attempt) → report_by o ≡ (attempt_of the_sheet o).report
         go Untried = refl
         go (Followed side o) = refl
         go Failed = refl
 
-    side_is : side_number (side_by c.outcome) ≡ the_answer.followed
-    side_is = go c.outcome ∙ ap (λ (a : JoinAnswer). a.followed) e
+    side_is : side_number (side_by c) ≡ the_answer.followed
+    side_is = go c ∙ ap (λ (a : JoinAnswer). a.followed) e
       where
-        go : (o : Attempt) → side_number (side_by o) ≡ (answer_at o).followed
+        go : (o : Attempt) → side_number (side_by o) ≡ (attempt_of the_sheet o).followed
         go Untried = refl
         go (Followed side o) = refl
         go Failed = refl
 
-    -- the first so many of the array are the positions
-    front_is : take (length the_answer.positions) c.at.items ≡ the_answer.positions
-    front_is = subst (λ (a : JoinAnswer). take (length a.positions) c.at.items ≡ a.positions) e (go c.outcome)
+    positions_are : positions_by c ≡ the_answer.positions
+    positions_are = go c ∙ ap (λ (a : JoinAnswer). a.positions) e
       where
-        go : (o : Attempt) → take (length (answer_at o).positions) c.at.items ≡ (answer_at o).positions
+        go : (o : Attempt) → positions_by o ≡ (attempt_of the_sheet o).positions
         go Untried = refl
-        go (Followed side o) = rw (length-take-le c.at.count c.at.items (omega (arith, whole.at.full, whole.at.fits)))
+        go (Followed side o) = refl
         go Failed = refl
 
-    keys_are : (side : Side) (r : Bor (List ℕ)) → side_number side ≡ the_answer.followed → HandedBack (side_number side) h n r → expressions r.now ≡ followed_keys the_sheet the_answer.followed
-    keys_are Neither r z b = rw (← z, (b.neither refl).contents)
-    keys_are Left r z b = rw (part_keys h r (b.left refl)) (sym (left_keys op mode l g s h.now n.now w v (sym z)))
-    keys_are Right r z b = rw (part_keys n r (b.right refl)) (sym (right_keys op mode l g s h.now n.now w v (sym z)))
+    keys_are : (side : Option Side) (r : Bor (List ℕ)) → side_number side ≡ the_answer.followed → HandedBack (side_number side) h n r → expressions r.now ≡ followed_keys the_sheet the_answer.followed
+    keys_are None r z b = rw (← z, (b.neither refl).contents)
+    keys_are (Some Left) r z b = rw (part_keys h r (b.left refl)) (sym (left_keys op mode l g s h.now n.now w v (sym z)))
+    keys_are (Some Right) r z b = rw (part_keys n r (b.right refl)) (sym (right_keys op mode l g s h.now n.now w v (sym z)))
 
     pub inputs_ordered :
-        (report number : ℕ) (side : Side) (r : Bor (List ℕ)) → report ≡ report_by c.outcome → number ≡ side_number side → side ≡ side_by c.outcome →
-        HandedBack (side_number side) h n r → InputsOrdered the_sheet the_answer l report number c.at.items r.now
-    inputs_ordered report number side r p q z b =
+        (r : Bor (List ℕ)) → HandedBack (side_number (side_by c)) h n r →
+        InputsOrdered the_sheet the_answer l (report_by c) (side_number (side_by c)) (positions_by c) r.now
+    inputs_ordered r b =
         let m = inputs_counted op mode l g s h.now n.now w v even in
-        let i : report ≡ the_answer.report = p ∙ report_is in
-        let y : side_number side ≡ the_answer.followed = ap side_number z ∙ side_is in
         record {
-          reported = i;
-          follows = q ∙ y;
-          positions = rw (i, ← m.count) front_is;
+          reported = report_is;
+          follows = side_is;
+          positions = rw (positions_are, report_is) (take_all (position_count the_answer.report l) the_answer.positions (omega (arith, m.count)));
           below = m.below;
-          handed = keys_are side r y b;
+          handed = keys_are (side_by c) r side_is b;
         }
 
 -- for a caller: the lists of the answer, by what stands in the lent places

@@ -23,7 +23,9 @@ pub mod Packed
 pub mod Names
 pub mod Rules
 pub mod Placement
+pub mod Places
 pub mod Joins
 pub mod InputMarks
 pub mod InputTurns
 pub mod InputLists
+pub mod Few

@@ -31,11 +31,11 @@ abbrev pub from : ℕ → Option ℕ → Option ℕ
 from i none = none
 from i (some p) = some (i + p)
 
-from_zero : (o : Option ℕ) → from 0 o ≡ o
+pub from_zero : (o : Option ℕ) → from 0 o ≡ o
 from_zero none = refl
 from_zero (some p) = ap {B = Option ℕ} some (zero-add p)
 
-from_next : (i : ℕ) (o : Option ℕ) → from i (next o) ≡ from (i + 1) o
+pub from_next : (i : ℕ) (o : Option ℕ) → from i (next o) ≡ from (i + 1) o
 from_next i none = refl
 from_next i (some p) = ap {B = Option ℕ} some (omega arith)
 

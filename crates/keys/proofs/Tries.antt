@@ -13,10 +13,6 @@ use Rattle.keys.specs.Lists.{expected_expr_positions, or_else}
 use Rattle.keys.specs.Reorder.{Rule, met, moved_by, rewrite_one, rewrite, meets, either_side, try_reorder}
 use Rattle.keys.specs.Searched.{searched, searched_by}
 use Rattle.keys.specs.Arrange.{AllBelow}
-use Rattle.keys.specs.Values.{numbers, placed, positions_of}
-use Rattle.keys.specs.declared.reorder.Placed.{Placed}
-use Rattle.keys.specs.declared.reorder.Placed.TheVariants.{All, Missing}
-use Rattle.keys.specs.declared.reorder.Positions.{Positions}
 use Rattle.keys.proofs.Lists.{or_else_below, positions_below}
 
 pub or_left : (a b : Bool) → a ≡ true → true ≡ a || b
@@ -24,13 +20,6 @@ or_left a b e = rw e
 
 pub or_right : (a b : Bool) → a ≡ false → b ≡ a || b
 or_right a b e = rw e
-
-module _ (p : Positions) where
-  pub when_all : p.outcome ≡ All → positions_of p ≡ some (numbers p.at)
-  when_all e = ap (λ (o : Placed). placed o (numbers p.at)) e
-
-  pub when_missing : p.outcome ≡ Missing → positions_of p ≡ none
-  when_missing e = ap (λ (o : Placed). placed o (numbers p.at)) e
 
 pub first_found : (a b : Option (List ℕ)) (ps : List ℕ) → a ≡ some ps → a ≡ or_else a b
 first_found a b ps e = rw e

@@ -1,22 +1,22 @@
 -- What the lent lists and the answers of `inputs` stand for: document 01's numbers and lists for each case.
-use Rattle.std.specs.Prelude.{ℕ, ◌≤◌, ◌+◌, ◌*◌, ◌-◌, ◌≡◌, cond, List, [], ◌∷◌, eqb, length, take, drop}
-use Rattle.std.proofs.Math.Option.{Option, none, some}
+use Rattle.std.specs.Prelude.{ℕ, ◌≤◌, ◌+◌, ◌*◌, ◌-◌, ◌≡◌, cond, List, [], ◌∷◌, eqb, length, take, drop, Option, Some, None}
+use Rattle.std.proofs.Math.Option as maybe
+use Rattle.std.proofs.Math.Option.{none, some}
 use Rattle.std.specs.Borrow.{Bor}
 use Rattle.keys.specs.Lists.{permute}
 use Rattle.keys.specs.Reorder.{Tried}
 use Rattle.keys.specs.Expressions.{Expression, placeholder, expressions, gone_number, rules}
 use Rattle.keys.specs.Inputs.{JoinSheet, JoinAnswer, as_stood, following, followed_keys}
 use Rattle.keys.specs.Arrange.{Below}
-use Rattle.keys.specs.Values.{numbers, WholeNumbers, report_of, resulting}
+use Rattle.keys.specs.Values.{report_of, positions_in, resulting}
 use Rattle.keys.specs.declared.reorder.Reordered.{Reordered}
 use Rattle.keys.specs.declared.inputs.Side.{Side}
-use Rattle.keys.specs.declared.inputs.Side.TheVariants.{Neither, Left, Right}
+use Rattle.keys.specs.declared.inputs.Side.TheVariants.{Left, Right}
 use Rattle.keys.specs.declared.inputs.Attempt.{Attempt}
 use Rattle.keys.specs.declared.inputs.Attempt.TheVariants.{Untried, Followed, Failed}
-use Rattle.keys.specs.declared.inputs.Current.{Current}
 
 -- a side's list: the mark for hash partitioning, then the keys
-abbrev pub input_of : List ℕ → Option (List Expression)
+abbrev pub input_of : List ℕ → maybe.Option (List Expression)
 input_of [] = none
 input_of (mark ∷ ks) = cond (eqb mark 1) (some (expressions ks)) none
 
@@ -49,10 +49,10 @@ with_pairs l g s = record {
 }
 
 -- 0 none, 1 left, 2 right
-abbrev pub side_number : Side → ℕ
-side_number Neither = 0
-side_number Left = 1
-side_number Right = 2
+abbrev pub side_number : Option Side → ℕ
+side_number None = 0
+side_number (Some Left) = 1
+side_number (Some Right) = 2
 
 -- r is the part of the lent list s from a place to another: it lies there, and holds what stands there
 pub record PartOf (s : Bor (List ℕ)) (start end : ℕ) (r : Bor (List ℕ)) : Type 0 where
@@ -71,37 +71,24 @@ pub record HandedBack (followed : ℕ) (h n r : Bor (List ℕ)) : Type 0 where
   pub left : followed ≡ 1 → PartOf h (mark_length h.now) (length h.now) r
   pub right : followed ≡ 2 → PartOf n (mark_length n.now) (length n.now) r
 
-module _ (s : JoinSheet) (ps : List ℕ) where
-  -- the try that an outcome and the positions beside it stand for
+module _ (s : JoinSheet) where
+  -- the try that an outcome stands for
   abbrev pub current_try : Reordered → Tried Expression
   current_try o = record {
     report = report_of o;
-    positions = ps;
-    left = resulting placeholder o s.left ps;
-    right = resulting placeholder o s.right ps;
+    positions = positions_in o;
+    left = resulting placeholder o s.left;
+    right = resulting placeholder o s.right;
   }
 
   -- the answer where a side was followed, or what else is answered
   abbrev pub answer_by : JoinAnswer → JoinAnswer → Attempt → JoinAnswer
   answer_by impossible untried Untried = untried
-  answer_by impossible untried (Followed side o) = following s (side_number side) (current_try o)
+  answer_by impossible untried (Followed side o) = following s (side_number (Some side)) (current_try o)
   answer_by impossible untried Failed = impossible
 
   abbrev pub attempt_of : Attempt → JoinAnswer
   attempt_of o = answer_by (as_stood s 3) (as_stood s 0) o
-
-abbrev pub current_of : JoinSheet → Current → JoinAnswer
-current_of s c = attempt_of s (numbers c.at) c.outcome
-
--- there are positions only where a side was followed
-abbrev pub OnlyFollowed : Attempt → List ℕ → Type 0
-OnlyFollowed Untried ps = ps ≡ []
-OnlyFollowed (Followed side o) ps = Unit {0}
-OnlyFollowed Failed ps = ps ≡ []
-
-pub record WholeCurrent (c : Current) : Type 0 where
-  pub at : WholeNumbers c.at
-  pub only : OnlyFollowed c.outcome (numbers c.at)
 
 -- document 01's numbers
 abbrev pub report_by : Attempt → ℕ
@@ -109,10 +96,16 @@ report_by Untried = 0
 report_by (Followed side o) = report_of o
 report_by Failed = 3
 
-abbrev pub side_by : Attempt → Side
-side_by Untried = Neither
-side_by (Followed side o) = side
-side_by Failed = Neither
+abbrev pub side_by : Attempt → Option Side
+side_by Untried = None
+side_by (Followed side o) = Some side
+side_by Failed = None
+
+-- there are positions only where a side was followed
+abbrev pub positions_by : Attempt → List ℕ
+positions_by Untried = []
+positions_by (Followed side o) = positions_in o
+positions_by Failed = []
 
 -- how many positions are reported: one for each pair, where the pairs are moved
 abbrev pub position_count : ℕ → List ℕ → ℕ

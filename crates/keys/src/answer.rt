@@ -1,13 +1,12 @@
-// What is answered of an operator: an outcome, what each child's list becomes, and the positions that were found.
-ghost use Rattle.std.specs.Prelude.{◌≡◌, []};
-ghost use Rattle.keys.specs.Values.{numbers};
-ghost use Rattle.keys.specs.Answers.{OnlyMarked, WholeAdjusted, changed_by, reported_by};
+// What is answered of an operator: an outcome, and what each child's list becomes.
+ghost use Rattle.std.specs.Prelude.{◌≡◌, false, true};
+ghost use Rattle.keys.specs.Answers.{changed_by, reported_by, positions_by, places_by};
 
 use crate::list::NumberList;
 use crate::reorder::Reordered;
 
 // The numbers of a K line; `columns` is its `left`.
-#[derive(Clone, Copy)]
+#[derive(Clone, Copy, PartialEq, Eq, Debug)]
 pub struct Operator {
     pub op: u64,
     pub mode: u64,
@@ -18,7 +17,7 @@ pub struct Operator {
 }
 
 // What a child's list becomes.
-#[derive(Clone, Copy)]
+#[derive(Clone, Copy, PartialEq, Eq, Debug)]
 pub enum Handed {
     Kept,
     Cleared,
@@ -28,62 +27,99 @@ pub enum Handed {
     Mapped,
 }
 
+// What was decided, with the positions of the groups that moved and the places of the group names among the moved fields.
 #[derive(Clone, Copy)]
 pub enum Outcome {
     Unchanged,
     Passed,
     Tried(Reordered),
-    Regrouped,
-    NameNotFound,
+    Regrouped { at: NumberList, places: NumberList },
 }
 
-// Positions of the pairs or groups that moved, and the group names' places: empty where an outcome doesn't speak of them.
+impl Outcome {
+    pub fn changed(self) -> u64
+        ensures { result ≡ changed_by self }
+    {
+        match self {
+            Outcome::Unchanged => 0,
+            Outcome::Passed | Outcome::Tried(_) | Outcome::Regrouped { .. } => 1,
+        }
+    }
+
+    pub fn report(self) -> u64
+        ensures { result ≡ reported_by self }
+    {
+        match self {
+            Outcome::Unchanged | Outcome::Passed => 0,
+            Outcome::Tried(tried) => tried.report(),
+            Outcome::Regrouped { .. } => 2,
+        }
+    }
+
+    // The positions of the pairs or groups that moved.
+    pub fn positions(&self) -> &[u8]
+        ensures { result.now ≡ positions_by self.now }
+    {
+        match self {
+            Outcome::Unchanged | Outcome::Passed => &[],
+            Outcome::Tried(tried) => tried.positions(),
+            Outcome::Regrouped { at, .. } => at.numbers(),
+        }
+    }
+
+    // The places of the group names, where the groups moved.
+    pub fn places(&self) -> &[u8]
+        ensures { result.now ≡ places_by self.now }
+    {
+        match self {
+            Outcome::Regrouped { places, .. } => places.numbers(),
+            _ => &[],
+        }
+    }
+}
+
 #[derive(Clone, Copy)]
 pub struct Adjusted {
-    pub at: NumberList,
-    pub places: NumberList,
     pub outcome: Outcome,
     pub cleared: bool,
     pub first: Handed,
     pub others: Handed,
 }
 
-// Neither positions nor places.
-pub fn passed(outcome: Outcome, cleared: bool, first: Handed, others: Handed) -> Adjusted
-    ensures { (OnlyMarked outcome cleared first others → WholeAdjusted result) × (result.outcome ≡ outcome) × (result.cleared ≡ cleared) × (result.first ≡ first) × (result.others ≡ others) × (numbers result.at ≡ []) × (numbers result.places ≡ []) }
-{
-    let at = crate::list::no_numbers();
-    let places = crate::list::no_numbers();
-    Adjusted {
-        outcome: outcome,
-        cleared: cleared,
-        first: first,
-        others: others,
-        at: at,
-        places: places,
+impl Adjusted {
+    // Nothing changes.
+    pub fn unchanged() -> Adjusted
+        ensures { result ≡ record { outcome = Outcome.Unchanged; cleared = false; first = Handed.Kept; others = Handed.Kept } }
+    {
+        Adjusted {
+            outcome: Outcome::Unchanged,
+            cleared: false,
+            first: Handed::Kept,
+            others: Handed::Kept,
+        }
     }
-}
 
-pub fn changed_number(o: Outcome) -> u64
-    ensures { result ≡ changed_by o }
-{
-    match o {
-        Outcome::Unchanged => 0,
-        Outcome::Passed => 1,
-        Outcome::Tried(_) => 1,
-        Outcome::Regrouped => 1,
-        Outcome::NameNotFound => 1,
+    // R is cleared, and every child keeps its list.
+    pub fn cleared() -> Adjusted
+        ensures { result ≡ record { outcome = Outcome.Passed; cleared = true; first = Handed.Kept; others = Handed.Kept } }
+    {
+        Adjusted {
+            outcome: Outcome::Passed,
+            cleared: true,
+            first: Handed::Kept,
+            others: Handed::Kept,
+        }
     }
-}
 
-pub fn report_number(o: Outcome) -> u64
-    ensures { result ≡ reported_by o }
-{
-    match o {
-        Outcome::Unchanged => 0,
-        Outcome::Passed => 0,
-        Outcome::Tried(t) => crate::reorder::report_number(t),
-        Outcome::Regrouped => 2,
-        Outcome::NameNotFound => 0,
+    // The first child's list, and every other's.
+    pub fn passed(first: Handed, others: Handed) -> Adjusted
+        ensures { result ≡ record { outcome = Outcome.Passed; cleared = false; first = first; others = others } }
+    {
+        Adjusted {
+            outcome: Outcome::Passed,
+            cleared: false,
+            first,
+            others,
+        }
     }
 }

@@ -1,13 +1,12 @@
 // What is answered of a join's inputs: which side was followed, and what came of it.
 ghost use Rattle.std.specs.Prelude.{◌≡◌};
-ghost use Rattle.keys.specs.InputValues.{side_number, report_by, side_by};
+ghost use Rattle.keys.specs.Kept.{order_tried};
+ghost use Rattle.keys.specs.InputValues.{side_number, report_by, side_by, positions_by};
 
-use crate::list::NumberList;
 use crate::reorder::Reordered;
 
-#[derive(Clone, Copy)]
+#[derive(Clone, Copy, PartialEq, Eq, Debug)]
 pub enum Side {
-    Neither,
     Left,
     Right,
 }
@@ -20,39 +19,51 @@ pub enum Attempt {
     Failed,
 }
 
-// There are positions only where the pairs are moved.
-#[derive(Clone, Copy)]
-pub struct Current {
-    pub at: NumberList,
-    pub outcome: Attempt,
-}
+impl Attempt {
+    pub fn report(self) -> u64
+        ensures { result ≡ report_by self }
+    {
+        match self {
+            Attempt::Untried => 0,
+            Attempt::Followed(_, tried) => tried.report(),
+            Attempt::Failed => 3,
+        }
+    }
 
-pub fn report_number(o: Attempt) -> u64
-    ensures { result ≡ report_by o }
-{
-    match o {
-        Attempt::Untried => 0,
-        Attempt::Followed(_, t) => crate::reorder::report_number(t),
-        Attempt::Failed => 3,
+    pub fn side(self) -> Option<Side>
+        ensures { result ≡ side_by self }
+    {
+        match self {
+            Attempt::Followed(side, _) => Some(side),
+            Attempt::Untried | Attempt::Failed => None,
+        }
+    }
+
+    // The positions of the pairs that moved.
+    pub fn positions(&self) -> &[u8]
+        ensures { result.now ≡ positions_by self.now }
+    {
+        match self {
+            Attempt::Followed(_, tried) => tried.positions(),
+            Attempt::Untried | Attempt::Failed => &[],
+        }
     }
 }
 
-pub fn side_followed(o: Attempt) -> Side
-    ensures { result ≡ side_by o }
-{
-    match o {
-        Attempt::Untried => Side::Neither,
-        Attempt::Followed(side, _) => side,
-        Attempt::Failed => Side::Neither,
-    }
-}
-
-pub fn side_number(side: Side) -> u64
+// Document 01's number of the side that was followed, 0 for none.
+pub fn side_number(side: Option<Side>) -> u64
     ensures { result ≡ side_number side }
 {
     match side {
-        Side::Neither => 0,
-        Side::Left => 1,
-        Side::Right => 2,
+        None => 0,
+        Some(Side::Left) => 1,
+        Some(Side::Right) => 2,
     }
+}
+
+// A sort-merge join, or a Partitioned hash join.
+pub fn order_tried(op: u64, mode: u64) -> bool
+    ensures { result ≡ order_tried op mode }
+{
+    op == 2 || (op == 0 && mode == 0)
 }

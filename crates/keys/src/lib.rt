@@ -1,7 +1,6 @@
 // Join keys and what is decided about them: a port of the key side of enforce_distribution.rs.
 #![tactic(auto)]
 
-pub mod aggregate;
 pub mod answer;
 pub mod expr;
 pub mod inputs;

@@ -1,16 +1,17 @@
-// Lists of keys and of numbers: thirty-two entries and a count.
-ghost use Rattle.std.specs.Prelude.{◌≡◌, [], ◌≤◌, ◌<◌, length, get_or, take};
-ghost use Rattle.keys.specs.Expressions.{gone_number};
+// Lists of keys and of positions: thirty-two entries and a count.
+ghost use Rattle.std.specs.Prelude.{◌≡◌, ◌≤◌, length, get_or, take};
 ghost use Rattle.keys.specs.Lists.{permute};
-ghost use Rattle.keys.specs.Values.{packed_keys, numbers, Whole, WholeNumbers};
 
 use crate::expr::Expr;
 use crate::reorder::GONE;
 
+// Two structs, since no generic struct holds an array of its type parameter.
 #[derive(Clone, Copy)]
 pub struct KeyList {
     pub items: [Expr; 32],
     pub count: usize,
+    ghost full: { length items ≡ 32 },
+    ghost within: { count ≤ 32 },
 }
 
 // A position takes a byte, so that a list of them is short enough to be handed over.
@@ -18,87 +19,99 @@ pub struct KeyList {
 pub struct NumberList {
     pub items: [u8; 32],
     pub count: usize,
+    ghost full: { length items ≡ 32 },
+    ghost within: { count ≤ 32 },
 }
 
-pub fn no_keys() -> KeyList
-    ensures { Whole result × (packed_keys result ≡ []) × (result.count ≡ 0) }
-{
-    let e = Expr { number: 0 };
-    KeyList {
-        items: [e; 32],
-        count: 0,
+impl KeyList {
+    ghost use Rattle.std.specs.Prelude.{◌<◌, eqb, set, IfSome};
+    ghost use Rattle.keys.specs.Expressions.{gone_number};
+    ghost use Rattle.keys.specs.Lists.{place_of};
+    ghost use Rattle.keys.specs.Values.{packed_keys, found};
+
+    fn of(items: [Expr; 32], count: usize) -> KeyList
+        requires { count ≤ 32 }
+        ensures items { result.items ≡ items }
+        ensures count { result.count ≡ count }
+    {
+        KeyList { items, count }
+    }
+
+    // The keys of a lent list.
+    pub fn new(keys: &[u64]) -> KeyList
+        requires { length keys.now ≤ 32 }
+        ensures keys { packed_keys result ≡ keys.now }
+        ensures count { result.count ≡ length keys.now }
+    {
+        let mut items = [Expr { number: 0 }; 32];
+        for (i, &number) in keys.iter().enumerate() {
+            items[i] = Expr { number };
+        }
+        KeyList::of(items, keys.len())
+    }
+
+    // The keys at the positions.
+    pub fn moved(keys: &[u64], at: &[u8]) -> KeyList
+        requires { length at.now ≤ 32 }
+        ensures keys { packed_keys result ≡ permute gone_number keys.now at.now }
+        ensures count { result.count ≡ length at.now }
+    {
+        let mut items = [Expr { number: 0 }; 32];
+        for (i, &p) in at.iter().enumerate() {
+            items[i] = Expr {
+                number: entry(GONE, keys, p),
+            };
+        }
+        KeyList::of(items, at.len())
+    }
+
+    pub fn keys(&self) -> &[Expr]
+        ensures { result.now ≡ take self.now.count self.now.items }
+    {
+        &self.items[..self.count]
+    }
+
+    // The leftmost place of a key.
+    pub(crate) fn place_of(&self, key: u64) -> Option<usize>
+        ensures place { found result ≡ place_of eqb key (packed_keys self.now) }
+        ensures within { IfSome result (λ p. p < self.now.count) }
+    {
+        self.keys().iter().position(|e| e.number == key)
+    }
+
+    // The placeholder at a place.
+    pub(crate) fn take(&mut self, p: usize)
+        requires { p < self.old.count }
+        ensures keys { packed_keys self.new ≡ set (packed_keys self.old) p gone_number }
+        ensures count { self.new.count ≡ self.old.count }
+    {
+        self.items[p] = Expr { number: GONE };
     }
 }
 
-pub fn no_numbers() -> NumberList
-    ensures { WholeNumbers result × (numbers result ≡ []) × (result.count ≡ 0) }
-{
-    NumberList {
-        items: [0; 32],
-        count: 0,
+impl NumberList {
+    ghost use Rattle.keys.specs.Values.{numbers};
+
+    pub fn new(items: [u8; 32], count: usize) -> NumberList
+        requires { count ≤ 32 }
+        ensures items { result.items ≡ items }
+        ensures count { result.count ≡ count }
+    {
+        NumberList { items, count }
     }
-}
 
-// The keys of a lent list.
-pub fn key_list(keys: &[u64]) -> KeyList
-    requires { length keys.now ≤ 32 }
-    ensures { Whole result × (packed_keys result ≡ keys.now) × (result.count ≡ length keys.now) }
-{
-    let mut out = no_keys();
-    let mut i: usize = 0;
-    while i < keys.len() {
-        out.items[i] = Expr { number: keys[i] };
-        i += 1;
+    pub fn numbers(&self) -> &[u8]
+        ensures { result.now ≡ numbers self.now }
+    {
+        &self.items[..self.count]
     }
-    out.count = i;
-    out
-}
-
-pub fn wide(p: usize) -> u64
-    ensures { result ≡ p }
-{
-    p as u64
-}
-
-pub fn narrow(p: usize) -> u8
-    requires { p < 256 }
-    ensures { result ≡ p }
-{
-    p as u8
-}
-
-fn place(p: u8) -> usize
-    ensures { result ≡ p }
-{
-    p as usize
 }
 
 // What stands at a position, or `gone` where nothing does.
 pub fn entry(gone: u64, all: &[u64], p: u8) -> u64
     ensures { result ≡ get_or all.now p gone }
 {
-    let i = place(p);
-    if i < all.len() {
-        return all[i];
-    }
-    gone
-}
-
-// The keys at the positions.
-pub fn moved_keys(keys: &[u64], at: &[u8]) -> KeyList
-    requires { length at.now ≤ 32 }
-    ensures { Whole result × (packed_keys result ≡ permute gone_number keys.now at.now) × (result.count ≡ length at.now) }
-{
-    let mut out = no_keys();
-    let mut i: usize = 0;
-    while i < at.len() {
-        out.items[i] = Expr {
-            number: entry(GONE, keys, at[i]),
-        };
-        i += 1;
-    }
-    out.count = i;
-    out
+    all.get(usize::from(p)).copied().unwrap_or(gone)
 }
 
 // The numbers at the positions, in the front of the room lent; `gone` where nothing stands.
@@ -106,9 +119,7 @@ pub fn permute(gone: u64, all: &[u64], at: &[u8], out: &mut [u64; 32])
     requires { (length at.now ≤ 32) × (length out.old ≡ 32) }
     ensures { (length out.new ≡ 32) × (take (length at.now) out.new ≡ permute gone all.now at.now) }
 {
-    let mut i: usize = 0;
-    while i < at.len() {
-        out[i] = entry(gone, all, at[i]);
-        i += 1;
+    for (i, &p) in at.iter().enumerate() {
+        out[i] = entry(gone, all, p);
     }
 }

@@ -4,12 +4,14 @@ use Prim.Native.Nat.{ℕ, suc, ◌+◌, ◌-◌, ◌≤◌, ◌<◌}
 use mathlib.Core.Path.{◌≡◌, refl, ap, ◌∙◌}
 use mathlib.Core.Bool.{Bool, true, false, not, ◌&&◌, ◌||◌}
 use mathlib.Core.List.{List, [], ◌∷◌}
-use native.Mathlib.Numerals.{add-one}
 use native.Mathlib.Omega.{arith}
 use borrow.Author.Tests.{ne_eqb, le-leb, lt-leb, lt-ltb, le-ltb, leb-true, leb-false}
 use lib.Dec.{eqb, leb, ltb}
-use lib.ListN.{length, get_or, drop, drop_of_length-le, length-drop, get_or-map}
-use lib.Seq.{drop-cons}
+use lib.ListN.{length, get_or, take, drop, length-drop, length-map, get_or-map}
+use lib.Seq.{drop-cons, take-length}
+use Rattle.std.specs.List.{Any, list_any}
+use Rattle.std.proofs.lemmas.List.Folds.{Any-from_list_any, list_any-from_Any}
+use Rattle.std.specs.Prelude.{slice_index, slice_index_or, IsTrue, ◌↔◌}
 use Rattle.linekinds.specs.KeyLines.{defined_expr, undefined_exprs, over, defined_mode, defined_join, fit_children}
 use Rattle.linekinds.specs.Reading.{row_value, row_values}
 
@@ -59,18 +61,54 @@ module _ (op n : ℕ) where
   pub children_any : 5 < op → true ≡ fit_children op n
   children_any h = rw (lt-leb op 2 (omega arith), lt-leb op 5 h)
 
-module _ (m : ℕ) (xs : List ℕ) (i : ℕ) where
-  pub over_here : i < length xs → m < get_or xs i 0 → over m (drop i xs) ≡ true
-  unfolding over
-  over_here h e = rw (drop-cons xs i 0 h, lt-ltb m (get_or xs i 0) e)
+same_truth : (a b : Bool) → (a ≡ true → b ≡ true) → (b ≡ true → a ≡ true) → a ≡ b
+same_truth true b f g = cc (f refl)
+same_truth false true f g = g refl
+same_truth false false f g = refl
 
-  pub over_later : i < length xs → get_or xs i 0 ≤ m → over m (drop i xs) ≡ over m (drop (i + 1) xs)
-  unfolding over
-  over_later h e = rw (add-one, drop-cons xs i 0 h, le-ltb m (get_or xs i 0) e)
+-- what is true exactly where some element passes a test
+pub any_is : {X : Type 0} (b : Bool) (p : X → Bool) (xs : List X) → IsTrue b ↔ Any (λ x. p x ≡ true) xs → b ≡ list_any p xs
+any_is b p xs e = same_truth b (list_any p xs) (λ h. list_any-from_Any p xs (e.0 h)) (λ h. e.1 (Any-from_list_any p xs h))
 
-  pub over_end : length xs ≤ i → over m (drop i xs) ≡ false
-  unfolding over
-  over_end h = rw (drop_of_length-le xs h)
+-- a row over the largest, and a number over it
+pub over_any : (m : ℕ) (rs : List (List ℕ)) → list_any (λ r. ltb m (slice_index r 1)) rs ≡ over m (row_values rs)
+unfolding over
+over_any m [] = refl
+over_any m (r ∷ rs) = ap (λ (t : Bool). ltb m (slice_index r 1) || t) (over_any m rs)
+
+-- fewer than three
+few : (xs : List ℕ) → length xs < 3 → undefined_exprs xs ≡ false
+unfolding undefined_exprs
+few [] h = refl
+few (a ∷ []) h = refl
+few (a ∷ b ∷ []) h = refl
+few (a ∷ b ∷ c ∷ xs) h = absurd (omega arith)
+
+-- three rows, and what follows them
+abbrev pub later_rows : List (List ℕ) → List (List ℕ)
+later_rows rs = take (length rs - 3) (drop 3 rs)
+
+abbrev pub first_three : List (List ℕ) → Bool
+first_three rs = defined_expr (slice_index (slice_index_or rs 0 []) 1) (slice_index (slice_index_or rs 1 []) 1) (slice_index (slice_index_or rs 2 []) 1)
+
+pub exprs_here : (rs : List (List ℕ)) → 3 ≤ length rs → first_three rs ≡ false → undefined_exprs (row_values rs) ≡ true
+unfolding undefined_exprs
+exprs_here [] h e = absurd (omega arith)
+exprs_here (a ∷ []) h e = absurd (omega arith)
+exprs_here (a ∷ b ∷ []) h e = absurd (omega arith)
+exprs_here (a ∷ b ∷ c ∷ rs) h e = rw e
+
+pub exprs_later : (rs : List (List ℕ)) → 3 ≤ length rs → first_three rs ≡ true → undefined_exprs (row_values rs) ≡ undefined_exprs (row_values (later_rows rs))
+unfolding undefined_exprs
+exprs_later [] h e = absurd (omega arith)
+exprs_later (a ∷ []) h e = absurd (omega arith)
+exprs_later (a ∷ b ∷ []) h e = absurd (omega arith)
+exprs_later (a ∷ b ∷ c ∷ rs) h e =
+    let n : length (a ∷ b ∷ c ∷ rs) - 3 ≡ length rs = omega arith in
+    rw (e, n, take-length rs)
+
+pub exprs_none : (rs : List (List ℕ)) → length rs < 3 → undefined_exprs (row_values rs) ≡ false
+exprs_none rs h = few (row_values rs) (rw (length-map rs row_value) h)
 
 -- three numbers, and what follows them
 pub three : (xs : List ℕ) (i : ℕ) → i + 3 ≤ length xs → drop i xs ≡ get_or xs i 0 ∷ get_or xs (i + 1) 0 ∷ get_or xs (i + 2) 0 ∷ drop (i + 3) xs
@@ -82,14 +120,6 @@ three xs i h =
     ∙ ap (λ (r : List ℕ). get_or xs i 0 ∷ r) (rw (e) (drop-cons xs (i + 1) 0 (omega arith)
     ∙ ap (λ (r : List ℕ). get_or xs (i + 1) 0 ∷ r) (rw f (drop-cons xs (i + 2) 0 (omega arith)
     ∙ ap (λ (r : List ℕ). get_or xs (i + 2) 0 ∷ r) (rw g)))))
-
--- fewer than three
-few : (xs : List ℕ) → length xs < 3 → undefined_exprs xs ≡ false
-unfolding undefined_exprs
-few [] h = refl
-few (a ∷ []) h = refl
-few (a ∷ b ∷ []) h = refl
-few (a ∷ b ∷ c ∷ xs) h = absurd (omega arith)
 
 module _ (xs : List ℕ) (i : ℕ) where
   pub expr_undefined : i + 3 ≤ length xs → defined_expr (get_or xs i 0) (get_or xs (i + 1) 0) (get_or xs (i + 2) 0) ≡ false → undefined_exprs (drop i xs) ≡ true

@@ -2,7 +2,7 @@
 -- Assumes nothing.
 use Prim.Native.Nat.{ℕ, ◌-◌, ◌*◌, ◌%◌, ◌≤◌, ◌<◌}
 use mathlib.Core.Path.{◌≡◌, refl}
-use mathlib.Core.Bool.{Bool, true, false, cond}
+use mathlib.Core.Bool.{true, false, cond}
 use mathlib.Core.List.{List, [], ◌∷◌}
 use mathlib.Core.Logic.{⊎_elim}
 use native.Mathlib.Omega.{arith}
@@ -13,7 +13,7 @@ use types.Run.{OneOf}
 use denote.Enum.Declared.{tag_of}
 use Rattle.linekinds.specs.Lines.{whole_entries}
 use Rattle.linekinds.specs.KeyLines.{fit_children}
-use Rattle.linekinds.specs.Reading.{head_count, entry_width, undefined_by, undefined_key, codes_number, counts_right, fields_number, size_number, first_number, counts_number}
+use Rattle.linekinds.specs.Reading.{head_count, entry_width, undefined_by, undefined_key, codes_number, fields_number, size_number}
 use Rattle.linekinds.specs.declared.kind.Codes.{Codes}
 use Rattle.linekinds.specs.declared.kind.Codes.TheVariants.{Key, Join, Exprs, Rules, Input, Directions, Names}
 use Rattle.linekinds.specs.contracts.kind.Codes as C
@@ -83,11 +83,3 @@ module _ (c : Codes) (count next : ℕ) where
 
     pub size_good : count - head_count c ≤ 32 * entry_width c → 0 ≡ size_number c count next
     size_good h = rw (le-ltb 65536 next f, le-ltb (32 * entry_width c) (count - head_count c) h)
-
--- 2 comes before 3
-lowest_at : (t : Bool) (n : ℕ) → first_number (cond t 0 2) n ≡ cond t n 2
-lowest_at true n = refl
-lowest_at false n = refl
-
-pub counts_first : (c : Codes) (count worst largest next : ℕ) → first_number (fields_number c count worst largest) (size_number c count next) ≡ counts_number c count worst largest next
-counts_first c count worst largest next = lowest_at (counts_right c count worst largest) (size_number c count next)

@@ -9,7 +9,9 @@ use native.Mathlib.Omega.{arith}
 use borrow.Author.Tests.{le-leb, lt-leb, leb-true, leb-false, ltb-false, eqb-true}
 use lib.Dec.{eqb, leb, ltb}
 use lib.ListN.{length, get_or, take, drop, length-drop, get_or-map}
-use Rattle.text.specs.Text.{Field, number, state_of, value_of, greatest}
+use Rattle.text.specs.declared.field.Field.{Field}
+use Rattle.text.specs.declared.field.Field.TheVariants.{Number as number}
+use Rattle.text.specs.Text.{state_of, value_of, greatest}
 use Rattle.text.specs.Bounds.{Bound, allows, fits, allows_all}
 use Rattle.text.proofs.Limits.{all_largest}
 use Rattle.keys.proofs.Truths.{and_first, and_second}

@@ -10,7 +10,9 @@ use borrow.Author.Tests.{eq-eqb, le-leb, le-ltb}
 use lib.Dec.{eqb}
 use lib.ListN.{length, take, drop, set, length-map, take-append-drop}
 use lib.Seq.{length-take-le}
-use Rattle.text.specs.Text.{Field, number, line_at, after}
+use Rattle.text.specs.declared.field.Field.{Field}
+use Rattle.text.specs.declared.field.Field.TheVariants.{Number as number}
+use Rattle.text.specs.Text.{line_at, after}
 use Rattle.text.specs.Write.{fields_text, line_text}
 use Rattle.text.specs.Bounds.{allows_all, widest}
 use Rattle.text.proofs.Limits.{all_largest}
@@ -23,10 +25,10 @@ use Rattle.linekinds.specs.PlainText.{StandsAt, TextAt, fields_of, LineEntries, 
 use Rattle.linekinds.specs.declared.kind.Codes.{Codes}
 use Rattle.linekinds.specs.declared.kind.Codes.TheVariants.{Exprs, Rules, Input, Directions, Names}
 use Rattle.linekinds.specs.declared.plain.Entries.{Entries}
-use Rattle.linekinds.specs.declared.plain.Entries.TheVariants as E
+use Rattle.std.specs.Prelude.{Some, None, Ok}
+use Rattle.std.specs.Prelude.{Option as StdOption}
 use Rattle.linekinds.specs.declared.lists.SheetKind.{SheetKind}
 use Rattle.linekinds.specs.declared.lists.SheetKind.TheVariants.{Key, Join}
-use Rattle.linekinds.specs.declared.lists.Listed.TheVariants.{Packed}
 use Rattle.linekinds.proofs.LineNumbers.{line_number_lem}
 use Rattle.linekinds.proofs.Packing.{first_put}
 use Rattle.linekinds.proofs.ReadLists.{packed_long, list_packed}
@@ -96,9 +98,9 @@ module _ (s : List ℕ) (at letter : ℕ) (ns : List ℕ) where
 -- ---- what was found on a line of each kind
 
 pub marked_found : (s : List ℕ) (at mark end : ℕ) (list : List ℕ) → TextAt s at (fields_of (mark ∷ [])) end → mark ≤ 1 →
-    (r : Entries) (list' : List ℕ) → EntriesFound s end 1 33 (set list 0 mark) r list' → InputFound s at list r list'
-marked_found s at mark end list t h (E.Packed count last) list' e = record { mark = mark; end = end; text = t; small = h; entries = e }
-marked_found s at mark end list t h E.Other list' e = tt
+    (r : StdOption Entries) (list' : List ℕ) → EntriesFound s end 1 33 (set list 0 mark) r list' → InputFound s at list r list'
+marked_found s at mark end list t h (Some r) list' e = record { mark = mark; end = end; text = t; small = h; entries = e }
+marked_found s at mark end list t h None list' e = tt
 
 module _ (s : List ℕ) (at letter : ℕ) (other : letter ≡ 10 → ⊥) (h : StandsAt s at letter) (list : List ℕ) where
   exprs_at : (most count next : ℕ) (list' : List ℕ) → most ≤ 32 → LineEntries s (at + 1) 0 most count next list list' → ListAt Exprs letter s at count next list'
@@ -107,45 +109,45 @@ module _ (s : List ℕ) (at letter : ℕ) (other : letter ≡ 10 → ⊥) (h : S
       list_at s at letter o.ns next (rw e.close.goes (line_text_lem s at letter (map number o.ns) e.end h o.text e.close.ends)) (omega (arith, h.0)) other o.small Exprs
       (omega arith) (eq-eqb ((length o.ns - 0) % 3) 0 (omega (arith, o.whole))) (omega (arith, o.whole, e.few)) e.close.early (rw o.defined) count list' (omega (arith, e.few)) o.packed
 
-  pub exprs_found : (r : Entries) (list' : List ℕ) → EntriesFound s (at + 1) 0 32 list r list' → ListFound Exprs letter s at r list'
-  exprs_found (E.Packed count last) list' e = exprs_at 32 count (last + 1) list' (omega arith) e
-  exprs_found E.Other list' e = tt
+  pub exprs_found : (r : StdOption Entries) (list' : List ℕ) → EntriesFound s (at + 1) 0 32 list r list' → ListFound Exprs letter s at r list'
+  exprs_found (Some r) list' e = exprs_at 32 r.count (r.end + 1) list' (omega arith) e
+  exprs_found None list' e = tt
 
-  pub rules_found : (r : Entries) (list' : List ℕ) → RulesFound s (at + 1) list r list' → ListFound Rules letter s at r list'
-  rules_found (E.Packed count last) list' (e, even) =
+  pub rules_found : (r : StdOption Entries) (list' : List ℕ) → RulesFound s (at + 1) list r list' → ListFound Rules letter s at r list'
+  rules_found (Some r) list' (e, even) =
       let o = e.entries in
-      list_at s at letter o.ns (last + 1) (rw e.close.goes (line_text_lem s at letter (map number o.ns) e.end h o.text e.close.ends)) (omega (arith, h.0)) other o.small Rules
-      (omega arith) (eq-eqb ((length o.ns - 0) % 6) 0 (omega (arith, o.whole))) (omega (arith, o.whole, e.few)) e.close.early (rw o.defined) count list' e.few o.packed
-  rules_found E.Other list' e = tt
+      list_at s at letter o.ns (r.end + 1) (rw e.close.goes (line_text_lem s at letter (map number o.ns) e.end h o.text e.close.ends)) (omega (arith, h.0)) other o.small Rules
+      (omega arith) (eq-eqb ((length o.ns - 0) % 6) 0 (omega (arith, o.whole))) (omega (arith, o.whole, e.few)) e.close.early (rw o.defined) r.count list' e.few o.packed
+  rules_found None list' e = tt
 
-  pub input_found : (r : Entries) (list' : List ℕ) → 0 < length list → InputFound s (at + 1) list r list' → ListFound Input letter s at r list'
-  input_found (E.Packed count last) list' full e =
+  pub input_found : (r : StdOption Entries) (list' : List ℕ) → 0 < length list → InputFound s (at + 1) list r list' → ListFound Input letter s at r list'
+  input_found (Some r) list' full e =
       let l = e.entries in
       let o = l.entries in
       let ns : List ℕ = e.mark ∷ o.ns in
       let t = more_fields s (e.mark ∷ []) o.ns (at + 1) e.end l.end e.text o.text in
-      list_at s at letter ns (last + 1) (rw l.close.goes (line_text_lem s at letter (map number ns) l.end h t l.close.ends)) (omega (arith, h.0)) other (omega (arith, e.small), o.small) Input
-      (omega arith) (eq-eqb ((length ns - 1) % 3) 0 (omega (arith, o.whole))) (omega (arith, o.whole, l.few)) l.close.early (rw (le-ltb 1 e.mark e.small, o.defined)) count list' (omega (arith, l.few))
-      (o.packed ∙ ap (λ (r : List ℕ). r ++ packs o.ns) (first_put list (e.mark ∷ []) e.mark full (omega arith) refl))
-  input_found E.Other list' full e = tt
+      list_at s at letter ns (r.end + 1) (rw l.close.goes (line_text_lem s at letter (map number ns) l.end h t l.close.ends)) (omega (arith, h.0)) other (omega (arith, e.small), o.small) Input
+      (omega arith) (eq-eqb ((length ns - 1) % 3) 0 (omega (arith, o.whole))) (omega (arith, o.whole, l.few)) l.close.early (rw (le-ltb 1 e.mark e.small, o.defined)) r.count list' (omega (arith, l.few))
+      (o.packed ∙ ap (λ (q : List ℕ). q ++ packs o.ns) (first_put list (e.mark ∷ []) e.mark full (omega arith) refl))
+  input_found None list' full e = tt
 
   -- each number is an entry
   each : (n : ℕ) → whole_entries 1 n ≡ true
   each n = eq-eqb (n % 1) 0 (omega arith)
 
-  pub directions_found : (r : Entries) (list' : List ℕ) → NumbersFound s (at + 1) 3 r list' → ListFound Directions letter s at r list'
-  directions_found (E.Packed count last) list' e =
+  pub directions_found : (r : StdOption Entries) (list' : List ℕ) → NumbersFound s (at + 1) 3 r list' → ListFound Directions letter s at r list'
+  directions_found (Some r) list' e =
       let o = e.numbers in
-      list_at s at letter o.ns (last + 1) (rw e.close.goes (line_text_lem s at letter (map number o.ns) e.end h o.text e.close.ends)) (omega (arith, h.0)) other o.small Directions
-      (omega arith) (each (length o.ns - 0)) (omega (arith, o.long, e.few)) e.close.early (rw o.within) count list' (omega (arith, e.few)) o.held
-  directions_found E.Other list' e = tt
+      list_at s at letter o.ns (r.end + 1) (rw e.close.goes (line_text_lem s at letter (map number o.ns) e.end h o.text e.close.ends)) (omega (arith, h.0)) other o.small Directions
+      (omega arith) (each (length o.ns - 0)) (omega (arith, o.long, e.few)) e.close.early (rw o.within) r.count list' (omega (arith, e.few)) o.held
+  directions_found None list' e = tt
 
-  pub names_found : (r : Entries) (list' : List ℕ) → NumbersFound s (at + 1) 65535 r list' → ListFound Names letter s at r list'
-  names_found (E.Packed count last) list' e =
+  pub names_found : (r : StdOption Entries) (list' : List ℕ) → NumbersFound s (at + 1) 65535 r list' → ListFound Names letter s at r list'
+  names_found (Some r) list' e =
       let o = e.numbers in
-      list_at s at letter o.ns (last + 1) (rw e.close.goes (line_text_lem s at letter (map number o.ns) e.end h o.text e.close.ends)) (omega (arith, h.0)) other o.small Names
-      (omega arith) (each (length o.ns - 0)) (omega (arith, o.long, e.few)) e.close.early refl count list' (omega (arith, e.few)) o.held
-  names_found E.Other list' e = tt
+      list_at s at letter o.ns (r.end + 1) (rw e.close.goes (line_text_lem s at letter (map number o.ns) e.end h o.text e.close.ends)) (omega (arith, h.0)) other o.small Names
+      (omega arith) (each (length o.ns - 0)) (omega (arith, o.long, e.few)) e.close.early refl r.count list' (omega (arith, e.few)) o.held
+  names_found None list' e = tt
 
 -- ---- line i of a sheet
 
@@ -165,7 +167,7 @@ letter_other Join i =
     (cond_other (eqb i 6) 87 86 (λ e. omega arith) (λ e. omega arith)))))))
 
 pub list_read : (s : List ℕ) (at : ℕ) (k : SheetKind) (i count next : ℕ) (list : List ℕ) → length list ≡ 64 →
-    ListAt (line_codes k i) (line_letter k i) s at count next list → ListRead s at k i (Packed count next) list
+    ListAt (line_codes k i) (line_letter k i) s at count next list → ListRead s at k i (Ok (record { count = count; next = next })) list
 list_read s at k i count next list f o =
     let x : Option (List Field) = line_at (line_letter k i) s at in
     let n = packed_long 0 0 (line_codes k i) x count list f o.few o.held in

@@ -9,7 +9,7 @@ use borrow.Author.Tests.{le-ltb}
 use lib.Dec.{ltb}
 use lib.ListN.{length, get_or, take, drop, set, length-append, length-drop}
 use lib.Seq.{drop-cons}
-use Rattle.text.specs.Text.{number}
+use Rattle.text.specs.declared.field.Field.TheVariants.{Number as number}
 use Rattle.text.specs.Write.{decimal, field_text, fields_text}
 use Rattle.text.proofs.Decimal.{decimal_one, decimal_more}
 use Rattle.text.proofs.Lengths.{fields_append}
@@ -18,10 +18,9 @@ use Rattle.keys.proofs.Lists.{first_pushed}
 use Rattle.linekinds.specs.KeyLines.{defined_expr, undefined_exprs, over}
 use Rattle.linekinds.specs.Reading.{packs, Small}
 use Rattle.linekinds.specs.PlainText.{StandsAt, DigitAt, TextAt, DigitsFound, fields_of, FieldFound, EntryAt, EntriesAt, EndFound, EntriesFound, NumbersAt, NumbersFound}
-use Rattle.linekinds.specs.declared.plain.Found.{Found}
-use Rattle.linekinds.specs.declared.plain.Found.TheVariants as F
+use Rattle.std.specs.Prelude.{Option, Some, None}
+use Rattle.linekinds.specs.declared.plain.Number.{Number}
 use Rattle.linekinds.specs.declared.plain.Entries.{Entries}
-use Rattle.linekinds.specs.declared.plain.Entries.TheVariants as E
 
 pub byte_text : (s : List ℕ) (at b : ℕ) → StandsAt s at b → TextAt s at (b ∷ []) (at + 1)
 byte_text s at b h = let e : suc at ≡ at + 1 = omega arith in record { text = drop-cons s at 0 h.0 ∙ rw (h.1, e); place = refl }
@@ -126,27 +125,27 @@ pub numbers_none : (s : List ℕ) (at largest : ℕ) (list : List ℕ) → Numbe
 unfolding fields_text over
 numbers_none s at largest list = record { ns = []; text = record { text = refl; place = omega arith }; small = tt; within = refl; long = refl; held = refl }
 
-pub numbers_more : (s : List ℕ) (at largest n p x end : ℕ) (list : List ℕ) → NumbersAt s at largest n p list → FieldFound s p (F.Number x end) → x ≤ largest → n < length list →
-    NumbersAt s at largest (n + 1) end (set list n x)
-numbers_more s at largest n p x end list o e l h = record {
+pub numbers_more : (s : List ℕ) (at largest n p : ℕ) (r : Number) (list : List ℕ) → NumbersAt s at largest n p list → FieldFound s p (Some r) → r.value ≤ largest → n < length list →
+    NumbersAt s at largest (n + 1) r.end (set list n r.value)
+numbers_more s at largest n p r list o e l h = let x : ℕ = r.value in record {
   ns = o.ns ++ (x ∷ []);
-  text = more_fields s o.ns (x ∷ []) at p end o.text e.0;
+  text = more_fields s o.ns (x ∷ []) at p r.end o.text e.0;
   small = small_append o.ns (x ∷ []) o.small (e.1, tt);
   within = over_more largest x o.ns o.within l;
   long = omega (arith, length-append o.ns (x ∷ []), o.long);
-  held = first_pushed list n x h ∙ ap (λ (r : List ℕ). r ++ (x ∷ [])) o.held;
+  held = first_pushed list n x h ∙ ap (λ (l : List ℕ). l ++ (x ∷ [])) o.held;
 }
 
 -- ---- what each call finds
 
-pub field_found : (s : List ℕ) (at : ℕ) (r : Found) → StandsAt s at 44 → DigitsFound s (at + 1) r → FieldFound s at r
-field_found s at (F.Number n end) h d = (field_text_lem s at n end h d.0, d.1)
-field_found s at F.Other h d = tt
+pub field_found : (s : List ℕ) (at : ℕ) (r : Option Number) → StandsAt s at 44 → DigitsFound s (at + 1) r → FieldFound s at r
+field_found s at (Some r) h d = (field_text_lem s at r.value r.end h d.0, d.1)
+field_found s at None h d = tt
 
 -- a field takes bytes
-pub field_goes : (s : List ℕ) (at x end : ℕ) → FieldFound s at (F.Number x end) → at < length s → (at < end) × (end ≤ length s)
+pub field_goes : (s : List ℕ) (at : ℕ) (r : Number) → FieldFound s at (Some r) → at < length s → (at < r.end) × (r.end ≤ length s)
 unfolding fields_text
-field_goes s at x end e h = (omega (arith, e.0.place), text_within s at (fields_of (x ∷ [])) end e.0 (omega arith))
+field_goes s at r e h = (omega (arith, e.0.place), text_within s at (fields_of (r.value ∷ [])) r.end e.0 (omega arith))
 
 -- so does an entry
 pub entry_goes : (s : List ℕ) (at x end : ℕ) → EntryAt s at x end → at < length s → (at < end) × (end ≤ length s)
@@ -155,21 +154,21 @@ entry_goes s at x end e h = (omega (arith, e.text.place), text_within s at (fiel
 
 -- the line's end after what was read
 pub entries_found : (s : List ℕ) (at from most n p : ℕ) (list list' : List ℕ) → EntriesAt s at from n p list list' → n ≤ most →
-    (r : Entries) → EndFound s p n r → EntriesFound s at from most list r list'
-entries_found s at from most n p list list' o h (E.Packed count last) e = record {
+    (r : Option Entries) → EndFound s p n r → EntriesFound s at from most list r list'
+entries_found s at from most n p list list' o h (Some r) e = record {
   end = p;
   entries = subst (λ (m : ℕ). EntriesAt s at from m p list list') (sym e.0) o;
   few = omega (arith, e.0);
   close = e.1;
 }
-entries_found s at from most n p list list' o h E.Other e = tt
+entries_found s at from most n p list list' o h None e = tt
 
 pub numbers_found : (s : List ℕ) (at largest n p : ℕ) (list : List ℕ) → NumbersAt s at largest n p list → n ≤ 32 →
-    (r : Entries) → EndFound s p n r → NumbersFound s at largest r list
-numbers_found s at largest n p list o h (E.Packed count last) e = record {
+    (r : Option Entries) → EndFound s p n r → NumbersFound s at largest r list
+numbers_found s at largest n p list o h (Some r) e = record {
   end = p;
   numbers = subst (λ (m : ℕ). NumbersAt s at largest m p list) (sym e.0) o;
   few = omega (arith, e.0);
   close = e.1;
 }
-numbers_found s at largest n p list o h E.Other e = tt
+numbers_found s at largest n p list o h None e = tt

@@ -10,7 +10,9 @@ use borrow.Author.Tests.{ne_eqb, eqb-true, eqb-false, leb-true}
 use lib.Dec.{eqb, leb}
 use lib.ListN.{length, take}
 use lib.Seq.{length-take-le}
-use Rattle.text.specs.Text.{Field, number, empty, malformed, state_of, value_of, greatest}
+use Rattle.text.specs.declared.field.Field.{Field}
+use Rattle.text.specs.declared.field.Field.TheVariants.{Number as number, Empty as empty, Malformed as malformed}
+use Rattle.text.specs.Text.{state_of, value_of, greatest}
 use Rattle.text.specs.Bounds.{allows_all}
 use Rattle.text.proofs.Limits.{all_largest}
 use Rattle.linekinds.specs.Lines.{plain, whole_entries, line_number, fields_of}
@@ -20,7 +22,9 @@ use Rattle.linekinds.specs.ListLines.{packed_list, listed_by}
 use Rattle.linekinds.specs.declared.kind.Codes.{Codes}
 use Rattle.linekinds.specs.declared.kind.Codes.TheVariants.{Key, Join, Exprs, Rules, Input, Directions, Names}
 use Rattle.linekinds.specs.declared.line.Read.TheVariants as R
-use Rattle.linekinds.specs.declared.lists.Listed.TheVariants.{Packed, Turned}
+use Rattle.std.specs.Prelude.{Ok, Err}
+use Rattle.refusals.specs.declared.Refusal.{Refusal}
+use Rattle.refusals.specs.Refusals.{refusal_of}
 use Rattle.linekinds.proofs.LineNumbers.{counts_enough, counts_few, counts_entries, counts_whole, counts_fields, counts_room, not_turned_counts}
 
 -- ---- a line that was read
@@ -34,7 +38,7 @@ pub record Good (c : Codes) (letter seen next : ℕ) (x : Option (List Field)) (
 
 module _ (c : Codes) (letter seen next : ℕ) where
   read_at : (x : Option (List Field)) (count after : ℕ) (t : Bool) → eqb (line_number (kind_of c letter) seen next x) 0 ≡ t →
-      R.Line count after ≡ cond t (R.Line (length (fields_of x)) next) (R.Refused (line_number (kind_of c letter) seen next x)) → Good c letter seen next x count after
+      R.Line count after ≡ cond t (R.Line (length (fields_of x)) next) (R.Refused (refusal_of (line_number (kind_of c letter) seen next x))) → Good c letter seen next x count after
   unfolding line_number
   read_at none count after true p e = let z : ◌≡◌ {A = ℕ} 1 0 = eqb-true 1 0 p in absurd (omega arith)
   read_at (some fs) count after true p e = record { zero = eqb-true _ 0 p; fs = fs; is = refl; counts = cc; goes = cc }
@@ -43,15 +47,15 @@ module _ (c : Codes) (letter seen next : ℕ) where
   pub was_read : (x : Option (List Field)) (count after : ℕ) → R.Line count after ≡ read_by (line_number (kind_of c letter) seen next x) next x → Good c letter seen next x count after
   was_read x count after e = read_at x count after (eqb (line_number (kind_of c letter) seen next x) 0) refl e
 
-  turned_at : (x : Option (List Field)) (n : ℕ) (t : Bool) → eqb (line_number (kind_of c letter) seen next x) 0 ≡ t →
-      R.Refused n ≡ cond t (R.Line (length (fields_of x)) next) (R.Refused (line_number (kind_of c letter) seen next x)) →
-      (line_number (kind_of c letter) seen next x ≡ n) × (line_number (kind_of c letter) seen next x ≡ 0 → ⊥)
-  turned_at x n true p e = let z : ◌≡◌ {A = ℕ} 0 1 = cc in absurd (omega arith)
-  turned_at x n false p e = (cc, eqb-false _ 0 p)
+  turned_at : (x : Option (List Field)) (r : Refusal) (t : Bool) → eqb (line_number (kind_of c letter) seen next x) 0 ≡ t →
+      R.Refused r ≡ cond t (R.Line (length (fields_of x)) next) (R.Refused (refusal_of (line_number (kind_of c letter) seen next x))) →
+      (r ≡ refusal_of (line_number (kind_of c letter) seen next x)) × (line_number (kind_of c letter) seen next x ≡ 0 → ⊥)
+  turned_at x r true p e = let z : ◌≡◌ {A = ℕ} 0 1 = cc in absurd (omega arith)
+  turned_at x r false p e = (cc, eqb-false _ 0 p)
 
-  pub was_turned : (x : Option (List Field)) (n : ℕ) → R.Refused n ≡ read_by (line_number (kind_of c letter) seen next x) next x →
-      (line_number (kind_of c letter) seen next x ≡ n) × (line_number (kind_of c letter) seen next x ≡ 0 → ⊥)
-  was_turned x n e = turned_at x n (eqb (line_number (kind_of c letter) seen next x) 0) refl e
+  pub was_turned : (x : Option (List Field)) (r : Refusal) → R.Refused r ≡ read_by (line_number (kind_of c letter) seen next x) next x →
+      (r ≡ refusal_of (line_number (kind_of c letter) seen next x)) × (line_number (kind_of c letter) seen next x ≡ 0 → ⊥)
+  was_turned x r e = turned_at x r (eqb (line_number (kind_of c letter) seen next x) 0) refl e
 
 -- ---- its fields
 
@@ -99,12 +103,12 @@ module _ (c : Codes) (letter seen next : ℕ) (fs : List Field) (e : line_number
 -- ---- the answers
 
 module _ (n next : ℕ) (c : Codes) (x : Option (List Field)) where
-  pub list_turned : (m : ℕ) → n ≡ m → (n ≡ 0 → ⊥) → Turned m ≡ listed_by n next c x
-  list_turned m e h = rw (ne_eqb n 0 h, e)
+  pub list_turned : (r : Refusal) → r ≡ refusal_of n → (n ≡ 0 → ⊥) → Err r ≡ listed_by n next c x
+  list_turned r e h = rw (ne_eqb n 0 h, e)
 
   -- a list that was packed is as long as what it stands for
   pub packed_long : (count : ℕ) (out : List ℕ) → length out ≡ 64 → count ≤ 64 → take count out ≡ packed_list c x → count ≡ length (packed_list c x)
   packed_long count out f h e = sym (length-take-le count out (omega arith)) ∙ ap length e
 
-  pub list_packed : n ≡ 0 → (count after : ℕ) → count ≡ length (packed_list c x) → after ≡ next → Packed count after ≡ listed_by n next c x
-  list_packed z count after p q = rw (z) (λ k. Packed (p k) (q k))
+  pub list_packed : n ≡ 0 → (count after : ℕ) → count ≡ length (packed_list c x) → after ≡ next → Ok (record { count = count; next = after }) ≡ listed_by n next c x
+  list_packed z count after p q = rw (z) (λ k. Ok (record { count = p k; next = q k }))

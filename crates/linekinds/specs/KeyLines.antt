@@ -1,7 +1,9 @@
 -- The lines of K and I sheets.
 -- Renders document 01, "Key sheet", and "`I,op,mode` then L, G, S, H, N, W, V".
 use Rattle.std.specs.Prelude.{ℕ, List, [], ◌∷◌, map, Bool, true, false, cond, not, ◌&&◌, ◌||◌, ltb, leb, eqb, get_or, drop}
-use Rattle.text.specs.Text.{Field, number, value_of}
+use Rattle.text.specs.declared.field.Field.{Field}
+use Rattle.text.specs.declared.field.Field.TheVariants.{Number as number}
+use Rattle.text.specs.Text.{value_of}
 use Rattle.linekinds.specs.Lines.{Kind, Stage, plain, counted, one_less, never, never_large}
 
 -- the number at a place of a line

@@ -2,7 +2,7 @@
 -- Renders document 01, "Where a sheet is turned back": the rows with place Line, lowest line first, then lowest number.
 use Rattle.std.specs.Prelude.{ℕ, suc, ◌-◌, ◌*◌, ◌%◌, List, [], ◌∷◌, ◌++◌, Bool, true, false, cond, ◌&&◌, ◌||◌, ltb, eqb, length, take, drop}
 use Rattle.std.proofs.Math.Option.{Option, none, some}
-use Rattle.text.specs.Text.{Field}
+use Rattle.text.specs.declared.field.Field.{Field}
 use Rattle.text.specs.Lines.{first_of, next_of}
 use Rattle.text.specs.Bounds.{Bound, fits, allows_all}
 

@@ -1,20 +1,20 @@
 -- The lines of K and I sheets by their number, from 0 on, and what reading them leaves.
 -- Renders document 01, "Lines in order", and "`I,op,mode` then L, G, S, H, N, W, V".
-use Rattle.std.specs.Prelude.{ℕ, ◌≡◌, List, cond, eqb, length, take}
+use Rattle.std.specs.Prelude.{ℕ, ◌≡◌, List, cond, eqb, length, take, Result, Ok, Err}
 use Rattle.std.proofs.Math.Option.{Option}
-use Rattle.text.specs.Text.{Field, line_at, after}
+use Rattle.text.specs.declared.field.Field.{Field}
+use Rattle.text.specs.Text.{line_at, after}
 use Rattle.linekinds.specs.Lines.{Kind, line_number, fields_of}
 use Rattle.linekinds.specs.KeyLines.{values}
 use Rattle.linekinds.specs.Reading.{kind_of, packed_by}
 use Rattle.linekinds.specs.declared.kind.Codes.{Codes}
 use Rattle.linekinds.specs.declared.kind.Codes.TheVariants as C
 use Rattle.linekinds.specs.declared.kind.Codes.TheVariants.{Exprs, Rules, Input, Directions, Names}
-use Rattle.linekinds.specs.declared.line.Read as R
-use Rattle.linekinds.specs.declared.line.Read.TheVariants as RV
 use Rattle.linekinds.specs.declared.lists.SheetKind.{SheetKind}
 use Rattle.linekinds.specs.declared.lists.SheetKind.TheVariants.{Key, Join}
-use Rattle.linekinds.specs.declared.lists.Listed.{Listed}
-use Rattle.linekinds.specs.declared.lists.Listed.TheVariants.{Packed, Turned}
+use Rattle.linekinds.specs.declared.lists.Packed.{Packed}
+use Rattle.refusals.specs.declared.Refusal.{Refusal}
+use Rattle.refusals.specs.Refusals.{refusal_of}
 
 -- K, R, L, G, S, W, O, A, M, then C; I, L, G, S, H, N, W, V
 abbrev pub line_letter : SheetKind → ℕ → ℕ
@@ -29,20 +29,15 @@ line_codes Join i = cond (eqb i 0) C.Join (cond (eqb i 3) Directions (cond (eqb 
 abbrev pub line_kind : SheetKind → ℕ → Kind
 line_kind k i = kind_of (line_codes k i) (line_letter k i)
 
--- a line's list, as long as it is packed, with the place after it; or the lowest number that turns it back
-abbrev pub listed_by : ℕ → ℕ → Codes → Option (List Field) → Listed
-listed_by n next c x = cond (eqb n 0) (Packed (length (packed_by c (values (fields_of x)))) next) (Turned n)
+-- a line's list, as long as it is packed, with the place after it; or why it is turned back, by the lowest number
+abbrev pub listed_by : ℕ → ℕ → Codes → Option (List Field) → Result Packed Refusal
+listed_by n next c x = cond (eqb n 0) (Ok (record { count = length (packed_by c (values (fields_of x))); next = next })) (Err (refusal_of n))
 
 abbrev pub packed_list : Codes → Option (List Field) → List ℕ
 packed_list c x = packed_by c (values (fields_of x))
 
--- the number of a refusal, or 0
-abbrev pub number_of : R.Read → ℕ
-number_of (RV.Line count next) = 0
-number_of (RV.Refused n) = n
-
 -- what reading line i at a place answers, and leaves in the room lent
-pub record ListRead (s : List ℕ) (at : ℕ) (k : SheetKind) (i : ℕ) (r : Listed) (list : List ℕ) : Type 0 where
+pub record ListRead (s : List ℕ) (at : ℕ) (k : SheetKind) (i : ℕ) (r : Result Packed Refusal) (list : List ℕ) : Type 0 where
   pub answer :
       r ≡ listed_by (line_number (line_kind k i) 0 (after s at) (line_at (line_letter k i) s at)) (after s at) (line_codes k i) (line_at (line_letter k i) s at)
   pub full : length list ≡ 64

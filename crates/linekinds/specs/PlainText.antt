@@ -1,7 +1,8 @@
 -- What a quick reading of a line finds: text that stands there, as it would be written. Where it finds something else, nothing is said.
 -- Document 01, the paragraph that begins "A sheet is ASCII lines ended by LF".
-use Rattle.std.specs.Prelude.{ℕ, ◌+◌, ◌-◌, ◌*◌, ◌%◌, ◌≤◌, ◌<◌, ◌≡◌, true, false, List, [], ◌∷◌, ◌++◌, map, length, get_or, take, drop, set}
-use Rattle.text.specs.Text.{number, line_at, after}
+use Rattle.std.specs.Prelude.{ℕ, ◌+◌, ◌-◌, ◌*◌, ◌%◌, ◌≤◌, ◌<◌, ◌≡◌, true, false, List, [], ◌∷◌, ◌++◌, map, length, get_or, take, drop, set, Option, Some, None}
+use Rattle.text.specs.declared.field.Field.TheVariants.{Number as number}
+use Rattle.text.specs.Text.{line_at, after}
 use Rattle.text.specs.Write.{decimal, fields_text}
 use Rattle.keys.specs.Expressions.{packed}
 use Rattle.linekinds.specs.KeyLines.{defined_expr, undefined_exprs, over}
@@ -9,10 +10,8 @@ use Rattle.linekinds.specs.Lines.{line_number}
 use Rattle.linekinds.specs.Reading.{kind_of, packs, Small}
 use Rattle.linekinds.specs.ListLines.{packed_list}
 use Rattle.linekinds.specs.declared.kind.Codes.{Codes}
-use Rattle.linekinds.specs.declared.plain.Found.{Found}
-use Rattle.linekinds.specs.declared.plain.Found.TheVariants as F
+use Rattle.linekinds.specs.declared.plain.Number.{Number}
 use Rattle.linekinds.specs.declared.plain.Entries.{Entries}
-use Rattle.linekinds.specs.declared.plain.Entries.TheVariants as E
 
 -- a byte at a place of a text
 abbrev pub StandsAt : List ℕ → ℕ → ℕ → Type 0
@@ -27,17 +26,17 @@ pub record TextAt (s : List ℕ) (at : ℕ) (xs : List ℕ) (end : ℕ) : Type 0
   pub place : end ≡ at + length xs
 
 -- the digits of a field's number
-abbrev pub DigitsFound : List ℕ → ℕ → Found → Type 0
-DigitsFound s at (F.Number n end) = TextAt s at (decimal n) end × (n < 65536)
-DigitsFound s at F.Other = Unit {0}
+abbrev pub DigitsFound : List ℕ → ℕ → Option Number → Type 0
+DigitsFound s at (Some r) = TextAt s at (decimal r.value) r.end × (r.value < 65536)
+DigitsFound s at None = Unit {0}
 
 -- a comma before each number
 abbrev pub fields_of : List ℕ → List ℕ
 fields_of ns = fields_text (map number ns)
 
-abbrev pub FieldFound : List ℕ → ℕ → Found → Type 0
-FieldFound s at (F.Number n end) = TextAt s at (fields_of (n ∷ [])) end × (n < 65536)
-FieldFound s at F.Other = Unit {0}
+abbrev pub FieldFound : List ℕ → ℕ → Option Number → Type 0
+FieldFound s at (Some r) = TextAt s at (fields_of (r.value ∷ [])) r.end × (r.value < 65536)
+FieldFound s at None = Unit {0}
 
 -- an expression's fields, packed to x
 pub record EntryAt (s : List ℕ) (at x end : ℕ) : Type 0 where
@@ -49,9 +48,9 @@ pub record EntryAt (s : List ℕ) (at x end : ℕ) : Type 0 where
   pub defined : defined_expr kind name index ≡ true
   pub packs : x ≡ packed kind name index
 
-abbrev pub EntryFound : List ℕ → ℕ → Found → Type 0
-EntryFound s at (F.Number x end) = EntryAt s at x end
-EntryFound s at F.Other = Unit {0}
+abbrev pub EntryFound : List ℕ → ℕ → Option Number → Type 0
+EntryFound s at (Some r) = EntryAt s at r.value r.end
+EntryFound s at None = Unit {0}
 
 -- numbers of whole entries, packed behind the first ones of a list
 pub record EntriesAt (s : List ℕ) (at from count end : ℕ) (list list' : List ℕ) : Type 0 where
@@ -69,9 +68,9 @@ pub record LineEnd (s : List ℕ) (end next : ℕ) : Type 0 where
   pub goes : next ≡ end + 1
   pub early : next ≤ 65536
 
-abbrev pub EndFound : List ℕ → ℕ → ℕ → Entries → Type 0
-EndFound s end n (E.Packed count last) = (count ≡ n) × LineEnd s end (last + 1)
-EndFound s end n E.Other = Unit {0}
+abbrev pub EndFound : List ℕ → ℕ → ℕ → Option Entries → Type 0
+EndFound s end n (Some r) = (r.count ≡ n) × LineEnd s end (r.end + 1)
+EndFound s end n None = Unit {0}
 
 -- such entries up to the line's end
 pub record LineEntries (s : List ℕ) (at from most count next : ℕ) (list list' : List ℕ) : Type 0 where
@@ -80,9 +79,9 @@ pub record LineEntries (s : List ℕ) (at from most count next : ℕ) (list list
   pub few : count ≤ most
   pub close : LineEnd s end next
 
-abbrev pub EntriesFound : List ℕ → ℕ → ℕ → ℕ → List ℕ → Entries → List ℕ → Type 0
-EntriesFound s at from most list (E.Packed count last) list' = LineEntries s at from most count (last + 1) list list'
-EntriesFound s at from most list E.Other list' = Unit {0}
+abbrev pub EntriesFound : List ℕ → ℕ → ℕ → ℕ → List ℕ → Option Entries → List ℕ → Type 0
+EntriesFound s at from most list (Some r) list' = LineEntries s at from most r.count (r.end + 1) list list'
+EntriesFound s at from most list None list' = Unit {0}
 
 -- numbers up to the largest, at the front of a list
 pub record NumbersAt (s : List ℕ) (at largest count end : ℕ) (list : List ℕ) : Type 0 where
@@ -100,13 +99,13 @@ pub record LineNumbers (s : List ℕ) (at largest count next : ℕ) (list : List
   pub few : count ≤ 32
   pub close : LineEnd s end next
 
-abbrev pub NumbersFound : List ℕ → ℕ → ℕ → Entries → List ℕ → Type 0
-NumbersFound s at largest (E.Packed count last) list = LineNumbers s at largest count (last + 1) list
-NumbersFound s at largest E.Other list = Unit {0}
+abbrev pub NumbersFound : List ℕ → ℕ → ℕ → Option Entries → List ℕ → Type 0
+NumbersFound s at largest (Some r) list = LineNumbers s at largest r.count (r.end + 1) list
+NumbersFound s at largest None list = Unit {0}
 
-abbrev pub RulesFound : List ℕ → ℕ → List ℕ → Entries → List ℕ → Type 0
-RulesFound s at list (E.Packed count last) list' = LineEntries s at 0 64 count (last + 1) list list' × (count % 2 ≡ 0)
-RulesFound s at list E.Other list' = Unit {0}
+abbrev pub RulesFound : List ℕ → ℕ → List ℕ → Option Entries → List ℕ → Type 0
+RulesFound s at list (Some r) list' = LineEntries s at 0 64 r.count (r.end + 1) list list' × (r.count % 2 ≡ 0)
+RulesFound s at list None list' = Unit {0}
 
 -- a mark, kept as it stands, and entries behind it
 pub record MarkedEntries (s : List ℕ) (at count next : ℕ) (list list' : List ℕ) : Type 0 where
@@ -116,9 +115,9 @@ pub record MarkedEntries (s : List ℕ) (at count next : ℕ) (list list' : List
   pub small : mark ≤ 1
   pub entries : LineEntries s end 1 33 count next (set list 0 mark) list'
 
-abbrev pub InputFound : List ℕ → ℕ → List ℕ → Entries → List ℕ → Type 0
-InputFound s at list (E.Packed count last) list' = MarkedEntries s at count (last + 1) list list'
-InputFound s at list E.Other list' = Unit {0}
+abbrev pub InputFound : List ℕ → ℕ → List ℕ → Option Entries → List ℕ → Type 0
+InputFound s at list (Some r) list' = MarkedEntries s at r.count (r.end + 1) list list'
+InputFound s at list None list' = Unit {0}
 
 -- a line that is accepted, the place after it, and its list at the front of the room
 pub record ListAt (c : Codes) (letter : ℕ) (s : List ℕ) (at count next : ℕ) (list : List ℕ) : Type 0 where
@@ -128,6 +127,6 @@ pub record ListAt (c : Codes) (letter : ℕ) (s : List ℕ) (at count next : ℕ
   pub few : count ≤ 64
   pub held : take count list ≡ packed_list c (line_at letter s at)
 
-abbrev pub ListFound : Codes → ℕ → List ℕ → ℕ → Entries → List ℕ → Type 0
-ListFound c letter s at (E.Packed count last) list = ListAt c letter s at count (last + 1) list
-ListFound c letter s at E.Other list = Unit {0}
+abbrev pub ListFound : Codes → ℕ → List ℕ → ℕ → Option Entries → List ℕ → Type 0
+ListFound c letter s at (Some r) list = ListAt c letter s at r.count (r.end + 1) list
+ListFound c letter s at None list = Unit {0}

@@ -1,8 +1,9 @@
 -- What the reading functions answer, and the line kind that a code and a letter stand for.
 use Rattle.std.specs.Prelude.{ℕ, ◌≤◌, ◌<◌, ◌-◌, ◌*◌, List, [], ◌∷◌, ◌++◌, map, ◌≡◌, Bool, false, cond, not, ◌&&◌, ◌||◌, eqb, leb, ltb, length, get_or, take, drop}
 use Rattle.std.proofs.Math.Option.{Option}
-use Rattle.text.specs.Text.{Field}
+use Rattle.text.specs.declared.field.Field.{Field}
 use Rattle.keys.specs.Expressions.{packed}
+use Rattle.refusals.specs.Refusals.{refusal_of}
 use Rattle.linekinds.specs.Lines.{Kind, most_bytes, most_entries, whole_entries, fields_of}
 use Rattle.linekinds.specs.KeyLines.{undefined_exprs, over, defined_mode, defined_join, fit_children, key_line, input_head, expr_line, rule_line, input_line, direction_line, name_line}
 use Rattle.linekinds.specs.declared.kind.Codes.{Codes}
@@ -93,10 +94,6 @@ fields_number c count worst largest = cond (counts_right c count worst largest) 
 abbrev pub size_number : Codes → ℕ → ℕ → ℕ
 size_number c count next = cond (ltb most_bytes next || ltb (most_entries * entry_width c) (count - head_count c)) 3 0
 
--- the first, or where it is 0 the second
-abbrev pub first_number : ℕ → ℕ → ℕ
-first_number a b = cond (eqb a 0) b a
-
 -- the number that its counts give it: 2, 3, or 0
 abbrev pub counts_number : Codes → ℕ → ℕ → ℕ → ℕ → ℕ
 counts_number c count worst largest next = cond (counts_right c count worst largest) (size_number c count next) 2
@@ -120,7 +117,7 @@ row_values rs = map row_value rs
 
 -- a line with the place after it, or the lowest number that turns it back
 abbrev pub read_by : ℕ → ℕ → Option (List Field) → Read
-read_by n next x = cond (eqb n 0) (Line (length (fields_of x)) next) (Refused n)
+read_by n next x = cond (eqb n 0) (Line (length (fields_of x)) next) (Refused (refusal_of n))
 
 -- every three numbers packed in one
 unfoldable pub packs : List ℕ → List ℕ

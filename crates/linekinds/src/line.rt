@@ -6,13 +6,14 @@ ghost use Rattle.linekinds.specs.Lines.{line_number};
 ghost use Rattle.linekinds.specs.Reading.{kind_of, read_by};
 
 use crate::kind::{Codes, judge_codes, judge_counts};
-use text::line::{Line, line_at};
+use refusals::Refusal;
+use text::line::line_at;
 
-// A line with its count of fields and the place after it, or the lowest number that turns it back.
-#[derive(Clone, Copy)]
+// A line with its count of fields and the place after it, or why it is turned back, by the lowest number.
+#[derive(Clone, Copy, PartialEq, Eq, Debug)]
 pub enum Read {
     Line { count: usize, next: usize },
-    Refused(u64),
+    Refused(Refusal),
 }
 
 // The line of a letter at a place; its fields go into the rows lent.
@@ -21,22 +22,17 @@ pub fn read_line(s: &[u8], at: usize, letter: u8, c: Codes, rows: &mut [[u64; 2]
     ensures answer { (seen : ℕ) → result ≡ read_by (line_number (kind_of c letter) seen (after s.now at) (line_at letter s.now at)) (after s.now at) (line_at letter s.now at) }
     ensures stored { rows.new ≡ stored_in rows.old (line_fields letter (line (drop at s.now))) }
 {
-    let Line::Fields {
-        count,
-        worst,
-        largest,
-        next,
-    } = line_at(s, at, letter, rows)
-    else {
-        return Read::Refused(1);
+    let Some(f) = line_at(s, at, letter, rows) else {
+        return Read::Refused(Refusal::WrongLine);
     };
-    let m = judge_counts(c, count, worst, largest, next);
-    if m != 0 {
-        return Read::Refused(m);
+    if let Err(refusal) = judge_counts(c, f) {
+        return Read::Refused(refusal);
     }
-    let n = judge_codes(c, &rows[0..count]);
-    if n != 0 {
-        return Read::Refused(n);
+    if let Err(refusal) = judge_codes(c, &rows[..f.count]) {
+        return Read::Refused(refusal);
     }
-    Read::Line { count, next }
+    Read::Line {
+        count: f.count,
+        next: f.next,
+    }
 }

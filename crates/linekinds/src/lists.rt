@@ -1,109 +1,78 @@
 // Reads a line of a K or I sheet, whose lines are numbered from 0 on.
 ghost use Rattle.std.specs.Prelude.{◌≡◌, ◌≤◌, length};
-ghost use Rattle.linekinds.specs.ListLines.{line_letter, line_codes, number_of, ListRead};
+ghost use Rattle.linekinds.specs.ListLines.{line_letter, line_codes, ListRead};
 
 use crate::kind::Codes;
 use crate::line::{Read, read_line};
 use crate::pack::pack_line;
-use crate::plain::{Entries, list_at};
+use crate::plain::list_at;
+use refusals::Refusal;
 
-#[derive(Clone, Copy)]
+#[derive(Clone, Copy, PartialEq, Eq, Debug)]
 pub enum SheetKind {
     Key,
     Join,
 }
 
-// A line's list, packed, and the place after the line; or the lowest number that turns the line back.
+impl SheetKind {
+    // The letter of line i.
+    pub fn letter(self, i: usize) -> u8
+        ensures { result ≡ line_letter self i }
+    {
+        match self {
+            SheetKind::Key => match i {
+                0 => b'K',
+                1 => b'R',
+                2 => b'L',
+                3 => b'G',
+                4 => b'S',
+                5 => b'W',
+                6 => b'O',
+                7 => b'A',
+                8 => b'M',
+                _ => b'C',
+            },
+            SheetKind::Join => match i {
+                0 => b'I',
+                1 => b'L',
+                2 => b'G',
+                3 => b'S',
+                4 => b'H',
+                5 => b'N',
+                6 => b'W',
+                _ => b'V',
+            },
+        }
+    }
+
+    // What is asked of the fields of line i.
+    pub fn codes(self, i: usize) -> Codes
+        ensures { result ≡ line_codes self i }
+    {
+        match self {
+            SheetKind::Key => match i {
+                0 => Codes::Key,
+                4 => Codes::Directions,
+                5 => Codes::Rules,
+                6 | 7 => Codes::Names,
+                _ => Codes::Exprs,
+            },
+            SheetKind::Join => match i {
+                0 => Codes::Join,
+                3 => Codes::Directions,
+                4 | 5 => Codes::Input,
+                6 | 7 => Codes::Rules,
+                _ => Codes::Exprs,
+            },
+        }
+    }
+}
+
+// How long the list of a line is, packed, and the place after the line.
 #[derive(Clone, Copy)]
-pub enum Listed {
-    Packed { count: usize, next: usize },
-    Turned(u64),
-}
-
-pub fn line_letter(k: SheetKind, i: usize) -> u8
-    ensures { result ≡ line_letter k i }
-{
-    match k {
-        SheetKind::Key => return key_letter(i),
-        SheetKind::Join => return join_letter(i),
-    }
-}
-
-fn key_letter(i: usize) -> u8
-    ensures { result ≡ line_letter SheetKind.Key i }
-{
-    match i {
-        0 => 75,
-        1 => 82,
-        2 => 76,
-        3 => 71,
-        4 => 83,
-        5 => 87,
-        6 => 79,
-        7 => 65,
-        8 => 77,
-        _ => 67,
-    }
-}
-
-fn join_letter(i: usize) -> u8
-    ensures { result ≡ line_letter SheetKind.Join i }
-{
-    match i {
-        0 => 73,
-        1 => 76,
-        2 => 71,
-        3 => 83,
-        4 => 72,
-        5 => 78,
-        6 => 87,
-        _ => 86,
-    }
-}
-
-pub fn line_codes(k: SheetKind, i: usize) -> Codes
-    ensures { result ≡ line_codes k i }
-{
-    match k {
-        SheetKind::Key => return key_codes(i),
-        SheetKind::Join => return join_codes(i),
-    }
-}
-
-fn key_codes(i: usize) -> Codes
-    ensures { result ≡ line_codes SheetKind.Key i }
-{
-    match i {
-        0 => Codes::Key,
-        4 => Codes::Directions,
-        5 => Codes::Rules,
-        6 => Codes::Names,
-        7 => Codes::Names,
-        _ => Codes::Exprs,
-    }
-}
-
-fn join_codes(i: usize) -> Codes
-    ensures { result ≡ line_codes SheetKind.Join i }
-{
-    match i {
-        0 => Codes::Join,
-        3 => Codes::Directions,
-        4 => Codes::Input,
-        5 => Codes::Input,
-        6 => Codes::Rules,
-        7 => Codes::Rules,
-        _ => Codes::Exprs,
-    }
-}
-
-fn number_of(r: Read) -> u64
-    ensures { result ≡ number_of r }
-{
-    match r {
-        Read::Line { count: _, next: _ } => 0,
-        Read::Refused(n) => n,
-    }
+pub struct Packed {
+    pub count: usize,
+    pub next: usize,
 }
 
 // Line i of a sheet by its fields, each judged: its list goes into the room lent.
@@ -114,20 +83,20 @@ pub fn judged_list(
     i: usize,
     rows: &mut [[u64; 2]],
     list: &mut [u64; 64],
-) -> Listed
+) -> Result<Packed, Refusal>
     requires { (192 ≤ length rows.old) × (length list.old ≡ 64) }
     ensures { ListRead s.now at k i result list.new }
 {
-    let c = line_codes(k, i);
-    let letter = line_letter(k, i);
-    let r = read_line(s, at, letter, c, rows);
-    let Read::Line { count, next } = r else {
-        return Listed::Turned(number_of(r));
-    };
-    let packed = pack_line(c, &rows[0..count], list);
-    Listed::Packed {
-        count: packed,
-        next: next,
+    let c = k.codes(i);
+    match read_line(s, at, k.letter(i), c, rows) {
+        Read::Line { count, next } => {
+            let packed = pack_line(c, &rows[..count], list);
+            Ok(Packed {
+                count: packed,
+                next,
+            })
+        }
+        Read::Refused(refusal) => Err(refusal),
     }
 }
 
@@ -139,17 +108,15 @@ pub fn read_list(
     i: usize,
     rows: &mut [[u64; 2]],
     list: &mut [u64; 64],
-) -> Listed
+) -> Result<Packed, Refusal>
     requires { (192 ≤ length rows.old) × (length list.old ≡ 64) }
     ensures { ListRead s.now at k i result list.new }
 {
-    let c = line_codes(k, i);
-    let letter = line_letter(k, i);
-    let Entries::Packed { count, end } = list_at(s, at, letter, c, &mut *list) else {
+    let Some(entries) = list_at(s, at, k.letter(i), k.codes(i), &mut *list) else {
         return judged_list(s, at, k, i, rows, list);
     };
-    Listed::Packed {
-        count,
-        next: end + 1,
-    }
+    Ok(Packed {
+        count: entries.count,
+        next: entries.end + 1,
+    })
 }

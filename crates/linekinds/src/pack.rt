@@ -45,12 +45,8 @@ pub fn pack_line(c: Codes, rows: &[[u64; 2]], out: &mut [u64; 64]) -> usize
     ensures { (length out.new ≡ 64) × (result ≤ 64) × (take result out.new ≡ packed_by c (row_values rows.now)) }
 {
     match c {
-        Codes::Key => return copy_numbers(rows, out),
-        Codes::Join => return copy_numbers(rows, out),
-        Codes::Exprs => return pack_exprs(rows, 0, out),
-        Codes::Rules => return pack_exprs(rows, 0, out),
-        Codes::Input => return pack_input(rows, out),
-        Codes::Directions => return copy_numbers(rows, out),
-        Codes::Names => return copy_numbers(rows, out),
+        Codes::Key | Codes::Join | Codes::Directions | Codes::Names => copy_numbers(rows, out),
+        Codes::Exprs | Codes::Rules => pack_exprs(rows, 0, out),
+        Codes::Input => pack_input(rows, out),
     }
 }

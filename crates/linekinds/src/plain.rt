@@ -1,210 +1,193 @@
 // Reads a list line entry by entry, in one pass, where nothing in it is unusual. What it finds stands on the line; where it finds
 // something else, the line is left to be judged by its fields.
-ghost use Rattle.std.specs.Prelude.{◌≡◌, true, ◌≤◌, length};
+ghost use Rattle.std.specs.Prelude.{◌≡◌, IsTrue, ◌↔◌, ◌≤◌, length};
 ghost use Rattle.linekinds.specs.PlainText.{StandsAt, DigitAt, DigitsFound, FieldFound, EntryFound, EndFound, EntriesFound, NumbersFound, RulesFound, InputFound, ListFound};
 
 use crate::kind::{Codes, defined_expr};
-use text::field::widened;
 
-// A number and the place after it, or something else.
+// A number, and the place after it.
 #[derive(Clone, Copy)]
-pub enum Found {
-    Number { value: u64, end: usize },
-    Other,
+pub struct Number {
+    pub value: u64,
+    pub end: usize,
 }
 
-// How many entries, and the place of the LF; or something else.
+// How many entries, and the place of the LF.
 #[derive(Clone, Copy)]
-pub enum Entries {
-    Packed { count: usize, end: usize },
-    Other,
+pub struct Entries {
+    pub count: usize,
+    pub end: usize,
 }
+
+// The largest number of a plain field.
+pub const PLAIN: u64 = 65535;
 
 fn stands(s: &[u8], at: usize, b: u8) -> bool
-    ensures { (result ≡ true → StandsAt s.now at b) × (StandsAt s.now at b → result ≡ true) }
+    ensures { IsTrue result ↔ StandsAt s.now at b }
 {
-    if s.len() <= at {
-        return false;
-    }
-    s[at] == b
+    at < s.len() && s[at] == b
 }
 
 fn digit_at(s: &[u8], at: usize) -> bool
-    ensures { (result ≡ true → DigitAt s.now at) × (DigitAt s.now at → result ≡ true) }
+    ensures { IsTrue result ↔ DigitAt s.now at }
 {
-    if s.len() <= at {
-        return false;
-    }
-    if s[at] < 48 {
-        return false;
-    }
-    s[at] <= 57
+    at < s.len() && s[at].is_ascii_digit()
 }
 
 // The digits from a place on, of a number up to 65535.
-fn number_at(s: &[u8], at: usize) -> Found
+fn number_at(s: &[u8], at: usize) -> Option<Number>
     ensures { DigitsFound s.now at result }
 {
     if !digit_at(s, at) {
-        return Found::Other;
+        return None;
     }
-    let mut n = widened(s[at]) - 48;
+    let mut n = u64::from(s[at]) - 48;
     let mut p = at + 1;
     while digit_at(s, p) {
         if n == 0 {
-            return Found::Other;
+            return None;
         }
-        n = n * 10 + (widened(s[p]) - 48);
-        if n > 65535 {
-            return Found::Other;
+        n = n * 10 + (u64::from(s[p]) - 48);
+        if n > PLAIN {
+            return None;
         }
         p += 1;
     }
-    Found::Number { value: n, end: p }
+    Some(Number { value: n, end: p })
 }
 
 // A comma at a place, and such a number after it.
-fn field_at(s: &[u8], at: usize) -> Found
+fn field_at(s: &[u8], at: usize) -> Option<Number>
     ensures { FieldFound s.now at result }
 {
-    if !stands(s, at, 44) {
-        return Found::Other;
+    if !stands(s, at, b',') {
+        return None;
     }
     number_at(s, at + 1)
 }
 
 // The three fields of an expression, packed.
-fn entry_at(s: &[u8], at: usize) -> Found
+fn entry_at(s: &[u8], at: usize) -> Option<Number>
     ensures { EntryFound s.now at result }
 {
-    let Found::Number {
-        value: kind,
-        end: i,
-    } = field_at(s, at)
-    else {
-        return Found::Other;
-    };
-    let Found::Number {
-        value: name,
-        end: j,
-    } = field_at(s, i)
-    else {
-        return Found::Other;
-    };
-    let Found::Number { value: index, end } = field_at(s, j) else {
-        return Found::Other;
-    };
-    if !defined_expr(kind, name, index) {
-        return Found::Other;
+    let kind = field_at(s, at)?;
+    let name = field_at(s, kind.end)?;
+    let index = field_at(s, name.end)?;
+    if !defined_expr(kind.value, name.value, index.value) {
+        return None;
     }
-    Found::Number {
-        value: keys::expr::pack(kind, name, index),
-        end,
-    }
+    Some(Number {
+        value: keys::expr::pack(kind.value, name.value, index.value),
+        end: index.end,
+    })
 }
 
 // The end of a line of n entries, at a place.
-fn line_end(s: &[u8], at: usize, n: usize) -> Entries
+fn line_end(s: &[u8], at: usize, n: usize) -> Option<Entries>
     ensures { EndFound s.now at n result }
 {
-    if !stands(s, at, 10) {
-        return Entries::Other;
+    if !stands(s, at, b'\n') {
+        return None;
     }
     if at >= 65536 {
-        return Entries::Other;
+        return None;
     }
-    Entries::Packed { count: n, end: at }
+    Some(Entries { count: n, end: at })
 }
 
 // Expressions from a place on to the LF, up to `most` with those before `from`, packed behind these.
-fn entries_at(s: &[u8], at: usize, from: usize, most: usize, list: &mut [u64; 64]) -> Entries
+fn entries_at(
+    s: &[u8],
+    at: usize,
+    from: usize,
+    most: usize,
+    list: &mut [u64; 64],
+) -> Option<Entries>
     requires { (length list.old ≡ 64) × (from ≤ most) × (most ≤ 64) }
     ensures { (length list.new ≡ 64) × EntriesFound s.now at from most list.old result list.new }
 {
     let mut p = at;
     let mut n = from;
-    while stands(s, p, 44) {
+    while stands(s, p, b',') {
         if n == most {
-            return Entries::Other;
+            return None;
         }
-        let Found::Number { value, end } = entry_at(s, p) else {
-            return Entries::Other;
-        };
-        list[n] = value;
+        let entry = entry_at(s, p)?;
+        list[n] = entry.value;
         n += 1;
-        p = end;
+        p = entry.end;
     }
     line_end(s, p, n)
 }
 
 // Numbers up to the largest, from a place on to the LF.
-fn numbers_at(s: &[u8], at: usize, largest: u64, list: &mut [u64; 64]) -> Entries
+fn numbers_at(s: &[u8], at: usize, largest: u64, list: &mut [u64; 64]) -> Option<Entries>
     requires { length list.old ≡ 64 }
     ensures { (length list.new ≡ 64) × NumbersFound s.now at largest result list.new }
 {
     let mut p = at;
     let mut n: usize = 0;
-    while stands(s, p, 44) {
+    while stands(s, p, b',') {
         if n == 32 {
-            return Entries::Other;
+            return None;
         }
-        let Found::Number { value, end } = field_at(s, p) else {
-            return Entries::Other;
-        };
-        if value > largest {
-            return Entries::Other;
+        let number = field_at(s, p)?;
+        if number.value > largest {
+            return None;
         }
-        list[n] = value;
+        list[n] = number.value;
         n += 1;
-        p = end;
+        p = number.end;
     }
     line_end(s, p, n)
 }
 
 // Rules: an even number of expressions.
-fn rules_at(s: &[u8], at: usize, list: &mut [u64; 64]) -> Entries
+fn rules_at(s: &[u8], at: usize, list: &mut [u64; 64]) -> Option<Entries>
     requires { length list.old ≡ 64 }
     ensures { (length list.new ≡ 64) × RulesFound s.now at list.old result list.new }
 {
-    let Entries::Packed { count, end } = entries_at(s, at, 0, 64, list) else {
-        return Entries::Other;
-    };
-    if count % 2 != 0 {
-        return Entries::Other;
+    let entries = entries_at(s, at, 0, 64, list)?;
+    if entries.count % 2 != 0 {
+        return None;
     }
-    Entries::Packed { count, end }
+    Some(entries)
 }
 
 // A mark, and expressions behind it.
-fn input_at(s: &[u8], at: usize, list: &mut [u64; 64]) -> Entries
+fn input_at(s: &[u8], at: usize, list: &mut [u64; 64]) -> Option<Entries>
     requires { length list.old ≡ 64 }
     ensures { (length list.new ≡ 64) × InputFound s.now at list.old result list.new }
 {
-    let Found::Number { value, end } = field_at(s, at) else {
-        return Entries::Other;
-    };
-    if value > 1 {
-        return Entries::Other;
+    let mark = field_at(s, at)?;
+    if mark.value > 1 {
+        return None;
     }
-    list[0] = value;
-    entries_at(s, end, 1, 33, list)
+    list[0] = mark.value;
+    entries_at(s, mark.end, 1, 33, list)
 }
 
 // The list of a line of a letter.
-pub(crate) fn list_at(s: &[u8], at: usize, letter: u8, c: Codes, list: &mut [u64; 64]) -> Entries
+pub(crate) fn list_at(
+    s: &[u8],
+    at: usize,
+    letter: u8,
+    c: Codes,
+    list: &mut [u64; 64],
+) -> Option<Entries>
     requires { (length list.old ≡ 64) × (letter ≡ 10 → ⊥) }
     ensures { (length list.new ≡ 64) × ListFound c letter s.now at result list.new }
 {
     if !stands(s, at, letter) {
-        return Entries::Other;
+        return None;
     }
+    let p = at + 1;
     match c {
-        Codes::Key => return Entries::Other,
-        Codes::Join => return Entries::Other,
-        Codes::Exprs => return entries_at(s, at + 1, 0, 32, list),
-        Codes::Rules => return rules_at(s, at + 1, list),
-        Codes::Input => return input_at(s, at + 1, list),
-        Codes::Directions => return numbers_at(s, at + 1, 3, list),
-        Codes::Names => return numbers_at(s, at + 1, 65535, list),
+        Codes::Key | Codes::Join => None,
+        Codes::Exprs => entries_at(s, p, 0, 32, list),
+        Codes::Rules => rules_at(s, p, list),
+        Codes::Input => input_at(s, p, list),
+        Codes::Directions => numbers_at(s, p, 3, list),
+        Codes::Names => numbers_at(s, p, PLAIN, list),
     }
 }

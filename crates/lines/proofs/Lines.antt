@@ -5,7 +5,8 @@ use mathlib.Core.List.{List, [], ◌∷◌, ◌++◌, map, append_assoc, append-
 use Prim.Native.Nat.{ℕ, ◌+◌}
 use native.Mathlib.Omega.{arith}
 use lib.ListN.{length, get_or, length-append}
-use Rattle.text.specs.Text.{Field, number}
+use Rattle.text.specs.declared.field.Field.{Field}
+use Rattle.text.specs.declared.field.Field.TheVariants.{Number as number}
 use Rattle.text.specs.Write.{decimal, field_text, fields_text, line_text}
 use Rattle.text.proofs.Lengths.{line_length}
 use Rattle.keys.specs.Expressions.{expression, expressions}

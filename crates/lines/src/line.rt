@@ -1,6 +1,6 @@
 // Lines written from a list of numbers, or of packed expressions, and their lengths.
 ghost use Rattle.std.specs.Prelude.{◌≡◌, [], ◌∷◌, map, ℕ, ◌+◌, ◌≤◌, length};
-ghost use Rattle.text.specs.Text.{number};
+ghost use Rattle.text.specs.declared.field.Field.TheVariants.{Number as number};
 ghost use Rattle.text.specs.Write.{fields_text, Wrote};
 ghost use Rattle.keys.specs.Expressions.{expressions};
 ghost use Rattle.sheet.specs.KeyAnswers.{numbers_line, expr_numbers, exprs_line};

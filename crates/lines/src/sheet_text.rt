@@ -6,7 +6,7 @@ ghost use Rattle.sheet.specs.Held.{field_numbers, held_text};
 
 use crate::line::{put_expr_fields, put_exprs, put_number_fields, put_numbers};
 use linekinds::kind::Codes;
-use linekinds::lists::{SheetKind, line_codes, line_letter};
+use linekinds::lists::SheetKind;
 use sheet::held::held;
 use text::write::put_byte;
 
@@ -54,8 +54,8 @@ pub fn put_sheet(
     let mut p: usize = 0;
     let mut i: usize = 0;
     while i < n {
-        let letter = line_letter(k, i);
-        let c = line_codes(k, i);
+        let letter = k.letter(i);
+        let c = k.codes(i);
         let own = held(lists, counts, i);
         p = put_held(out, p, letter, c, own);
         i += 1;

@@ -6,4 +6,3 @@ pub mod PlanLent
 pub mod PlanEntries
 pub mod DecisionFits
 pub mod OtherSheets
-pub mod RoomTests

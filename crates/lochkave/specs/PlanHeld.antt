@@ -1,7 +1,10 @@
 -- A D sheet in the rooms that an entry point has for it.
-use Rattle.std.specs.Prelude.{ℕ, ◌≤◌, ◌≡◌, List, length}
+use Rattle.std.specs.Prelude.{ℕ, ◌≤◌, ◌<◌, ◌≡◌, List, [], length, get_or, take}
 use Rattle.exchange.specs.declared.settings.Settings.{Settings}
+use Rattle.exchange.specs.FactRows.{child_facts}
+use Rattle.exchange.specs.Found.{index_of}
 use Rattle.exchange.specs.Rows.{flatten}
+use Rattle.plansheet.specs.PlanLines.{two_to}
 use Rattle.plansheet.specs.PlanSheets.{PlanSheet, child_count}
 use Rattle.plansheet.specs.PlanTexts.{plan_text}
 use Rattle.plansheet.specs.PlanRooms.{PlanHeld}
@@ -15,6 +18,15 @@ pub record Holds (x : PlanSheet) (s : Settings) (k c n : ℕ) (tree : List (List
   pub lines : k ≡ length (flatten x.plan)
   pub children : c ≡ child_count x.plan
   pub rows : n ≡ length x.facts.rows
+
+-- the rooms suffice for these counts of the worked node's children and of X rows, and hold what is asked of the rows
+pub record FactsIn (c n : ℕ) (facts xs : List (List ℕ)) (masks index : List ℕ) : Type 0 where
+  pub few : c ≤ 8
+  pub many : c ≤ length facts
+  pub rowed : n ≤ length xs
+  pub masked : two_to c ≤ length masks
+  pub ordered : (k : ℕ) → k < c → (child_facts (get_or facts k [])).entries ≤ 8
+  pub indexed : index ≡ index_of (take n xs)
 
 -- some sheet does, in rooms for eight children and the masks of their sets
 pub record Held (s : Settings) (k c n : ℕ) (tree : List (List ℕ)) (node : List ℕ) (facts xs : List (List ℕ)) (masks index : List ℕ) : Type 0 where

@@ -1,24 +1,16 @@
 // A sheet that was read, written again from what is held of it.
 ghost use Rattle.std.specs.Prelude.{◌≡◌, ◌+◌, ◌*◌, ◌≤◌, length};
 ghost use Rattle.sheet.specs.KeySheets.{read_key_sheet, read_join_sheet};
-ghost use Rattle.text.specs.Write.{Wrote};
-ghost use Rattle.sheet.specs.KeyAnswers.{wrote};
 ghost use Rattle.sheet.specs.Outcomes.{answer, after, within};
-ghost use Rattle.plansheet.specs.PlanSheets.{PlanSheet, read_plan};
-ghost use Rattle.plansheet.specs.PlanTexts.{plan_text};
-ghost use Rattle.lochkave.specs.PlanHeld.{Holds, HeldFits, HeldLong};
-ghost use Rattle.lochkave.specs.Entry.{key_again, join_again, plan_again, Gives};
+ghost use Rattle.plansheet.specs.PlanSheets.{read_plan};
+ghost use Rattle.lochkave.specs.Entry.{key_again, join_again, plan_again};
 
-use exchange::fact::FactRow;
-use exchange::partitioning::NodeRow;
-use exchange::row::Row;
-use exchange::settings::Settings;
-use exchange::status::ChildRow;
+use crate::plan::held_facts;
 use linekinds::lists::SheetKind;
 use lines::sheet_text::put_sheet;
 use plananswer::sheet_text::put_plan_sheet;
-use plansheet::line::sets_of;
 use plansheet::plan::{Plan, read_plan};
+use refusals::Refusal;
 use sheet::sheets::{Sheet, read_join_sheet, read_key_sheet};
 
 pub(crate) fn refusal(number: u64, line: u64) -> u64
@@ -40,7 +32,7 @@ pub(crate) fn rewrite_key_sheet(sheet: &[u8], out: &mut [u8]) -> u64
         return refusal(number, line);
     }
     if out.len() < sheet.len() {
-        return 51539607552;
+        return Refusal::OutputTooShort.on_line(0).word();
     }
     let n = 9 + lists[0][6] as usize;
     put_sheet(out, SheetKind::Key, n, &lists, &counts) as u64
@@ -58,66 +50,9 @@ pub(crate) fn rewrite_join_sheet(sheet: &[u8], out: &mut [u8]) -> u64
         return refusal(number, line);
     }
     if out.len() < sheet.len() {
-        return 51539607552;
+        return Refusal::OutputTooShort.on_line(0).word();
     }
     put_sheet(out, SheetKind::Join, 8, &lists, &counts) as u64
-}
-
-// The sheet that is held in the rooms, at the front of the output.
-fn put_held_plan(
-    settings: Settings,
-    lines: usize,
-    children: u64,
-    n: usize,
-    rows: &[Row],
-    node: NodeRow,
-    facts: &[ChildRow],
-    xs: &[FactRow],
-    masks: &[u64],
-    index: &[u64],
-    out: &mut [u8],
-) -> usize
-    requires { HeldFits settings lines children n rows.now node facts.now xs.now masks.now index.now (length out.old) }
-    ensures { (x : PlanSheet) → Holds x settings lines children n rows.now node facts.now xs.now masks.now index.now → Wrote out.old 0 (plan_text x) out.new result }
-{
-    let k = children as usize;
-    let many = sets_of(children);
-    put_plan_sheet(
-        out,
-        0,
-        settings,
-        &rows[..lines],
-        node,
-        &facts[..k],
-        &xs[..n],
-        &masks[..many],
-    )
-}
-
-// The same where there is room for its bytes; else refusal 12.
-fn rewrite_held_plan(
-    bytes: usize,
-    settings: Settings,
-    lines: usize,
-    children: u64,
-    n: usize,
-    rows: &[Row],
-    node: NodeRow,
-    facts: &[ChildRow],
-    xs: &[FactRow],
-    masks: &[u64],
-    index: &[u64],
-    out: &mut [u8],
-) -> u64
-    requires { HeldLong settings lines children n rows.now node facts.now xs.now masks.now index.now bytes }
-    ensures { (x : PlanSheet) → Holds x settings lines children n rows.now node facts.now xs.now masks.now index.now → Gives (within (length out.old) (wrote (plan_text x))) result out.old out.new }
-{
-    if out.len() < bytes {
-        return 51539607552;
-    }
-    put_held_plan(
-        settings, lines, children, n, rows, node, facts, xs, masks, index, out,
-    ) as u64
 }
 
 pub(crate) fn rewrite_plan_sheet(sheet: &[u8], out: &mut [u8]) -> u64
@@ -144,7 +79,7 @@ pub(crate) fn rewrite_plan_sheet(sheet: &[u8], out: &mut [u8]) -> u64
         &mut index,
     );
     match p {
-        Plan::Refused { number, line } => return refusal(number, line),
+        Plan::Refused { number, line } => refusal(number, line),
         Plan::Held {
             settings,
             lines,
@@ -152,20 +87,11 @@ pub(crate) fn rewrite_plan_sheet(sheet: &[u8], out: &mut [u8]) -> u64
             children,
             rows: n,
         } => {
-            return rewrite_held_plan(
-                sheet.len(),
-                settings,
-                lines,
-                children,
-                n,
-                &rows,
-                node,
-                &facts,
-                &xs,
-                &masks,
-                &index,
-                out,
-            )
+            if out.len() < sheet.len() {
+                return Refusal::OutputTooShort.on_line(0).word();
+            }
+            let f = held_facts(children, n, node, &facts, &xs, &masks, &index);
+            put_plan_sheet(out, 0, settings, &rows[..lines], f) as u64
         }
     }
 }

@@ -1,17 +1,17 @@
 // Decides a D sheet, with rooms by its length: what is cleared on every call is less for a short one.
-ghost use Rattle.std.specs.Prelude.{◌≡◌, ◌<◌, length};
+ghost use Rattle.std.specs.Prelude.{◌≡◌, ◌≤◌, length};
 ghost use Rattle.sheet.specs.Outcomes.{answer, after};
 ghost use Rattle.lochkave.specs.Entry.{distribution_outcome};
 ghost use Rattle.lochkave.specs.Rooms.{PlanRooms};
 
 use crate::again::refusal;
-use crate::plan::answer_held;
+use crate::plan::{answer_plan, held_facts};
 use exchange::fact::FactRow;
 use exchange::row::Row;
 use plansheet::plan::{Plan, read_plan};
 
 // A sheet of fewer bytes has at most 64 T lines and 39 X rows: a T line takes 17 bytes at least, an X row 28.
-pub(crate) const SHORT: usize = 1088;
+const SHORT: usize = 1088;
 
 // Twice as many.
 const MIDDLE: usize = 2176;
@@ -47,7 +47,7 @@ pub(crate) fn distribute_in(
         &mut *index,
     );
     match p {
-        Plan::Refused { number, line } => return refusal(number, line),
+        Plan::Refused { number, line } => refusal(number, line),
         Plan::Held {
             settings,
             lines,
@@ -55,25 +55,28 @@ pub(crate) fn distribute_in(
             children,
             rows: n,
         } => {
-            return answer_held(
-                settings, lines, children, n, rows, node, &facts, &*xs, &*masks, &*index, mid, dst,
-                out,
-            )
+            let f = held_facts(children, n, node, &facts, &*xs, &*masks, &*index);
+            answer_plan(settings, f, &mut rows[..lines], mid, dst, out)
         }
     }
 }
 
-// A sheet of fewer bytes than that.
-pub(crate) fn distribute_short(sheet: &[u8], out: &mut [u8]) -> u64
-    requires { length sheet.now < 1088 }
+// The same in rooms for so many rows of the tree, X rows, and rows between and of the answer.
+#[inline(never)]
+fn distribute_sized<const ROWS: usize, const XS: usize, const MID: usize, const DST: usize>(
+    sheet: &[u8],
+    out: &mut [u8],
+) -> u64
+    requires rooms { PlanRooms (length sheet.now) 256 ROWS XS MID DST 256 129 }
+    requires few { (XS ≤ 128) × (MID ≤ 258) }
     ensures result { result ≡ answer (distribution_outcome sheet.now (length out.old)) }
     ensures bytes { out.new ≡ after (distribution_outcome sheet.now (length out.old)) out.old }
 {
     let mut fields = [[0u64; 2]; 256];
-    let mut rows = [[0u64; 11]; 64];
-    let mut xs = [[0u64; 13]; 39];
-    let mut mid = [[0u64; 11]; 66];
-    let mut dst = [[0u64; 11]; 152];
+    let mut rows = [[0u64; 11]; ROWS];
+    let mut xs = [[0u64; 13]; XS];
+    let mut mid = [[0u64; 11]; MID];
+    let mut dst = [[0u64; 11]; DST];
     let mut masks = [0u64; 256];
     let mut index = [0u64; 129];
     distribute_in(
@@ -89,64 +92,16 @@ pub(crate) fn distribute_short(sheet: &[u8], out: &mut [u8]) -> u64
     )
 }
 
-// A sheet of fewer bytes than twice as many.
-fn distribute_middle(sheet: &[u8], out: &mut [u8]) -> u64
-    requires { length sheet.now < 2176 }
+// Any sheet, in rooms of its own.
+pub(crate) fn distribute(sheet: &[u8], out: &mut [u8]) -> u64
     ensures result { result ≡ answer (distribution_outcome sheet.now (length out.old)) }
     ensures bytes { out.new ≡ after (distribution_outcome sheet.now (length out.old)) out.old }
 {
-    let mut fields = [[0u64; 2]; 256];
-    let mut rows = [[0u64; 11]; 128];
-    let mut xs = [[0u64; 13]; 78];
-    let mut mid = [[0u64; 11]; 130];
-    let mut dst = [[0u64; 11]; 280];
-    let mut masks = [0u64; 256];
-    let mut index = [0u64; 129];
-    distribute_in(
-        sheet,
-        &mut fields,
-        &mut rows,
-        &mut xs,
-        &mut mid,
-        &mut dst,
-        &mut masks,
-        &mut index,
-        out,
-    )
-}
-
-// Any sheet.
-fn distribute_any(sheet: &[u8], out: &mut [u8]) -> u64
-    ensures result { result ≡ answer (distribution_outcome sheet.now (length out.old)) }
-    ensures bytes { out.new ≡ after (distribution_outcome sheet.now (length out.old)) out.old }
-{
-    let mut fields = [[0u64; 2]; 256];
-    let mut rows = [[0u64; 11]; 256];
-    let mut xs = [[0u64; 13]; 128];
-    let mut mid = [[0u64; 11]; 258];
-    let mut dst = [[0u64; 11]; 536];
-    let mut masks = [0u64; 256];
-    let mut index = [0u64; 129];
-    distribute_in(
-        sheet,
-        &mut fields,
-        &mut rows,
-        &mut xs,
-        &mut mid,
-        &mut dst,
-        &mut masks,
-        &mut index,
-        out,
-    )
-}
-
-// Any sheet, as one that is not short is decided.
-pub(crate) fn distribute_long(sheet: &[u8], out: &mut [u8]) -> u64
-    ensures result { result ≡ answer (distribution_outcome sheet.now (length out.old)) }
-    ensures bytes { out.new ≡ after (distribution_outcome sheet.now (length out.old)) out.old }
-{
-    if sheet.len() < MIDDLE {
-        return distribute_middle(sheet, out);
+    if sheet.len() < SHORT {
+        return distribute_sized::<64, 39, 66, 152>(sheet, out);
     }
-    distribute_any(sheet, out)
+    if sheet.len() < MIDDLE {
+        return distribute_sized::<128, 78, 130, 280>(sheet, out);
+    }
+    distribute_sized::<256, 128, 258, 536>(sheet, out)
 }

@@ -12,7 +12,8 @@ ghost use Rattle.std.specs.Prelude.{◌≡◌, length, get_or};
 ghost use Rattle.sheet.specs.Outcomes.{answer, after};
 ghost use Rattle.lochkave.specs.Entry.{outcome, adjust_outcome, inputs_outcome, distribution_outcome, rewrite_outcome};
 
-use crate::distribution::{SHORT, distribute_in, distribute_long, distribute_short};
+use crate::again::{rewrite_join_sheet, rewrite_key_sheet, rewrite_plan_sheet};
+use crate::distribution::{distribute, distribute_in};
 use crate::kinds::{adjust_in, follow_in};
 use crate::rooms::{keys_fit, trees_fit};
 
@@ -45,20 +46,17 @@ pub extern "C" fn lochkave_ensure_distribution(sheet: &[u8], out: &mut [u8]) -> 
     ensures result { result ≡ answer (distribution_outcome sheet.now (length out.old)) }
     ensures bytes { out.new ≡ after (distribution_outcome sheet.now (length out.old)) out.old }
 {
-    if sheet.len() < SHORT {
-        return distribute_short(sheet, out);
-    }
-    distribute_long(sheet, out)
+    distribute(sheet, out)
 }
 
 // The byte that says a sheet's kind; 0 where there is none.
 fn first_byte(sheet: &[u8]) -> u8
     ensures { result ≡ get_or sheet.now 0 0 }
 {
-    if sheet.len() == 0 {
-        return 0;
+    match sheet.first() {
+        Some(kind) => *kind,
+        None => 0,
     }
-    sheet[0]
 }
 
 // Decides a sheet, whose first byte says its kind.
@@ -67,14 +65,11 @@ pub extern "C" fn lochkave_decide(sheet: &[u8], out: &mut [u8]) -> u64
     ensures result { result ≡ answer (outcome sheet.now (length out.old)) }
     ensures bytes { out.new ≡ after (outcome sheet.now (length out.old)) out.old }
 {
-    let kind = first_byte(sheet);
-    if kind == 75 {
-        return lochkave_adjust_input_keys_ordering(sheet, out);
+    match first_byte(sheet) {
+        b'K' => lochkave_adjust_input_keys_ordering(sheet, out),
+        b'I' => lochkave_reorder_join_keys_to_inputs(sheet, out),
+        _ => lochkave_ensure_distribution(sheet, out),
     }
-    if kind == 73 {
-        return lochkave_reorder_join_keys_to_inputs(sheet, out);
-    }
-    lochkave_ensure_distribution(sheet, out)
 }
 
 // The same in rooms that are lent and never cleared; in its own where one of them is too short. What they hold afterwards is of no account.
@@ -108,17 +103,16 @@ pub extern "C" fn lochkave_decide_in(
     ) {
         return lochkave_decide(sheet, out);
     }
-    let kind = first_byte(sheet);
-    if kind == 75 {
-        return adjust_in(sheet, fields, lists, out);
+    match first_byte(sheet) {
+        b'K' => adjust_in(sheet, fields, lists, out),
+        b'I' => follow_in(sheet, fields, rules, lists, out),
+        _ => {
+            let tree = &mut rows[..256];
+            let answer = &mut dst[..536];
+            let places = &mut index[..129];
+            distribute_in(sheet, fields, tree, xs, mid, answer, masks, places, out)
+        }
     }
-    if kind == 73 {
-        return follow_in(sheet, fields, rules, lists, out);
-    }
-    let tree = &mut rows[..256];
-    let answer = &mut dst[..536];
-    let places = &mut index[..129];
-    distribute_in(sheet, fields, tree, xs, mid, answer, masks, places, out)
 }
 
 // Reads a sheet and writes it again from what was read.
@@ -127,12 +121,9 @@ pub extern "C" fn lochkave_rewrite(sheet: &[u8], out: &mut [u8]) -> u64
     ensures result { result ≡ answer (rewrite_outcome sheet.now (length out.old)) }
     ensures bytes { out.new ≡ after (rewrite_outcome sheet.now (length out.old)) out.old }
 {
-    let kind = first_byte(sheet);
-    if kind == 75 {
-        return crate::again::rewrite_key_sheet(sheet, out);
+    match first_byte(sheet) {
+        b'K' => rewrite_key_sheet(sheet, out),
+        b'I' => rewrite_join_sheet(sheet, out),
+        _ => rewrite_plan_sheet(sheet, out),
     }
-    if kind == 73 {
-        return crate::again::rewrite_join_sheet(sheet, out);
-    }
-    crate::again::rewrite_plan_sheet(sheet, out)
 }

@@ -6,33 +6,14 @@ ghost use Rattle.lochkave.specs.Rooms.{Decides, KeyRooms, TreeRooms};
 fn list_fits(list: &[u64]) -> bool
     ensures { Decides result (length list.now ≡ 64) }
 {
-    if list.len() == 64 {
-        return true;
-    }
-    false
+    list.len() == 64
 }
 
-// The fields of a line, and the rules and lists of K and I sheets. The compiler knows each list's length, and leaves the loop out.
+// The fields of a line, and the rules and lists of K and I sheets. The compiler knows each list's length, and leaves the last test out.
 pub(crate) fn keys_fit(fields: usize, rules: usize, lists: &[[u64; 64]]) -> bool
     ensures { Decides result (KeyRooms fields rules lists.now) }
 {
-    if fields < 256 {
-        return false;
-    }
-    if rules < 32 {
-        return false;
-    }
-    if lists.len() < 17 {
-        return false;
-    }
-    let mut i: usize = 0;
-    while i < lists.len() {
-        if !list_fits(&lists[i]) {
-            return false;
-        }
-        i += 1;
-    }
-    true
+    fields >= 256 && rules >= 32 && lists.len() >= 17 && lists.iter().all(|list| list_fits(list))
 }
 
 // The rows, masks and index of a D sheet, and the rows of its answer.
@@ -46,23 +27,5 @@ pub(crate) fn trees_fit(
 ) -> bool
     ensures { Decides result (TreeRooms rows xs mid dst masks index) }
 {
-    if rows < 256 {
-        return false;
-    }
-    if xs < 128 {
-        return false;
-    }
-    if mid < 258 {
-        return false;
-    }
-    if dst < 536 {
-        return false;
-    }
-    if masks < 256 {
-        return false;
-    }
-    if index < 129 {
-        return false;
-    }
-    true
+    rows >= 256 && xs >= 128 && mid >= 258 && dst >= 536 && masks >= 256 && index >= 129
 }

@@ -17,13 +17,13 @@ use Rattle.keys.specs.declared.reorder.Reordered.TheVariants.{Met, Moved, Imposs
 use Rattle.keys.specs.declared.answer.Handed.{Handed}
 use Rattle.keys.specs.declared.answer.Handed.TheVariants.{Kept, Cleared, Required, Keys, Shifted, Mapped}
 use Rattle.keys.specs.declared.answer.Outcome.{Outcome}
-use Rattle.keys.specs.declared.answer.Outcome.TheVariants.{Unchanged, Passed, Tried, Regrouped, NameNotFound}
+use Rattle.keys.specs.declared.answer.Outcome.TheVariants.{Unchanged, Passed, Tried, Regrouped}
 use Rattle.keys.proofs.Truths.{or_first, or_second}
 use Rattle.moves.specs.Chosen.{tried_or, followed_or, keeps_by, handed_list, shifts_by, shifted_for}
 
 pub tried_is : {A : Type 0} (o : Reordered) (moved stood : A) → tried_or o moved stood ≡ moved_or (Tried o) moved stood
 tried_is Met moved stood = refl
-tried_is Moved moved stood = refl
+tried_is (Moved at) moved stood = refl
 tried_is Impossible moved stood = refl
 
 -- where a child is handed R shifted, k is that, packed
@@ -68,10 +68,9 @@ module _ (P : List ℕ → Type 0) where
   moved_any Unchanged moved stood m s = s
   moved_any Passed moved stood m s = s
   moved_any (Tried Met) moved stood m s = s
-  moved_any (Tried Moved) moved stood m s = m
+  moved_any (Tried (Moved at)) moved stood m s = m
   moved_any (Tried Impossible) moved stood m s = s
-  moved_any Regrouped moved stood m s = s
-  moved_any NameNotFound moved stood m s = s
+  moved_any (Regrouped at places) moved stood m s = s
 
   pub handed_any : (h : Handed) (r side k m : List ℕ) → P [] → P r → P side → P k → P m → P (handed_list h r side k m)
   handed_any Kept r side k m n p q t u = n
@@ -83,7 +82,7 @@ module _ (P : List ℕ → Type 0) where
 
   pub tried_any : (o : Reordered) (moved stood : List ℕ) → P moved → P stood → P (tried_or o moved stood)
   tried_any Met moved stood m s = s
-  tried_any Moved moved stood m s = m
+  tried_any (Moved at) moved stood m s = m
   tried_any Impossible moved stood m s = s
 
   pub followed_any : (o : Attempt) (moved stood : List ℕ) → P moved → P stood → P (followed_or o moved stood)

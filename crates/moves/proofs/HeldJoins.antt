@@ -6,8 +6,8 @@ use mathlib.Core.List.{List}
 use lib.ListN.{length, get_or, length-map}
 use Rattle.keys.specs.Expressions.{same_expr, expression}
 use Rattle.keys.specs.Inputs.{reorder_join_keys_to_inputs}
-use Rattle.keys.specs.InputValues.{join_sheet, current_of}
-use Rattle.keys.specs.declared.inputs.Current.{Current}
+use Rattle.keys.specs.InputValues.{join_sheet, attempt_of}
+use Rattle.keys.specs.declared.inputs.Attempt.{Attempt}
 use Rattle.sheet.specs.Held.{held_at, pair_rows, held_join_sheet, JoinHeld}
 use Rattle.moves.proofs.HeldRoom.{held_there, held_short}
 
@@ -44,11 +44,11 @@ module _ (lists : List (List ℕ)) (counts : List ℕ) where
 
   -- what is decided of the lists is decided of the sheet
   pub join_decided :
-      {op mode : ℕ} {l g h n : List ℕ} {w v : List (List ℕ)} (x : Current) → op ≡ get_or (At 0) 0 0 → mode ≡ get_or (At 0) 1 0 → l ≡ At 1 → g ≡ At 2 →
+      {op mode : ℕ} {l g h n : List ℕ} {w v : List (List ℕ)} (x : Attempt) → op ≡ get_or (At 0) 0 0 → mode ≡ get_or (At 0) 1 0 → l ≡ At 1 → g ≡ At 2 →
       h ≡ At 4 → n ≡ At 5 → w ≡ pair_rows (At 6) → v ≡ pair_rows (At 7) →
-      ((s : List ℕ) → let t = join_sheet op mode l g s h n w v in current_of t x ≡ reorder_join_keys_to_inputs t same_expr) →
-      current_of (held_join_sheet lists counts) x ≡ reorder_join_keys_to_inputs (held_join_sheet lists counts) same_expr
+      ((s : List ℕ) → let t = join_sheet op mode l g s h n w v in attempt_of t x ≡ reorder_join_keys_to_inputs t same_expr) →
+      attempt_of (held_join_sheet lists counts) x ≡ reorder_join_keys_to_inputs (held_join_sheet lists counts) same_expr
   unfolding held_join_sheet
   join_decided x po pm pl pg ph pn pw pv f =
-      subst (λ t. current_of t x ≡ reorder_join_keys_to_inputs t same_expr)
+      subst (λ t. attempt_of t x ≡ reorder_join_keys_to_inputs t same_expr)
       (λ j. join_sheet (po j) (pm j) (pl j) (pg j) (At 3) (ph j) (pn j) (pw j) (pv j)) (f (At 3))

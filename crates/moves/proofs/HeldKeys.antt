@@ -14,6 +14,7 @@ use Rattle.keys.specs.Arrange.{Below}
 use Rattle.keys.specs.Answers.{key_sheet, adjusted_of}
 use Rattle.keys.specs.declared.answer.Operator.{Operator}
 use Rattle.keys.specs.declared.answer.Adjusted.{Adjusted}
+use Rattle.std.specs.Prelude.{Option}
 use Rattle.keys.proofs.Truths.{and_first}
 use Rattle.sheet.specs.KeySheets.{key_lists_fit}
 use Rattle.sheet.specs.Sizes.{Each}
@@ -71,7 +72,7 @@ module _ (lists : List (List ℕ)) (counts : List ℕ) where
 
   -- what is decided of the lists is decided of the sheet
   pub key_decided :
-      {k : Operator} {r l g o a m : List ℕ} {w : List (List ℕ)} (x : Adjusted) → k ≡ operator_of (At 0) → r ≡ At 1 → l ≡ At 2 → g ≡ At 3 →
+      {k : Operator} {r l g o a m : List ℕ} {w : List (List ℕ)} (x : Option Adjusted) → k ≡ operator_of (At 0) → r ≡ At 1 → l ≡ At 2 → g ≡ At 3 →
       w ≡ pair_rows (At 5) → o ≡ At 6 → a ≡ At 7 → m ≡ At 8 →
       ((s : List ℕ) (cs : List (List Expression)) → let t = key_sheet k r l g s w o a m cs in adjusted_of t x ≡ adjust_input_keys_ordering same_expr t) →
       adjusted_of (held_key_sheet lists counts) x ≡ adjust_input_keys_ordering same_expr (held_key_sheet lists counts)

@@ -12,7 +12,7 @@ use Rattle.keys.specs.declared.inputs.Attempt.TheVariants.{Untried, Followed, Fa
 -- what the pairs' move leaves, or what stood, by the outcome of a try
 abbrev pub tried_or : {A : Type 0} → Reordered → A → A → A
 tried_or Met moved stood = stood
-tried_or Moved moved stood = moved
+tried_or (Moved at) moved stood = moved
 tried_or Impossible moved stood = stood
 
 -- the same by the outcome of the inputs

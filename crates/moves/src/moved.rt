@@ -4,27 +4,17 @@ ghost use Rattle.keys.specs.Lists.{permute};
 ghost use Rattle.keys.specs.Expressions.{gone_number};
 ghost use Rattle.keys.specs.Adjust.{moved_directions};
 
-use keys::list::{moved_keys, permute};
+use keys::list::{KeyList, permute};
 
 // A side's keys at the positions: built in a key list, and laid as numbers in the front of the room lent.
 fn moved_side(keys: &[u64], at: &[u8], out: &mut [u64; 32])
     requires { (length at.now ≤ 32) × (length out.old ≡ 32) }
     ensures { (length out.new ≡ 32) × (take (length at.now) out.new ≡ permute gone_number keys.now at.now) }
 {
-    let k = moved_keys(keys, at);
-    let n = k.count;
-    let mut i: usize = 0;
-    while i < n {
-        let e = k.items[i];
-        out[i] = e.number;
-        i += 1;
+    let moved = KeyList::moved(keys, at);
+    for (i, key) in moved.keys().iter().enumerate() {
+        out[i] = key.number;
     }
-}
-
-pub(crate) fn widened(p: u8) -> u64
-    ensures { result ≡ p }
-{
-    p as u64
 }
 
 // The positions as numbers, in the front of the room lent.
@@ -32,21 +22,9 @@ pub fn wide_positions(at: &[u8], out: &mut [u64; 32])
     requires { (length at.now ≤ 32) × (length out.old ≡ 32) }
     ensures { (length out.new ≡ 32) × (take (length at.now) out.new ≡ at.now) }
 {
-    let mut i: usize = 0;
-    while i < at.len() {
-        out[i] = widened(at[i]);
-        i += 1;
+    for (i, &p) in at.iter().enumerate() {
+        out[i] = u64::from(p);
     }
-}
-
-// The first n entries, or all.
-fn front<'a>(list: &'a [u8], n: usize) -> &'a [u8]
-    ensures { result.now ≡ take n list.now }
-{
-    if list.len() <= n {
-        return list;
-    }
-    &list[0..n]
 }
 
 // The directions at the first positions, one for each that there is; how many.
@@ -54,9 +32,9 @@ fn moved_directions(s: &[u64], at: &[u8], out: &mut [u64; 32]) -> usize
     requires { (length at.now ≤ 32) × (length out.old ≡ 32) }
     ensures { (length out.new ≡ 32) × (result ≤ 32) × (take result out.new ≡ moved_directions s.now at.now) }
 {
-    let first = front(at, s.len());
-    permute(0, s, first, out);
-    first.len()
+    let n = at.len().min(s.len());
+    permute(0, s, &at[..n], out);
+    n
 }
 
 // The keys of both sides, as many as there are positions, and the directions; how many of these.

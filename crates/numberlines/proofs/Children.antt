@@ -8,7 +8,7 @@ use native.Mathlib.Omega.{arith}
 use borrow.Author.Tests.{le-leb}
 use lib.ListN.{length, set}
 use lib.Seq.{sets}
-use Rattle.text.specs.Text.{number}
+use Rattle.text.specs.declared.field.Field.TheVariants.{Number as number}
 use Rattle.text.specs.Bounds.{allows_all, widest}
 use Rattle.linekinds.specs.Reading.{Small}
 use Rattle.linekinds.specs.PlainText.{StandsAt, TextAt, fields_of}
@@ -16,8 +16,9 @@ use Rattle.linekinds.proofs.PlainText.{more_fields}
 use Rattle.linekinds.proofs.PlainLines.{line_text_lem, line_is, after_is}
 use Rattle.numberlines.specs.NumberLines.{Begins, UpTo, NumbersAt, RestAt, RestFound, ChildLine, ChildFound}
 use Rattle.numberlines.proofs.Numbers.{up_small}
-use Rattle.numberlines.specs.declared.row.Plain.{Plain}
-use Rattle.numberlines.specs.declared.row.Plain.TheVariants as P
+use Rattle.std.specs.Prelude.{Result, Ok, Err}
+use Rattle.numberlines.specs.declared.row.Unread.{Unread}
+use Rattle.numberlines.specs.declared.row.Unread.TheVariants.{Unusual, Other}
 
 up_wide : (ns : List ℕ) → UpTo 4294967295 ns → allows_all widest (map number ns) ≡ true
 unfolding allows_all
@@ -77,7 +78,7 @@ module _ (letter : ℕ) (s : List ℕ) (at : ℕ) (row : List ℕ) (other : lett
       (o.held ∙ ap (λ (r : List ℕ). set (sets (sets r 3 o.xs) 4 o.ys) 6 o.last) n.held)
 
 pub child_found : (letter : ℕ) (s : List ℕ) (at : ℕ) (row : List ℕ) → (letter ≡ 10 → ⊥) → Begins s at letter → length row ≡ 7 → (p : ℕ) (row₁ : List ℕ) → NumbersAt 65535 s (at + 1) row 0 3 p row₁ →
-    (r : Plain) (row' : List ℕ) → RestFound 4294967295 s p row₁ 3 4 4 6 r row' → ChildFound letter s at row r row'
-child_found letter s at row other b seven p row₁ n (P.Line end) row' o = child_line_lem letter s at row other b seven p end row' row₁ n o
-child_found letter s at row other b seven p row₁ n P.Unusual row' o = tt
-child_found letter s at row other b seven p row₁ n P.Other row' o = absurd o
+    (r : Result ℕ Unread) (row' : List ℕ) → RestFound 4294967295 s p row₁ 3 4 4 6 r row' → ChildFound letter s at row r row'
+child_found letter s at row other b seven p row₁ n (Ok end) row' o = child_line_lem letter s at row other b seven p end row' row₁ n o
+child_found letter s at row other b seven p row₁ n (Err Unusual) row' o = tt
+child_found letter s at row other b seven p row₁ n (Err Other) row' o = absurd o

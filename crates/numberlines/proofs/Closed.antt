@@ -8,9 +8,12 @@ use mathlib.Core.List.{List, [], ◌∷◌}
 use native.Mathlib.Omega.{arith}
 use borrow.Author.Tests.{ltb-true, ltb-false, lt-ltb, eq-eqb, ne_eqb}
 use lib.Dec.{ltb, eqb}
+use Rattle.std.specs.Char.{is_ascii_digit}
+use Rattle.std.proofs.Common.{rules}
 use lib.ListN.{length, get_or, drop, length-drop}
 use lib.Seq.{drop-cons, get_or-drop}
-use Rattle.text.specs.Text.{Field, until, line, fields, line_fields, line_at}
+use Rattle.text.specs.declared.field.Field.{Field}
+use Rattle.text.specs.Text.{until, line, fields, line_fields, line_at}
 use Rattle.linekinds.specs.PlainText.{StandsAt, DigitAt}
 use Rattle.numberlines.specs.NumberLines.{Closed, Begins}
 
@@ -22,6 +25,9 @@ closed_next s p k h n = go (ltb (p + 1) (length s)) refl
     go false e =
         let q : length s - 1 ≡ p = omega (arith, ltb-false (p + 1) (length s) e) in
         absurd (n (subst (λ (i : ℕ). get_or s i 0 ≡ 10) q k))
+
+pub digit_here : (s : List ℕ) (p : ℕ) → p < length s → is_ascii_digit (get_or s p 0) ≡ true → DigitAt s p
+digit_here s p h e = search rules
 
 pub digit_next : (s : List ℕ) (p : ℕ) → Closed s → DigitAt s p → p + 1 < length s
 digit_next s p k d = closed_next s p k d.0 (λ e. omega (arith, d.1, e))

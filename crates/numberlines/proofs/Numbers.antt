@@ -6,14 +6,19 @@ use mathlib.Core.List.{List, [], ◌∷◌, ◌++◌, map, append-nil}
 use native.Mathlib.Omega.{arith}
 use lib.ListN.{length, set, length-append, drop_of_length-le}
 use lib.Seq.{sets, sets-eq}
-use Rattle.text.specs.Text.{number}
+use Rattle.text.specs.declared.field.Field.TheVariants.{Number as number}
 use Rattle.text.specs.Write.{fields_text}
 use Rattle.text.proofs.Stores.{sets_append}
 use Rattle.linekinds.specs.Reading.{Small}
 use Rattle.linekinds.specs.PlainText.{StandsAt, TextAt, fields_of}
 use Rattle.linekinds.proofs.PlainText.{field_text_lem, more_fields}
 use Rattle.linekinds.proofs.PlainLines.{small_wide, line_text_lem, line_is, after_is}
-use Rattle.numberlines.specs.NumberLines.{Begins, NumberAt, UpTo, NumbersAt, RestAt, LineOf}
+use Rattle.std.specs.Prelude.{Option, Some, None, Result, Ok, Err}
+use Rattle.std.specs.Option.{ok_or}
+use Rattle.numberlines.specs.NumberLines.{Closed, Begins, NumberAt, UpTo, NumbersAt, LastFound, RestFound, RowFound, LineOf}
+use Rattle.numberlines.specs.declared.row.Unread.{Unread}
+use Rattle.numberlines.specs.declared.row.Unread.TheVariants.{Unusual, Other}
+use Rattle.numberlines.proofs.Closed.{begun}
 
 pub numbers_none : (most : ℕ) (s : List ℕ) (at : ℕ) (row : List ℕ) (from : ℕ) → StandsAt s at 44 → NumbersAt most s at row from from at row
 unfolding fields_text
@@ -74,23 +79,44 @@ row_line letter s at other b row row' end l early =
       g,
     )
 
+-- what was stored where the numbers go on, and that they do not
+pub stored_to : (o : Option ℕ) (p : ℕ) → Ok p ≡ ok_or o Unusual → o ≡ Some p
+stored_to (Some q) p e = cc
+stored_to None p e = let z : ◌≡◌ {A = ℕ} 0 1 = cc in absurd (omega arith)
+
+pub unusual_is : (o : Option ℕ) (u : Unread) → Err u ≡ ok_or o Unusual → u ≡ Unusual
+unusual_is (Some q) u e = let z : ◌≡◌ {A = ℕ} 0 1 = cc in absurd (omega arith)
+unusual_is None u e = cc
+
 -- two runs of numbers, and the last one
-pub rest_found : (most : ℕ) (s : List ℕ) (at : ℕ) (row : List ℕ) (from mid next to p q n end : ℕ) (row₁ row₂ : List ℕ) →
-    NumbersAt most s at row from mid p row₁ → NumbersAt 65535 s p row₁ next to q row₂ → NumberAt 65535 s (q + 1) n end 10 → end < 65536 →
-    RestAt most s at row from mid next to end (set row₂ to n)
+pub rest_found : (most : ℕ) (s : List ℕ) (at : ℕ) (row : List ℕ) (from mid next to p q : ℕ) (row₁ row₂ : List ℕ) →
+    NumbersAt most s at row from mid p row₁ → NumbersAt 65535 s p row₁ next to q row₂ → (r : Result ℕ Unread) (row' : List ℕ) → LastFound s q row₂ to r row' →
+    RestFound most s at row from mid next to r row'
 unfolding longer
-rest_found most s at row from mid next to p q n end row₁ row₂ o w e early =
-    let l = longer 65535 s p row₁ next to q row₂ w n end 10 e in
+rest_found most s at row from mid next to p q row₁ row₂ o w (Ok end) row' z =
+    let l = longer 65535 s p row₁ next to q row₂ w z.last end 10 z.number in
     record {
       xs = o.ns;
       ys = w.ns;
-      last = n;
-      text = more_fields s o.ns (w.ns ++ (n ∷ [])) at p end o.text l.text;
-      ends = e.ends;
+      last = z.last;
+      text = more_fields s o.ns (w.ns ++ (z.last ∷ [])) at p end o.text l.text;
+      ends = z.number.ends;
       within = o.within;
-      small = up_small (w.ns ++ (n ∷ [])) l.within;
+      small = up_small (w.ns ++ (z.last ∷ [])) l.within;
       first = o.long;
       second = w.long;
-      early = early;
-      held = ap (λ (r : List ℕ). set r to n) (w.held ∙ ap (λ (r : List ℕ). sets r next w.ns) o.held);
+      early = z.early;
+      held = z.held ∙ ap (λ (r : List ℕ). set r to z.last) (w.held ∙ ap (λ (r : List ℕ). sets r next w.ns) o.held);
     }
+rest_found most s at row from mid next to p q row₁ row₂ o w (Err Unusual) row' z = tt
+rest_found most s at row from mid next to p q row₁ row₂ o w (Err Other) row' z = absurd z
+
+-- numbers for all places of a row but the last, and the last one
+pub row_found : (letter : ℕ) (s : List ℕ) (at : ℕ) → (letter ≡ 10 → ⊥) → Closed s → Begins s at letter → (row row₁ : List ℕ) (p last : ℕ) → last + 1 ≡ length row → NumbersAt 65535 s (at + 1) row 0 last p row₁ →
+    (r : Result ℕ Unread) (row' : List ℕ) → LastFound s p row₁ last r row' → RowFound letter s at row r row'
+row_found letter s at other k b row row₁ p last e o (Ok end) row' z =
+    row_line letter s at other b row row' end
+    (rw (z.held, ← e) (longer 65535 s (at + 1) row 0 last p row₁ o z.last end 10 z.number))
+    z.early
+row_found letter s at other k b row row₁ p last e o (Err Unusual) row' z = begun s at letter k b other
+row_found letter s at other k b row row₁ p last e o (Err Other) row' z = absurd z

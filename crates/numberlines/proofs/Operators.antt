@@ -8,7 +8,8 @@ use native.Mathlib.Omega.{arith}
 use borrow.Author.Tests.{le-leb}
 use lib.ListN.{length, get_or, set}
 use lib.Seq.{sets}
-use Rattle.text.specs.Text.{Field, number, empty}
+use Rattle.text.specs.declared.field.Field.{Field}
+use Rattle.text.specs.declared.field.Field.TheVariants.{Number as number, Empty as empty}
 use Rattle.text.specs.Write.{fields_text, field_text}
 use Rattle.text.specs.Bounds.{allows_all, widest}
 use Rattle.text.proofs.Lengths.{fields_append}
@@ -18,8 +19,9 @@ use Rattle.linekinds.proofs.PlainText.{byte_text, joined, small_append}
 use Rattle.linekinds.proofs.PlainLines.{small_wide, line_text_lem, line_is, after_is}
 use Rattle.numberlines.specs.NumberLines.{Begins, NumbersAt, RestAt, RestFound, OperatorLine, OperatorFound}
 use Rattle.numberlines.proofs.Numbers.{up_small}
-use Rattle.numberlines.specs.declared.row.Plain.{Plain}
-use Rattle.numberlines.specs.declared.row.Plain.TheVariants as P
+use Rattle.std.specs.Prelude.{Result, Ok, Err}
+use Rattle.numberlines.specs.declared.row.Unread.{Unread}
+use Rattle.numberlines.specs.declared.row.Unread.TheVariants.{Unusual, Other}
 
 -- the row of an operator, place by place
 row_held :
@@ -95,7 +97,7 @@ module _ (letter : ℕ) (s : List ℕ) (at : ℕ) (row : List ℕ) (other : lett
       (o.held ∙ ap (λ (r : List ℕ). set (sets (sets (set (set (set r 4 0) 5 0) 7 0) 6 o.xs) 8 o.ys) 10 o.last) n.held)
 
 pub operator_found : (letter : ℕ) (s : List ℕ) (at : ℕ) (row : List ℕ) → (letter ≡ 10 → ⊥) → Begins s at letter → length row ≡ 11 → (p : ℕ) (row₁ : List ℕ) → NumbersAt 65535 s (at + 1) row 1 4 p row₁ →
-    (r : Plain) (row' : List ℕ) → RestFound 65535 s (p + 1) (set (set (set row₁ 4 0) 5 0) 7 0) 6 7 8 10 r row' → OperatorFound letter s at row r row'
-operator_found letter s at row other b eleven p row₁ n (P.Line end) row' o = operator_line_lem letter s at row other b eleven p end row' row₁ n o
-operator_found letter s at row other b eleven p row₁ n P.Unusual row' o = tt
-operator_found letter s at row other b eleven p row₁ n P.Other row' o = absurd o
+    (r : Result ℕ Unread) (row' : List ℕ) → RestFound 65535 s (p + 1) (set (set (set row₁ 4 0) 5 0) 7 0) 6 7 8 10 r row' → OperatorFound letter s at row r row'
+operator_found letter s at row other b eleven p row₁ n (Ok end) row' o = operator_line_lem letter s at row other b eleven p end row' row₁ n o
+operator_found letter s at row other b eleven p row₁ n (Err Unusual) row' o = tt
+operator_found letter s at row other b eleven p row₁ n (Err Other) row' o = absurd o

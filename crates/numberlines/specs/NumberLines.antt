@@ -1,19 +1,18 @@
 -- What the quick reading of a line of numbers finds: text that stands there, as it would be written. Where it finds something unusual, nothing is said
 -- but that a line of the letter stands there.
 -- Document 01, the paragraph that begins "A sheet is ASCII lines ended by LF".
-use Rattle.std.specs.Prelude.{ℕ, ◌+◌, ◌-◌, ◌≤◌, ◌<◌, ◌≡◌, List, [], ◌∷◌, ◌++◌, map, length, get_or, set}
+use Rattle.std.specs.Prelude.{ℕ, ◌+◌, ◌-◌, ◌≤◌, ◌<◌, ◌≡◌, List, [], ◌∷◌, ◌++◌, map, length, get_or, set, Option, Some, None, Result, Ok, Err}
 use Rattle.std.proofs.Math.Option.{some, none}
 use Rattle.std.proofs.lemmas.List.Edits.{sets}
-use Rattle.text.specs.Text.{Field, number, empty, line_at, after}
+use Rattle.text.specs.declared.field.Field.{Field}
+use Rattle.text.specs.declared.field.Field.TheVariants.{Number as number, Empty as empty}
+use Rattle.text.specs.Text.{line_at, after}
 use Rattle.text.specs.Write.{decimal}
 use Rattle.linekinds.specs.Reading.{Small}
 use Rattle.linekinds.specs.PlainText.{StandsAt, TextAt, fields_of}
-use Rattle.linekinds.specs.declared.plain.Found.{Found}
-use Rattle.linekinds.specs.declared.plain.Found.TheVariants as F
-use Rattle.numberlines.specs.declared.row.Plain.{Plain}
-use Rattle.numberlines.specs.declared.row.Plain.TheVariants as P
-use Rattle.numberlines.specs.declared.row.Reached.{Reached}
-use Rattle.numberlines.specs.declared.row.Reached.TheVariants as R
+use Rattle.linekinds.specs.declared.plain.Number.{Number}
+use Rattle.numberlines.specs.declared.row.Unread.{Unread}
+use Rattle.numberlines.specs.declared.row.Unread.TheVariants.{Unusual, Other}
 
 -- a text that ends with an LF
 abbrev pub Closed : List ℕ → Type 0
@@ -29,9 +28,9 @@ pub record NumberAt (most : ℕ) (s : List ℕ) (at n end b : ℕ) : Type 0 wher
   pub within : n ≤ most
   pub ends : StandsAt s end b
 
-abbrev pub NumberTo : ℕ → List ℕ → ℕ → ℕ → Found → Type 0
-NumberTo most s at b (F.Number n end) = NumberAt most s at n end b
-NumberTo most s at b F.Other = Unit {0}
+abbrev pub NumberTo : ℕ → List ℕ → ℕ → ℕ → Option Number → Type 0
+NumberTo most s at b (Some r) = NumberAt most s at r.value r.end b
+NumberTo most s at b None = Unit {0}
 
 abbrev pub UpTo : ℕ → List ℕ → Type 0
 UpTo most [] = Unit {0}
@@ -46,9 +45,9 @@ pub record NumbersAt (most : ℕ) (s : List ℕ) (at : ℕ) (row : List ℕ) (fr
   pub held : row' ≡ sets row from ns
   pub ends : StandsAt s end 44
 
-abbrev pub NumbersTo : ℕ → List ℕ → ℕ → List ℕ → ℕ → ℕ → Reached → List ℕ → Type 0
-NumbersTo most s at row from to (R.At end) row' = NumbersAt most s at row from to end row'
-NumbersTo most s at row from to R.Other row' = Unit {0}
+abbrev pub NumbersTo : ℕ → List ℕ → ℕ → List ℕ → ℕ → ℕ → Option ℕ → List ℕ → Type 0
+NumbersTo most s at row from to (Some end) row' = NumbersAt most s at row from to end row'
+NumbersTo most s at row from to None row' = Unit {0}
 
 -- a line of the letter with the fields, whose LF stands at `end`, within the bytes that a sheet may have
 pub record LineOf (letter : ℕ) (s : List ℕ) (at : ℕ) (fs : List Field) (end : ℕ) : Type 0 where
@@ -57,10 +56,22 @@ pub record LineOf (letter : ℕ) (s : List ℕ) (at : ℕ) (fs : List Field) (en
   pub early : end < 65536
 
 -- a line's numbers, as the row holds them
-abbrev pub RowFound : ℕ → List ℕ → ℕ → List ℕ → Plain → List ℕ → Type 0
-RowFound letter s at row (P.Line end) row' = LineOf letter s at (map number row') end × Small row'
-RowFound letter s at row P.Unusual row' = line_at letter s at ≡ none → ⊥
-RowFound letter s at row P.Other row' = row' ≡ row
+abbrev pub RowFound : ℕ → List ℕ → ℕ → List ℕ → Result ℕ Unread → List ℕ → Type 0
+RowFound letter s at row (Ok end) row' = LineOf letter s at (map number row') end × Small row'
+RowFound letter s at row (Err Unusual) row' = line_at letter s at ≡ none → ⊥
+RowFound letter s at row (Err Other) row' = row' ≡ row
+
+-- a plain number up to the LF, in a place of a row
+pub record LastAt (s : List ℕ) (at : ℕ) (row : List ℕ) (to end : ℕ) (row' : List ℕ) : Type 0 where
+  pub last : ℕ
+  pub number : NumberAt 65535 s (at + 1) last end 10
+  pub early : end < 65536
+  pub held : row' ≡ set row to last
+
+abbrev pub LastFound : List ℕ → ℕ → List ℕ → ℕ → Result ℕ Unread → List ℕ → Type 0
+LastFound s at row to (Ok end) row' = LastAt s at row to end row'
+LastFound s at row to (Err Unusual) row' = Unit {0}
+LastFound s at row to (Err Other) row' = ⊥
 
 -- numbers up to the largest from one place of a row up to another, then plain ones from a place up to the last, up to the LF
 pub record RestAt (most : ℕ) (s : List ℕ) (at : ℕ) (row : List ℕ) (from mid next to end : ℕ) (row' : List ℕ) : Type 0 where
@@ -76,10 +87,10 @@ pub record RestAt (most : ℕ) (s : List ℕ) (at : ℕ) (row : List ℕ) (from 
   pub early : end < 65536
   pub held : row' ≡ set (sets (sets row from xs) next ys) to last
 
-abbrev pub RestFound : ℕ → List ℕ → ℕ → List ℕ → ℕ → ℕ → ℕ → ℕ → Plain → List ℕ → Type 0
-RestFound most s at row from mid next to (P.Line end) row' = RestAt most s at row from mid next to end row'
-RestFound most s at row from mid next to P.Unusual row' = Unit {0}
-RestFound most s at row from mid next to P.Other row' = ⊥
+abbrev pub RestFound : ℕ → List ℕ → ℕ → List ℕ → ℕ → ℕ → ℕ → ℕ → Result ℕ Unread → List ℕ → Type 0
+RestFound most s at row from mid next to (Ok end) row' = RestAt most s at row from mid next to end row'
+RestFound most s at row from mid next to (Err Unusual) row' = Unit {0}
+RestFound most s at row from mid next to (Err Other) row' = ⊥
 
 -- a T line's fields, its limit empty, as the row of an operator holds them; its first place is left alone
 pub record OperatorLine (letter : ℕ) (s : List ℕ) (at : ℕ) (row : List ℕ) (end : ℕ) (row' : List ℕ) : Type 0 where
@@ -94,10 +105,10 @@ pub record OperatorLine (letter : ℕ) (s : List ℕ) (at : ℕ) (row : List ℕ
   pub small : Small (kind ∷ count ∷ keeps ∷ order ∷ tracked ∷ need ∷ children ∷ [])
   pub held : row' ≡ get_or row 0 0 ∷ kind ∷ count ∷ keeps ∷ 0 ∷ 0 ∷ order ∷ 0 ∷ tracked ∷ need ∷ children ∷ []
 
-abbrev pub OperatorFound : ℕ → List ℕ → ℕ → List ℕ → Plain → List ℕ → Type 0
-OperatorFound letter s at row (P.Line end) row' = OperatorLine letter s at row end row'
-OperatorFound letter s at row P.Unusual row' = Unit {0}
-OperatorFound letter s at row P.Other row' = row' ≡ row
+abbrev pub OperatorFound : ℕ → List ℕ → ℕ → List ℕ → Result ℕ Unread → List ℕ → Type 0
+OperatorFound letter s at row (Ok end) row' = OperatorLine letter s at row end row'
+OperatorFound letter s at row (Err Unusual) row' = Unit {0}
+OperatorFound letter s at row (Err Other) row' = row' ≡ row
 
 -- an F line's numbers, of which the fourth may be long, as the row holds them
 pub record ChildLine (letter : ℕ) (s : List ℕ) (at end : ℕ) (row' : List ℕ) : Type 0 where
@@ -113,7 +124,7 @@ pub record ChildLine (letter : ℕ) (s : List ℕ) (at end : ℕ) (row' : List �
   pub long : rows ≤ 4294967295
   pub held : row' ≡ gains ∷ maintains ∷ rowkind ∷ rows ∷ grouping ∷ splits ∷ entries ∷ []
 
-abbrev pub ChildFound : ℕ → List ℕ → ℕ → List ℕ → Plain → List ℕ → Type 0
-ChildFound letter s at row (P.Line end) row' = ChildLine letter s at end row'
-ChildFound letter s at row P.Unusual row' = Unit {0}
-ChildFound letter s at row P.Other row' = row' ≡ row
+abbrev pub ChildFound : ℕ → List ℕ → ℕ → List ℕ → Result ℕ Unread → List ℕ → Type 0
+ChildFound letter s at row (Ok end) row' = ChildLine letter s at end row'
+ChildFound letter s at row (Err Unusual) row' = Unit {0}
+ChildFound letter s at row (Err Other) row' = row' ≡ row

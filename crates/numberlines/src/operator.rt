@@ -2,24 +2,20 @@
 ghost use Rattle.std.specs.Prelude.{◌≡◌, length};
 ghost use Rattle.numberlines.specs.NumberLines.{OperatorFound};
 
-use crate::row::{PLAIN, Plain, Reached, begins, closed, numbers_to, rest_at};
+use crate::row::{Unread, begins, closed, numbers_to, rest_at};
+use linekinds::plain::PLAIN;
 
-// The line of a letter with an operator's fields. The row's first place is left alone.
-pub fn operator_at(s: &[u8], at: usize, letter: u8, row: &mut [u64]) -> Plain
+// The line of a letter with an operator's fields, and the place of its LF. The row's first place is left alone.
+pub fn operator_at(s: &[u8], at: usize, letter: u8, row: &mut [u64]) -> Result<usize, Unread>
     requires { (length row.old ≡ 11) × (letter ≡ 10 → ⊥) }
     ensures { OperatorFound letter s.now at row.old result row.new }
 {
-    if !closed(s, at) {
-        return Plain::Other;
+    if !closed(s, at) || !begins(s, at, letter) {
+        return Err(Unread::Other);
     }
-    if !begins(s, at, letter) {
-        return Plain::Other;
-    }
-    let Reached::At(p) = numbers_to(s, at + 1, &mut *row, 1, 4, PLAIN) else {
-        return Plain::Unusual;
-    };
-    if s[p + 1] != 44 {
-        return Plain::Unusual;
+    let p = numbers_to(s, at + 1, &mut *row, 1, 4, PLAIN).ok_or(Unread::Unusual)?;
+    if s[p + 1] != b',' {
+        return Err(Unread::Unusual);
     }
     row[4] = 0;
     row[5] = 0;

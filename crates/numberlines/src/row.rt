@@ -1,51 +1,34 @@
 // Reads a line of as many numbers as a row has places.
-ghost use Rattle.std.specs.Prelude.{◌≡◌, true, false, ◌+◌, ◌≤◌, ◌<◌, length};
+ghost use Rattle.std.specs.Prelude.{◌≡◌, IsTrue, ◌≤◌, ◌<◌, length};
 ghost use Rattle.linekinds.specs.PlainText.{StandsAt};
-ghost use Rattle.numberlines.specs.NumberLines.{Closed, Begins, NumbersTo, RestFound, RowFound};
+ghost use Rattle.numberlines.specs.NumberLines.{Closed, Begins, NumbersTo, LastFound, RestFound, RowFound};
 
 use crate::number::number_to;
-use linekinds::plain::Found;
+use linekinds::plain::PLAIN;
 
-// The largest number of a plain field.
-pub(crate) const PLAIN: u64 = 65535;
-
-// The place of the LF; or a line of the letter, in which something is unusual; or something else, and nothing was stored.
-#[derive(Clone, Copy)]
-pub enum Plain {
-    Line { end: usize },
+// Why a line was not read: it is of the letter, and something in it is unusual; or it is something else, and nothing was stored.
+#[derive(Clone, Copy, PartialEq, Eq, Debug)]
+pub enum Unread {
     Unusual,
-    Other,
-}
-
-// The place of the comma after the numbers, or something else.
-#[derive(Clone, Copy)]
-pub enum Reached {
-    At(usize),
     Other,
 }
 
 // A place of a text that ends with an LF.
 pub(crate) fn closed(s: &[u8], at: usize) -> bool
-    ensures { result ≡ true → Closed s.now × (at < length s.now) }
+    ensures { IsTrue result → Closed s.now × (at < length s.now) }
 {
-    if s.len() <= at {
-        return false;
-    }
-    s[s.len() - 1] == 10
+    at < s.len() && s[s.len() - 1] == b'\n'
 }
 
 // The letter at a place, and a comma after it.
 pub(crate) fn begins(s: &[u8], at: usize, letter: u8) -> bool
     requires { Closed s.now × (at < length s.now) × (letter ≡ 10 → ⊥) }
-    ensures { result ≡ true → Begins s.now at letter }
+    ensures { IsTrue result → Begins s.now at letter }
 {
-    if s[at] != letter {
-        return false;
-    }
-    s[at + 1] == 44
+    s[at] == letter && s[at + 1] == b','
 }
 
-// Numbers up to the largest, each after a comma, into a row from a place up to another; a comma follows the last.
+// Numbers up to the largest, each after a comma, into a row from a place up to another; and the place of the comma that follows the last.
 pub(crate) fn numbers_to(
     s: &[u8],
     at: usize,
@@ -53,21 +36,30 @@ pub(crate) fn numbers_to(
     from: usize,
     to: usize,
     most: u64,
-) -> Reached
+) -> Option<usize>
     requires { Closed s.now × StandsAt s.now at 44 × (from ≤ to) × (to ≤ length row.old) × (9 ≤ most) × (most < 4294967296) }
     ensures { NumbersTo most s.now at row.old from to result row.new }
 {
     let mut p = at;
-    let mut i = from;
-    while i < to {
-        let Found::Number { value, end } = number_to(s, p + 1, most, 44) else {
-            return Reached::Other;
-        };
-        row[i] = value;
-        p = end;
-        i += 1;
+    for i in from..to {
+        let number = number_to(s, p + 1, most, b',')?;
+        row[i] = number.value;
+        p = number.end;
     }
-    Reached::At(p)
+    Some(p)
+}
+
+// The last number of a line, a plain one after a comma, into a place of a row; and the place of the LF.
+fn last_at(s: &[u8], at: usize, row: &mut [u64], to: usize) -> Result<usize, Unread>
+    requires { Closed s.now × StandsAt s.now at 44 × (to < length row.old) }
+    ensures { LastFound s.now at row.old to result row.new }
+{
+    let number = number_to(s, at + 1, PLAIN, b'\n').ok_or(Unread::Unusual)?;
+    row[to] = number.value;
+    if number.end >= 65536 {
+        return Err(Unread::Unusual);
+    }
+    Ok(number.end)
 }
 
 // Numbers up to the largest into a row from one place up to another, plain ones from a place up to the last, and the LF.
@@ -80,47 +72,24 @@ pub(crate) fn rest_at(
     most: u64,
     next: usize,
     to: usize,
-) -> Plain
+) -> Result<usize, Unread>
     requires { Closed s.now × StandsAt s.now at 44 × (from ≤ mid) × (mid ≤ length row.old) × (9 ≤ most) × (most < 4294967296) × (next ≤ to) × (to < length row.old) }
     ensures { RestFound most s.now at row.old from mid next to result row.new }
 {
-    let Reached::At(p) = numbers_to(s, at, &mut *row, from, mid, most) else {
-        return Plain::Unusual;
-    };
-    let Reached::At(q) = numbers_to(s, p, &mut *row, next, to, PLAIN) else {
-        return Plain::Unusual;
-    };
-    let Found::Number { value, end } = number_to(s, q + 1, PLAIN, 10) else {
-        return Plain::Unusual;
-    };
-    row[to] = value;
-    if end >= 65536 {
-        return Plain::Unusual;
-    }
-    Plain::Line { end }
+    let p = numbers_to(s, at, &mut *row, from, mid, most).ok_or(Unread::Unusual)?;
+    let q = numbers_to(s, p, &mut *row, next, to, PLAIN).ok_or(Unread::Unusual)?;
+    last_at(s, q, row, to)
 }
 
-// The line of a letter, with a number for each place of the row.
-pub fn row_at(s: &[u8], at: usize, letter: u8, row: &mut [u64]) -> Plain
+// The line of a letter, with a number for each place of the row; and the place of its LF.
+pub fn row_at(s: &[u8], at: usize, letter: u8, row: &mut [u64]) -> Result<usize, Unread>
     requires { (0 < length row.old) × (letter ≡ 10 → ⊥) }
     ensures { RowFound letter s.now at row.old result row.new }
 {
-    if !closed(s, at) {
-        return Plain::Other;
-    }
-    if !begins(s, at, letter) {
-        return Plain::Other;
+    if !closed(s, at) || !begins(s, at, letter) {
+        return Err(Unread::Other);
     }
     let last = row.len() - 1;
-    let Reached::At(p) = numbers_to(s, at + 1, &mut *row, 0, last, PLAIN) else {
-        return Plain::Unusual;
-    };
-    let Found::Number { value, end } = number_to(s, p + 1, PLAIN, 10) else {
-        return Plain::Unusual;
-    };
-    row[last] = value;
-    if end >= 65536 {
-        return Plain::Unusual;
-    }
-    Plain::Line { end }
+    let p = numbers_to(s, at + 1, &mut *row, 0, last, PLAIN).ok_or(Unread::Unusual)?;
+    last_at(s, p, row, last)
 }

@@ -4,19 +4,21 @@ use mathlib.Core.Path.{◌≡◌, refl, sym, ap, ◌∙◌}
 use mathlib.Core.List.{List, [], ◌∷◌, ◌++◌, append_assoc}
 use mathlib.Core.Bool.{Bool, true, false, cond}
 use mathlib.Core.Option.{Option, some, none as absent}
-use Prim.Native.Nat.{ℕ, ◌+◌, ◌≤◌}
+use Prim.Native.Nat.{ℕ, ◌+◌, ◌≤◌, ◌<◌}
+use native.Mathlib.Numerals.{add-one}
 use native.Mathlib.Omega.{arith}
 use lib.Dec.{eqb}
 use lib.ListN.{length, get_or, take, drop, length-append}
-use lib.Seq.{sets, sets-eq, take_at}
-use Rattle.text.specs.Text.{Field, number, empty}
+use lib.Seq.{sets, sets-eq, take_at, drop-cons}
+use Rattle.std.proofs.lemmas.List.{drop_all}
+use Rattle.text.specs.declared.field.Field.{Field}
+use Rattle.text.specs.declared.field.Field.TheVariants.{Number as number, Empty as empty}
 use Rattle.text.specs.Write.{decimal, field_text, fields_text}
 use Rattle.text.proofs.Lengths.{line_length}
 use Rattle.exchange.specs.Trees.{node, none, ◌∷ᶠ◌, trees, Operator, Plan, Plans}
 use Rattle.exchange.specs.Rows.{limit_mark, limit_number, limit_of, row_of, flatten, flattens}
 use Rattle.exchange.specs.Ensure.{Answer}
 use Rattle.plansheet.specs.PlanTexts.{limit_field as marked_limit}
-use Rattle.lines.proofs.Pieces.{pieces, pieces_later}
 use Rattle.plananswer.specs.PlanTexts.{limit_field, operator_fields, operator_line, plan_lines, plans_lines, plan_answer_text}
 use Rattle.plananswer.specs.RowTexts.{of_row, lines_of, row_line, head_line, rows_text}
 
@@ -73,15 +75,16 @@ stored_answer a before after n e l h =
     ap (take n) (e ∙ sets-eq rows before 0 (omega arith)) ∙ take_at rows (drop (0 + length rows) before) n (sym l) in
     rw z (rows_answer a)
 
--- ---- a piece for each row
+-- ---- the lines from a row on
 
-abbrev pub line_piece : (List ℕ → List ℕ) → List (List ℕ) → ℕ → List ℕ
-line_piece line rows i = line (get_or rows i [])
+pub lines_first : {A : Type 0} (line : A → List ℕ) (xs : List A) (i : ℕ) (d : A) → i < length xs
+    → lines_of line (drop i xs) ≡ line (get_or xs i d) ++ lines_of line (drop (i + 1) xs)
+unfolding lines_of
+lines_first line xs i d h = rw (add-one i, drop-cons xs i d)
 
-pub lines_pieces : (line : List ℕ → List ℕ) (xs : List (List ℕ)) → lines_of line xs ≡ pieces (line_piece line xs) 0 (length xs)
-unfolding lines_of pieces
-lines_pieces line [] = refl
-lines_pieces line (x ∷ xs) = ap (λ (t : List ℕ). line x ++ t) (lines_pieces line xs ∙ sym (pieces_later (line_piece line (x ∷ xs)) 0 (length xs)))
+pub lines_none : {A : Type 0} (line : A → List ℕ) (xs : List A) (i : ℕ) → length xs ≤ i → lines_of line (drop i xs) ≡ []
+unfolding lines_of
+lines_none line xs i h = rw (drop_all i xs h)
 
 -- ---- lengths
 

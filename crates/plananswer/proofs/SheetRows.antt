@@ -2,8 +2,12 @@
 -- Assumes nothing.
 use mathlib.Core.Path.{◌≡◌, refl, sym, ap, ap₂, ◌∙◌}
 use mathlib.Core.List.{List, [], ◌∷◌, ◌++◌, map, append-nil}
-use Prim.Native.Nat.{ℕ}
-use Rattle.text.specs.Text.{Field}
+use Prim.Native.Nat.{ℕ, zero, suc, ◌+◌}
+use native.Mathlib.Omega.{arith}
+use lib.ListN.{length, get_or, drop}
+use lib.Seq.{drop-cons}
+use Rattle.std.proofs.lemmas.List.{drop_all}
+use Rattle.text.specs.declared.field.Field.{Field}
 use Rattle.text.specs.Write.{line_text}
 use Rattle.sheet.specs.KeyAnswers.{numbers_line}
 use Rattle.exchange.specs.declared.settings.Settings.{Settings}
@@ -29,6 +33,25 @@ pub sheet_parts :
     ∷ [])
 unfolding sheet_rows_text
 sheet_parts s tree b children facts masks = rw (append-nil (numbers_line 89 masks))
+
+-- ---- rows of numbers as the lines of their numbers
+
+-- n entries from i on
+abbrev entries : ℕ → ℕ → List ℕ → List ℕ
+entries i zero xs = []
+entries i (suc n) xs = get_or xs i 0 ∷ entries (suc i) n xs
+
+entries_all : (i n : ℕ) (xs : List ℕ) → i + n ≡ length xs → drop i xs ≡ entries i n xs
+entries_all i zero xs h = drop_all i xs (omega arith)
+entries_all i (suc n) xs h = drop-cons xs i 0 (omega arith) ∙ ap (λ (t : List ℕ). get_or xs i 0 ∷ t) (entries_all (suc i) n xs (omega arith))
+
+pub child_numbers_lem : (row : List ℕ) → length row ≡ 7 → child_row_line row ≡ numbers_line 70 row
+unfolding child_row_line
+child_numbers_lem row h = ap (numbers_line 70) (sym (entries_all 0 7 row (sym h)))
+
+pub fact_numbers_lem : (row : List ℕ) → length row ≡ 13 → fact_row_line row ≡ numbers_line 88 row
+unfolding fact_row_line
+fact_numbers_lem row h = ap (numbers_line 88) (sym (entries_all 0 13 row (sym h)))
 
 -- a line for each row of fields
 lines_text_lem : {A : Type 0} (letter : ℕ) (line : A → List ℕ) (fields : A → List Field) → ((x : A) → line x ≡ line_text letter (fields x)) → (xs : List A)

@@ -3,7 +3,8 @@
 -- "An absent limit is an empty field", "T lines in preorder", and refusals 9 and 11.
 use Rattle.std.specs.Prelude.{ℕ, List, [], ◌∷◌, ◌++◌}
 use Rattle.std.proofs.Math.Option.{Option, some, none as absent}
-use Rattle.text.specs.Text.{Field, number, empty}
+use Rattle.text.specs.declared.field.Field.{Field}
+use Rattle.text.specs.declared.field.Field.TheVariants.{Number as number, Empty as empty}
 use Rattle.text.specs.Write.{line_text}
 use Rattle.sheet.specs.KeyAnswers.{Outcome, refused, wrote, numbers_line}
 use Rattle.exchange.specs.Trees.{node, none, ◌∷ᶠ◌, trees, Operator, Plan, Plans}

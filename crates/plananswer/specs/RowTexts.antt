@@ -1,7 +1,7 @@
 -- Cited by the contracts: lines from rows, and the answer's text from the numbers of its d line and the rows of its tree.
 -- That the rows of a tree give its lines is proved in proofs/RowLines.antt.
 use Rattle.std.specs.Prelude.{ℕ, List, [], ◌∷◌, ◌++◌}
-use Rattle.text.specs.Text.{Field}
+use Rattle.text.specs.declared.field.Field.{Field}
 use Rattle.sheet.specs.KeyAnswers.{numbers_line}
 use Rattle.exchange.specs.Trees.{Operator}
 use Rattle.exchange.specs.Rows.{unpacked, children_of, operator_of}

@@ -3,5 +3,6 @@
 
 pub mod line;
 pub mod plan;
+mod rows;
 pub mod sheet_line;
 pub mod sheet_text;

@@ -5,9 +5,10 @@ ghost use Rattle.sheet.specs.KeyAnswers.{numbers_line};
 ghost use Rattle.plansheet.specs.PlanTexts.{settings_numbers, row_fields};
 ghost use Rattle.plananswer.specs.SheetTexts.{tree_row_line, child_row_line, fact_row_line};
 
-use crate::line::limit_state;
+use crate::line::limit_field;
+use crate::rows::RowLine;
 use exchange::fact::FactRow;
-use exchange::row::{CHILDREN, COUNT, KEEPS, KIND, LIMIT, LIMITED, NEED, ORDER, Row, TRACKED};
+use exchange::row::{CHILDREN, COUNT, KEEPS, KIND, NEED, ORDER, Row, TRACKED};
 use exchange::settings::Settings;
 use exchange::status::ChildRow;
 use lines::line::put_numbers;
@@ -36,12 +37,12 @@ pub(crate) fn put_settings(out: &mut [u8], at: usize, s: Settings) -> usize
 fn tree_fields(x: Row) -> [[u64; 2]; 8]
     ensures { map row_field result ≡ row_fields x }
 {
-    let state = limit_state(x[LIMITED]);
+    let limit = limit_field(x);
     [
         [0, x[KIND]],
         [0, x[COUNT]],
         [0, x[KEEPS]],
-        [state, x[LIMIT]],
+        [limit.state(), limit.value()],
         [0, x[ORDER]],
         [0, x[TRACKED]],
         [0, x[NEED]],
@@ -50,30 +51,34 @@ fn tree_fields(x: Row) -> [[u64; 2]; 8]
 }
 
 // A row's T line.
-pub(crate) fn put_tree_line(out: &mut [u8], at: usize, x: Row) -> usize
-    requires { at + length (tree_row_line x) ≤ length out.old }
-    ensures { Wrote out.old at (tree_row_line x) out.new result }
-{
-    let fields = tree_fields(x);
-    put_line(out, at, 84, &fields)
+pub(crate) struct TreeLine;
+
+impl RowLine<Row> for TreeLine {
+    ghost text = { tree_row_line };
+
+    fn put(out: &mut [u8], at: usize, row: &Row) -> usize {
+        put_line(out, at, 84, &tree_fields(*row))
+    }
 }
 
 // A row's F line.
-pub(crate) fn put_child_line(out: &mut [u8], at: usize, x: ChildRow) -> usize
-    requires { at + length (child_row_line x) ≤ length out.old }
-    ensures { Wrote out.old at (child_row_line x) out.new result }
-{
-    let list = [x[0], x[1], x[2], x[3], x[4], x[5], x[6]];
-    put_numbers(out, at, 70, &list)
+pub(crate) struct ChildLine;
+
+impl RowLine<ChildRow> for ChildLine {
+    ghost text = { child_row_line };
+
+    fn put(out: &mut [u8], at: usize, row: &ChildRow) -> usize {
+        put_numbers(out, at, 70, row)
+    }
 }
 
 // A row's X line.
-pub(crate) fn put_fact_line(out: &mut [u8], at: usize, x: FactRow) -> usize
-    requires { at + length (fact_row_line x) ≤ length out.old }
-    ensures { Wrote out.old at (fact_row_line x) out.new result }
-{
-    let list = [
-        x[0], x[1], x[2], x[3], x[4], x[5], x[6], x[7], x[8], x[9], x[10], x[11], x[12],
-    ];
-    put_numbers(out, at, 88, &list)
+pub(crate) struct FactLine;
+
+impl RowLine<FactRow> for FactLine {
+    ghost text = { fact_row_line };
+
+    fn put(out: &mut [u8], at: usize, row: &FactRow) -> usize {
+        put_numbers(out, at, 88, row)
+    }
 }

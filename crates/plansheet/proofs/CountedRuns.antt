@@ -9,7 +9,7 @@ use native.Mathlib.Omega.{arith}
 use lib.Dec.{eqb}
 use lib.ListN.{length}
 use borrow.Author.Tests.{eqb-true, eqb-false}
-use Rattle.text.specs.Text.{Field}
+use Rattle.text.specs.declared.field.Field.{Field}
 use Rattle.text.specs.Lines.{first_of, next_of}
 use Rattle.linekinds.specs.Lines.{Run, read, refused, before, line_number, fields_of, rows_of}
 use Rattle.plansheet.specs.Shapes.{Shape, fixed_line}

@@ -10,7 +10,8 @@ use lib.Dec.{leb, ltb}
 use lib.ListN.{length, get_or, take, drop, length-map, drop_of_length-le}
 use lib.Seq.{drop-cons}
 use borrow.Author.Tests.{ltb-false, leb-false}
-use Rattle.text.specs.Text.{Field, line_at, line, line_fields, row, value_of}
+use Rattle.text.specs.declared.field.Field.{Field}
+use Rattle.text.specs.Text.{line_at, line, line_fields, row, value_of}
 use Rattle.text.specs.Read.{stored_in}
 use Rattle.text.proofs.Answers.{rows_held}
 use Rattle.text.proofs.Limits.{fits_length}

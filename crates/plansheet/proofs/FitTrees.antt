@@ -7,8 +7,7 @@ use mathlib.Core.Bool.{Bool, true, false, cond, ◌&&◌}
 use Prim.Native.Nat.{ℕ, zero, suc, ◌+◌, ◌-◌, ◌≤◌, ◌<◌}
 use native.Mathlib.Omega.{arith}
 use lib.Dec.{eqb, leb, ltb}
-use lib.ListN.{length, get_or, take, drop, length-drop}
-use lib.Seq.{sets}
+use lib.ListN.{length, get_or, drop, length-drop}
 use borrow.Author.Tests.{eqb-true, eqb-false, leb-true, leb-false, le-leb, lt-leb, lt-ltb, le-ltb}
 use Rattle.exchange.specs.Trees.{node, none, ◌∷ᶠ◌, ◌++ᶠ◌, trees, Operator, Plans}
 use Rattle.exchange.specs.declared.settings.Settings.{Settings}
@@ -20,7 +19,6 @@ use Rattle.exchange.specs.States.{Child, children_from}
 use Rattle.exchange.specs.Places.{places_of}
 use Rattle.exchange.specs.Fit.{child_numbered, row_fits_child, row_fits, rows_fit, none_repeated, all_within_bits, worked_fits, within_bits}
 use Rattle.exchange.proofs.Stored.{past, first_at}
-use Rattle.exchange.proofs.PlacesRead.{stored_part}
 use Rattle.exchange.proofs.TreeRows.{first_row, flattens_cons, row_node}
 use Rattle.plansheet.specs.FitRows.{count_fits_by, child_fits_by, row_fits_by, rows_fit_by, fact_rows_fit, Placed}
 
@@ -141,12 +139,7 @@ placed (node o cs ∷ᶠ ts) rows at rest h (suc i) k = placed ts rows (at + len
         past rows (flatten (node o cs)) (flattens ts ++ rest) at
         (h ∙ ap (λ (l : List (List ℕ)). l ++ rest) (flattens_cons (node o cs) ts) ∙ append_assoc (flatten (node o cs)) (flattens ts) rest)
 
--- the places that `child_places` stored
-pub places_part : (d d₁ : List ℕ) (at n : ℕ) (ts : Plans) → d₁ ≡ sets d 0 (places_of at ts) → trees ts ≡ n → n ≤ length d → take (n - 0) d₁ ≡ places_of at ts
-places_part d d₁ at n ts e m h =
-    let z : n - 0 ≡ n = omega arith in
-    rw z (stored_part d d₁ (places_of at ts) 0 n e (places_long at ts ∙ m) (omega arith))
-
+-- as many places as trees
 pub places_many : (at : ℕ) (ts : Plans) (n : ℕ) → trees ts ≡ n → length (places_of at ts) ≡ n
 places_many at ts n e = places_long at ts ∙ e
 

@@ -6,7 +6,8 @@ use Prim.Native.Nat.{ℕ, zero, suc, ◌+◌, ◌-◌, ◌≤◌}
 use native.Mathlib.Omega.{arith}
 use lib.ListN.{length, get_or}
 use borrow.Author.Tests.{eqb-true, eqb-false}
-use Rattle.text.specs.Text.{Field, number, empty, malformed}
+use Rattle.text.specs.declared.field.Field.{Field}
+use Rattle.text.specs.declared.field.Field.TheVariants.{Number as number, Empty as empty, Malformed as malformed}
 use Rattle.exchange.specs.Trees.{none, ◌∷ᶠ◌, ◌++ᶠ◌, trees, Plans}
 use Rattle.exchange.specs.Rows.{unpacked, children_of, operator_of, row_of, flatten, flattens, firsts, others, grow}
 use Rattle.exchange.proofs.TreeRows.{flattens_none, flattens_one, first_row}

@@ -12,7 +12,9 @@ use native.Mathlib.Omega.{arith}
 use borrow.Author.Tests.{eq-eqb, le-ltb}
 use lib.ListN.{length, get_or, drop, set, length-map}
 use lib.Seq.{set-set, set-get_or}
-use Rattle.text.specs.Text.{Field, number, line_at, after}
+use Rattle.text.specs.declared.field.Field.{Field}
+use Rattle.text.specs.declared.field.Field.TheVariants.{Number as number}
+use Rattle.text.specs.Text.{line_at, after}
 use Rattle.text.specs.Bounds.{bound_row}
 use Rattle.text.proofs.Limits.{all_largest}
 use Rattle.linekinds.specs.Lines.{plain, most_bytes, line_number, fields_of}

@@ -12,7 +12,9 @@ use denote.Enum.Declared.{tag_of}
 use borrow.Author.Tests.{le-leb, le-ltb}
 use lib.Dec.{eqb}
 use lib.ListN.{length, get_or, set}
-use Rattle.text.specs.Text.{Field, number, empty, row, line_at, after}
+use Rattle.text.specs.declared.field.Field.{Field}
+use Rattle.text.specs.declared.field.Field.TheVariants.{Number as number, Empty as empty}
+use Rattle.text.specs.Text.{row, line_at, after}
 use Rattle.text.specs.Bounds.{row_within, fits_rows}
 use Rattle.linekinds.specs.Lines.{Kind, fields_of}
 use Rattle.linekinds.specs.Reading.{Small, row_values, read_by}
@@ -157,7 +159,7 @@ module _
 
   line_quick : L.Line 8 (end + 1) ≡ read_by (number_at K seen s at) (after s at) (line_at letter s at)
   line_quick =
-      line_read_lem bs bounded K refl refl seen (after s at) (line_at letter s at) 8 (end + 1)
+      line_read_lem bs bounded K refl refl seen (after s at) (line_at letter s at) (record { count = 8; next = end + 1 })
       (record {
         fs = F;
         is = O.line.is;

@@ -3,7 +3,7 @@
 use mathlib.Core.Path.{◌≡◌, refl, sym, ap, ◌∙◌}
 use mathlib.Core.List.{List, [], ◌∷◌, ◌++◌, map}
 use mathlib.Core.Bool.{true, false}
-use Prim.Native.Nat.{ℕ, ◌+◌, ◌-◌, ◌≤◌, ◌<◌}
+use Prim.Native.Nat.{ℕ, ◌+◌, ◌≤◌, ◌<◌}
 use native.Mathlib.Omega.{arith}
 use lib.ListN.{length, take, drop, length-map, length-drop}
 use lib.Seq.{length-take-le}
@@ -20,7 +20,7 @@ use Rattle.exchange.specs.Fit.{worked_fits, facts_fit}
 use Rattle.exchange.proofs.Stored.{past, first_at}
 use Rattle.exchange.proofs.TreeRows.{flatten_node, row_children}
 use Rattle.exchange.proofs.WorkedNode.{worked_at}
-use Rattle.text.specs.Text.{Field}
+use Rattle.text.specs.declared.field.Field.{Field}
 use Rattle.linekinds.specs.KeyLines.{values}
 use Rattle.plansheet.specs.PlanLines.{two_to}
 use Rattle.plansheet.specs.PlanSheets.{FactLines, children_rows, fact_rows, facts_of, child_count, beneath}
@@ -89,11 +89,8 @@ module _ (t : Plan) (g : FactLines) (rows facts xs : List (List ℕ)) (masks : L
   fit_worked s = λ i. worked_fits s (facts_by_lem g i) (W.is i)
 
   pub rooms_fit : n ≤ length xs → (many : ℕ) → many ≡ two_to children → (s : Settings) →
-      worked_fits s (facts_by g (take (children - 0) facts) (take n xs) (take (many - 0) masks)) (node W.operator W.below) ≡ facts_fit s (facts_of g) t
-  rooms_fit h many e s =
-      let a : children - 0 ≡ children = omega arith in
-      let b : many - 0 ≡ two_to children = omega arith in
-      rw (a, b, r.each, r.held h, r.bits) (sym (fit_worked s))
+      worked_fits s (facts_by g (take children facts) (take n xs) (take many masks)) (node W.operator W.below) ≡ facts_fit s (facts_of g) t
+  rooms_fit h many e s = rw (e, r.each, r.held h, r.bits) (sym (fit_worked s))
 
   -- more rows than there is room for
   pub rooms_crowded : 8 ≤ length facts → 128 ≤ length xs → length xs < n → (s : Settings) → facts_fit s (facts_of g) t ≡ false

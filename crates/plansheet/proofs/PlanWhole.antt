@@ -8,11 +8,12 @@ use native.Mathlib.Omega.{arith}
 use lib.Dec.{eqb}
 use lib.ListN.{length, get_or, take, drop, length-map, get_or-append}
 use lib.Seq.{sets, sets-eq, take_at, length-sets}
-use Rattle.text.specs.Text.{Field, parts, value_of}
+use Rattle.text.specs.declared.field.Field.{Field}
+use Rattle.text.specs.Text.{parts, value_of}
 use Rattle.text.specs.Lines.{first_of, next_of}
 use Rattle.exchange.specs.Trees.{Plan}
 use Rattle.exchange.specs.declared.settings.Settings.{Settings}
-use Rattle.exchange.specs.declared.settings.Checked.TheVariants.{Fine, OutOfRange}
+use Rattle.std.specs.Prelude.{Some, None}
 use Rattle.exchange.specs.Settings.{settings_fit, checked}
 use Rattle.exchange.specs.Facts.{Facts}
 use Rattle.exchange.specs.FactRows.{node_facts, fact_row}
@@ -40,19 +41,19 @@ use Rattle.plansheet.proofs.RunBytes.{size_parts, run_left, tree_bytes, tree_roo
 
 -- ---- the judgement
 
-checked_at : (t : Bool) (s : Settings) (x : Settings) → Fine x ≡ cond t (Fine s) OutOfRange → (t ≡ true) × (x ≡ s)
+checked_at : (t : Bool) (s : Settings) (x : Settings) → Some x ≡ cond t (Some s) None → (t ≡ true) × (x ≡ s)
 checked_at true s x e = (refl, cc)
 checked_at false s x e = let z : ◌≡◌ {A = ℕ} 0 1 = cc in absurd (omega arith)
 
-pub settings_fine : (s x : Settings) → Fine x ≡ checked s → (settings_fit s ≡ true) × (x ≡ s)
+pub settings_fine : (s x : Settings) → Some x ≡ checked s → (settings_fit s ≡ true) × (x ≡ s)
 unfolding checked
 settings_fine s x e = checked_at (settings_fit s) s x e
 
-out_at : (t : Bool) (s : Settings) → OutOfRange ≡ cond t (Fine s) OutOfRange → t ≡ false
+out_at : (t : Bool) (s : Settings) → None ≡ cond t (Some s) None → t ≡ false
 out_at true s e = let z : ◌≡◌ {A = ℕ} 0 1 = cc in absurd (omega arith)
 out_at false s e = refl
 
-pub settings_out : (s : Settings) → OutOfRange ≡ checked s → settings_fit s ≡ false
+pub settings_out : (s : Settings) → None ≡ checked s → settings_fit s ≡ false
 unfolding checked
 settings_out s e = out_at (settings_fit s) s e
 

@@ -9,7 +9,8 @@ use Prim.Native.Nat.{ℕ, suc, ◌+◌, ◌*◌, ◌≤◌, ◌<◌}
 use native.Mathlib.Omega.{arith}
 use lib.Dec.{eqb}
 use lib.ListN.{length, drop, length-drop}
-use Rattle.text.specs.Text.{Field, parts, onto, field, most, fields, line_fields}
+use Rattle.text.specs.declared.field.Field.{Field}
+use Rattle.text.specs.Text.{parts, onto, field, most, fields, line_fields}
 use Rattle.text.specs.Bounds.{Bound, allows, fits}
 use Rattle.text.specs.Lines.{first_of}
 use Rattle.text.proofs.Exact.{both}

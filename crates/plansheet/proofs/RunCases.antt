@@ -8,7 +8,7 @@ use Prim.Native.Nat.{ℕ, suc}
 use native.Mathlib.Omega.{arith}
 use lib.Dec.{eqb}
 use borrow.Author.Tests.{eqb-true}
-use Rattle.text.specs.Text.{Field}
+use Rattle.text.specs.declared.field.Field.{Field}
 use Rattle.text.specs.Lines.{first_of, next_of}
 use Rattle.linekinds.specs.Lines.{Kind, Run, read, refused, before, line_number, fields_of, rows_of}
 

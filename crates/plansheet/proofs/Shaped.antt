@@ -6,20 +6,20 @@ use native.Mathlib.Omega.{arith}
 use mathlib.Core.List.{List, [], ◌∷◌, map}
 use mathlib.Core.Bool.{Bool, true, false, cond, ◌&&◌, ◌||◌}
 use mathlib.Core.Option.{Option, none, some}
-use mathlib.Core.Logic.{⊎_elim}
-use types.Run.{OneOf}
-use denote.Enum.Declared.{tag_of}
-use Rattle.text.specs.contracts.bounds.Judged as JT
 use lib.Dec.{eqb, leb, ltb}
 use lib.ListN.{length, get_or, take, drop, length-drop, length-map, take-append-drop, drop_of_length-le, replicate}
 use mathlib.Core.List.{◌++◌, append-nil}
 use borrow.Author.Tests.{eqb-true, eqb-false, eq-eqb, ne_eqb, lt-ltb, le-ltb, le-leb, lt-leb}
-use Rattle.text.specs.Text.{Field, number, value_of, state_of, row, greatest}
+use Rattle.text.specs.declared.field.Field.{Field}
+use Rattle.text.specs.declared.field.Field.TheVariants.{Number as number}
+use Rattle.text.specs.Text.{value_of, state_of, row, greatest}
 use Rattle.text.specs.Bounds.{fits, fits_rows, allows, allows_all, judged}
+use Rattle.std.specs.Prelude.{None, Err}
 use Rattle.text.specs.declared.bounds.Judged.{Judged}
-use Rattle.text.specs.declared.bounds.Judged.TheVariants as J
+use Rattle.text.specs.declared.bounds.Misfit.{Misfit}
+use Rattle.text.specs.declared.bounds.Misfit.TheVariants.{Unfit, Wrong}
 use Rattle.text.specs.Read.{line_read}
-use Rattle.text.specs.declared.line.Line.TheVariants as LL
+use Rattle.text.specs.declared.line.Fields.{Fields}
 use Rattle.text.proofs.Answers.{Opened, wrong_none, Passed, failed, judged_none}
 use Rattle.text.proofs.Limits.{fits_rows_lem, fits_length, all_largest}
 use Rattle.linekinds.specs.Lines.{Kind, plain, most_bytes, most_entries, fields_fit, too_many_entries, line_number}
@@ -28,7 +28,7 @@ use Rattle.linekinds.specs.Reading.{row_values, read_by}
 use Rattle.linekinds.specs.declared.line.Read.TheVariants.{Line, Refused}
 use Rattle.linekinds.proofs.ReadLines.{row_values_lem}
 use Rattle.plansheet.specs.Shapes.{Shape, plain_shape, over_any, fixed_line, coming_line, tree_line, exchange_limited, rule_fits, most_children}
-use Rattle.plansheet.specs.ReadRows.{bound_of, Bounded, shape_of, judged_number, shape_number, masks_number, tree_number, value_at, state_at, fields_row}
+use Rattle.plansheet.specs.ReadRows.{bound_of, Bounded, shape_of, misfit_number, shape_number, masks_number, tree_number, value_at, state_at, fields_row}
 use Rattle.plansheet.specs.PlanLines.{two_to, mask_line}
 use Rattle.plansheet.specs.PlanSheets.{operator_row}
 
@@ -176,11 +176,15 @@ module _ (k : Kind) (w : k.width ≡ 0) (fs : List Field) where
 
 -- ---- what `fixed_at` answered
 
+refuses : (m : Misfit) → misfit_number m ≡ 0 → ⊥
+refuses Unfit e = omega arith
+refuses Wrong e = omega arith
+
 -- a line has as many fields as bounds
 pub passed_long :
-    (bs : List (List ℕ)) → Bounded bs → (next : ℕ) (x : Option (List Field)) (count after : ℕ) (p : Passed bs next x count after) →
+    (bs : List (List ℕ)) → Bounded bs → (next : ℕ) (x : Option (List Field)) (j : Judged) (p : Passed bs next x j) →
     length p.fs ≡ length bs
-passed_long bs bounded next x count after p =
+passed_long bs bounded next x j p =
     fits_length (map bound_of bs) p.fs (fits_rows_lem (map bound_of bs) p.fs ∙ ap (λ (cs : List (List ℕ)). fits_rows cs (map row p.fs)) bounded ∙ p.within)
     ∙ length-map bs bound_of
 
@@ -189,25 +193,24 @@ module _ (bs : List (List ℕ)) (bounded : Bounded bs) (k : Kind) (w : k.width �
   rows_fit fs = rw heads (fits_rows_lem (map bound_of bs) fs ∙ ap (λ (cs : List (List ℕ)). fits_rows cs (map row fs)) bounded)
 
   module _ (seen next : ℕ) (x : Option (List Field)) where
-    refused_at : (j : Judged) → j ≡ judged bs next x → (judged_number j ≡ 0 → ⊥) → line_number k seen next x ≡ judged_number j
+    refused_at : (m : Misfit) → Err m ≡ judged bs next x → line_number k seen next x ≡ misfit_number m
     unfolding line_number
-    refused_at (J.Line count after) e h = absurd (h refl)
-    refused_at J.Unfit e h = let f = failed bs next x e in rw f.is (number_fixed k w f.fs seen next ∙ rw (rows_fit f.fs, f.outside))
-    refused_at J.Wrong e h = rw (judged_none bs next x e)
+    refused_at Unfit e = let f = failed bs next x e in rw f.is (number_fixed k w f.fs seen next ∙ rw (rows_fit f.fs, f.outside))
+    refused_at Wrong e = rw (judged_none bs next x e)
 
-    pub line_refused : (j : Judged) → j ≡ judged bs next x → (n : ℕ) → n ≡ judged_number j → (n ≡ 0 → ⊥) → Refused n ≡ read_by (line_number k seen next x) next x
-    line_refused j e n is h =
-        let q : line_number k seen next x ≡ n = refused_at j e (λ z. h (is ∙ z)) ∙ sym is in
-        rw (q, ne_eqb n 0 h)
+    pub line_refused : (m : Misfit) → Err m ≡ judged bs next x → (n : ℕ) → n ≡ misfit_number m → Refused n ≡ read_by (line_number k seen next x) next x
+    line_refused m e n is =
+        let q : line_number k seen next x ≡ n = refused_at m e ∙ sym is in
+        rw (q, ne_eqb n 0 (λ z. refuses m (sym is ∙ z)))
 
-    module _ (count after : ℕ) (p : Passed bs next x count after) (n : ℕ) (is : n ≡ codes_number k seen next p.fs) where
+    module _ (j : Judged) (p : Passed bs next x j) (n : ℕ) (is : n ≡ codes_number k seen next p.fs) where
       coded : line_number k seen next x ≡ n
       coded = ap (line_number k seen next) p.is ∙ number_fixed k w p.fs seen next ∙ rw (rows_fit p.fs, p.within) (sym is)
 
       pub line_turned : (n ≡ 0 → ⊥) → Refused n ≡ read_by (line_number k seen next x) next x
       line_turned h = rw (coded, ne_eqb n 0 h)
 
-      pub line_read_lem : n ≡ 0 → Line count after ≡ read_by (line_number k seen next x) next x
+      pub line_read_lem : n ≡ 0 → Line j.count j.next ≡ read_by (line_number k seen next x) next x
       line_read_lem h = rw (coded, eq-eqb n 0 h, p.is) (λ i. Line (p.counts i) (p.goes i))
 
 -- ---- the codes of both shapes
@@ -237,12 +240,6 @@ tree_codes letter bs sizes codes rules most seen next fs = rw (row_values_lem fs
 -- a tree line's fields as an operator's row
 pub fields_row_lem : (id : ℕ) (fs : List Field) → fields_row id (map row fs) ≡ operator_row id fs
 fields_row_lem id fs = rw (value_at_lem fs 0, value_at_lem fs 1, value_at_lem fs 2, state_at_lem fs 3, value_at_lem fs 3, value_at_lem fs 4, value_at_lem fs 5, value_at_lem fs 6, value_at_lem fs 7)
-
--- `fixed_at` did not read a line
-pub not_line : (j : Judged) → OneOf (1 ∷ 2 ∷ []) (tag_of JT.the_type j) → judged_number j ≡ 0 → ⊥
-not_line (J.Line count next) h e = ⊎_elim (λ z. omega arith) (λ z. omega arith) h
-not_line J.Unfit h e = omega arith
-not_line J.Wrong h e = omega arith
 
 -- ---- lines that come
 
@@ -310,11 +307,11 @@ module _ (sets count worst largest next : ℕ) where
 
 -- what `line_at` answered of a Y line
 module _ (n seen next : ℕ) (x : Option (List Field)) where
-  pub masks_wrong : LL.Wrong ≡ line_read next x → Refused 1 ≡ read_by (line_number (mask_line n) seen next x) next x
+  pub masks_wrong : None ≡ line_read next x → Refused 1 ≡ read_by (line_number (mask_line n) seen next x) next x
   unfolding line_number
   masks_wrong e = rw (wrong_none next x e)
 
-  module _ (count worst largest after : ℕ) (o : Opened next x count worst largest after) (m sets : ℕ) (s : sets ≡ two_to n) (is : m ≡ masks_number sets count worst largest after) where
+  module _ (f : Fields) (o : Opened next x f) (m sets : ℕ) (s : sets ≡ two_to n) (is : m ≡ masks_number sets f.count f.worst f.largest f.next) where
     masks_is : line_number (mask_line n) seen next x ≡ m
     masks_is =
         ap (line_number (mask_line n) seen next) o.is ∙ masks_line n seen next o.fs
@@ -323,7 +320,7 @@ module _ (n seen next : ℕ) (x : Option (List Field)) where
     pub masks_turned : (m ≡ 0 → ⊥) → Refused m ≡ read_by (line_number (mask_line n) seen next x) next x
     masks_turned h = rw (masks_is, ne_eqb m 0 h)
 
-    pub masks_read : m ≡ 0 → Line count after ≡ read_by (line_number (mask_line n) seen next x) next x
+    pub masks_read : m ≡ 0 → Line f.count f.next ≡ read_by (line_number (mask_line n) seen next x) next x
     masks_read h = rw (masks_is, eq-eqb m 0 h, o.is) (λ i. Line (o.counts i) (o.goes i))
 
 -- ---- plain fields with codes
@@ -359,11 +356,11 @@ module _ (letter width : ℕ) (codes : List ℕ) where
 
   -- what `line_at` answered of such a line
   module _ (seen next : ℕ) (x : Option (List Field)) where
-    pub plain_wrong : LL.Wrong ≡ line_read next x → Refused 1 ≡ read_by (line_number P seen next x) next x
+    pub plain_wrong : None ≡ line_read next x → Refused 1 ≡ read_by (line_number P seen next x) next x
     unfolding line_number
     plain_wrong e = rw (wrong_none next x e)
 
-    module _ (count worst largest after : ℕ) (o : Opened next x count worst largest after) (m : ℕ) (is : m ≡ masks_number width count worst largest after) where
+    module _ (f : Fields) (o : Opened next x f) (m : ℕ) (is : m ≡ masks_number width f.count f.worst f.largest f.next) where
       plain_is : line_number P seen next x ≡ cond (eqb m 0) (cond (over_any codes (values o.fs)) 4 0) m
       plain_is =
           ap (line_number P seen next) o.is ∙ plain_number seen next o.fs
@@ -381,7 +378,7 @@ module _ (letter width : ℕ) (codes : List ℕ) where
             let q : line_number P seen next x ≡ 4 = plain_is ∙ rw (eq-eqb m 0 z, h) in
             rw q
 
-        pub plain_read : over_any codes (values o.fs) ≡ false → Line count after ≡ read_by (line_number P seen next x) next x
+        pub plain_read : over_any codes (values o.fs) ≡ false → Line f.count f.next ≡ read_by (line_number P seen next x) next x
         plain_read h =
             let q : line_number P seen next x ≡ 0 = plain_is ∙ rw (eq-eqb m 0 z, h) in
             rw (q, o.is) (λ i. Line (o.counts i) (o.goes i))

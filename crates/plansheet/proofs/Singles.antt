@@ -9,7 +9,8 @@ use native.Mathlib.Omega.{arith}
 use lib.Dec.{eqb}
 use lib.ListN.{length, drop, take, length-drop, length-map, drop_of_length-le}
 use borrow.Author.Tests.{ne_eqb}
-use Rattle.text.specs.Text.{Field, onto, parts, line, line_fields, line_at, after, row}
+use Rattle.text.specs.declared.field.Field.{Field}
+use Rattle.text.specs.Text.{onto, parts, line, line_fields, line_at, after, row}
 use Rattle.text.specs.Bounds.{Bound, bound_row}
 use Rattle.text.specs.Lines.{first_of}
 use Rattle.text.specs.Read.{stored_in}

@@ -11,7 +11,8 @@ use lib.Dec.{eqb}
 use lib.ListN.{length, drop, set, length-append}
 use lib.Seq.{sets, length-sets}
 use borrow.Author.Tests.{eqb-true, eqb-false, ne_eqb}
-use Rattle.text.specs.Text.{Field, parts, line_at, after}
+use Rattle.text.specs.declared.field.Field.{Field}
+use Rattle.text.specs.Text.{parts, line_at, after}
 use Rattle.text.specs.Lines.{first_of, next_of}
 use Rattle.text.proofs.Places.{bridge, after_next, after_within, after_lines}
 use Rattle.linekinds.specs.Lines.{Kind, Run, read, refused, before, behind, line_number, fields_of, rows_of}

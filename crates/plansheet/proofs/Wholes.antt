@@ -8,7 +8,8 @@ use native.Mathlib.Omega.{arith}
 use native.Mathlib.Numerals.{add-one}
 use lib.ListN.{length, drop}
 use lib.Seq.{sets}
-use Rattle.text.specs.Text.{Field, parts, line_at, after}
+use Rattle.text.specs.declared.field.Field.{Field}
+use Rattle.text.specs.Text.{parts, line_at, after}
 use Rattle.text.proofs.Places.{bridge}
 use Rattle.linekinds.specs.Lines.{Run, read, refused, line_number, fields_of, rows_of, at_end}
 use Rattle.linekinds.specs.KeyLines.{values}

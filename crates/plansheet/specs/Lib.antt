@@ -3,6 +3,7 @@ pub mod PlanLines
 pub mod PlanSheets
 pub mod PlanTexts
 pub mod ReadRows
+pub mod Described
 pub mod PlainFacts
 pub mod ReadPlans
 pub mod FitRows

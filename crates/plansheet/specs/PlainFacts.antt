@@ -2,7 +2,9 @@
 -- Renders document 01, "Exchange sheet": `X,child,..`.
 use Rattle.std.specs.Prelude.{ℕ, ◌≡◌, List, map, set}
 use Rattle.std.proofs.Math.Option.{Option, none}
-use Rattle.text.specs.Text.{Field, number, line_at, after}
+use Rattle.text.specs.declared.field.Field.{Field}
+use Rattle.text.specs.declared.field.Field.TheVariants.{Number as number}
+use Rattle.text.specs.Text.{line_at, after}
 use Rattle.linekinds.specs.Lines.{line_number, fields_of}
 use Rattle.linekinds.specs.KeyLines.{values}
 use Rattle.linekinds.specs.declared.line.Read.{Read}

@@ -1,7 +1,8 @@
 -- Tree lines that are read straight into their rows: the descriptions for which a line of plain numbers without a limit is so read, and what is left.
 use Rattle.std.specs.Prelude.{ℕ, ◌+◌, ◌≤◌, ◌<◌, ◌≡◌, true, cond, List, [], eqb, length, get_or, set}
 use Rattle.std.proofs.Math.Option.{Option}
-use Rattle.text.specs.Text.{Field, line_at, after}
+use Rattle.text.specs.declared.field.Field.{Field}
+use Rattle.text.specs.Text.{line_at, after}
 use Rattle.linekinds.specs.Lines.{Kind, line_number, fields_of}
 use Rattle.numberlines.specs.NumberLines.{OperatorLine}
 use Rattle.numberlines.specs.declared.row.Plain.{Plain}

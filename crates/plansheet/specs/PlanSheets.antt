@@ -2,7 +2,8 @@
 -- Renders document 01, "Exchange sheet", and refusals 1 to 4 and 6 to 8 of "Where a sheet is turned back".
 use Rattle.std.specs.Prelude.{ℕ, suc, List, [], ◌∷◌, map, cond, eqb, get_or}
 use Rattle.std.proofs.Math.Option.{none as nothing}
-use Rattle.text.specs.Text.{Field, parts, state_of, value_of}
+use Rattle.text.specs.declared.field.Field.{Field}
+use Rattle.text.specs.Text.{parts, state_of, value_of}
 use Rattle.exchange.specs.Trees.{node, none, ◌∷ᶠ◌, trees, Plan, Plans}
 use Rattle.exchange.specs.Rows.{grow}
 use Rattle.exchange.specs.declared.settings.Settings.{Settings}

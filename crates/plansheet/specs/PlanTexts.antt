@@ -1,7 +1,8 @@
 -- D sheets as text: what is written again from a sheet that was read.
 -- Renders document 01, "Exchange sheet", and demand 2, "Sheets written from a read sheet have the same bytes".
 use Rattle.std.specs.Prelude.{ℕ, List, [], ◌∷◌, ◌++◌, map, cond, eqb}
-use Rattle.text.specs.Text.{Field, number, empty}
+use Rattle.text.specs.declared.field.Field.{Field}
+use Rattle.text.specs.declared.field.Field.TheVariants.{Number as number, Empty as empty}
 use Rattle.text.specs.Write.{line_text}
 use Rattle.exchange.specs.declared.row.Node.{Node}
 use Rattle.exchange.specs.Rows.{unpacked, children_of, flatten}

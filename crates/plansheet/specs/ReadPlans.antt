@@ -1,7 +1,8 @@
 -- What the functions that read a D sheet's lines answer and leave in the rooms lent.
 use Rattle.std.specs.Prelude.{◌≡◌, ℕ, List, length}
 use Rattle.std.proofs.lemmas.List.Edits.{sets}
-use Rattle.text.specs.Text.{Field, parts}
+use Rattle.text.specs.declared.field.Field.{Field}
+use Rattle.text.specs.Text.{parts}
 use Rattle.text.specs.Lines.{first_of}
 use Rattle.linekinds.specs.Lines.{Run, read, refused, rows_of, fields_of}
 use Rattle.linekinds.specs.KeyLines.{values}

@@ -1,10 +1,11 @@
 -- What the reading functions are given and answer: a line's description as rows of numbers, the number of a line, and rows that are left in the room lent.
 use Rattle.std.specs.Prelude.{◌≡◌, ℕ, zero, suc, ◌+◌, ◌≤◌, List, [], ◌∷◌, map, cond, not, ◌&&◌, ◌||◌, eqb, leb, ltb, length, get_or, drop}
 use Rattle.std.proofs.lemmas.List.Edits.{sets}
-use Rattle.text.specs.Text.{Field, parts}
+use Rattle.text.specs.declared.field.Field.{Field}
+use Rattle.text.specs.Text.{parts}
 use Rattle.text.specs.Bounds.{Bound, bound_row}
-use Rattle.text.specs.declared.bounds.Judged.{Judged}
-use Rattle.text.specs.declared.bounds.Judged.TheVariants as J
+use Rattle.text.specs.declared.bounds.Misfit.{Misfit}
+use Rattle.text.specs.declared.bounds.Misfit.TheVariants.{Unfit, Wrong}
 use Rattle.linekinds.specs.Lines.{Kind, Run, read, refused, most_bytes, rows_of}
 use Rattle.linekinds.specs.KeyLines.{values}
 use Rattle.linekinds.specs.Reading.{row_values}
@@ -28,10 +29,9 @@ shape_of letter bounds sizes codes = record { letter = letter; heads = map bound
 -- ---- the number of a line
 
 -- 1 where it is not of the letter, 2 where a field is out of its bound
-abbrev pub judged_number : Judged → ℕ
-judged_number (J.Line count next) = 0
-judged_number J.Unfit = 2
-judged_number J.Wrong = 1
+abbrev pub misfit_number : Misfit → ℕ
+misfit_number Unfit = 2
+misfit_number Wrong = 1
 
 -- 3 or 4 by its numbers, or 0
 abbrev pub shape_number : List ℕ → List ℕ → ℕ → List ℕ → ℕ

@@ -2,7 +2,9 @@
 -- Renders document 01, "Where a sheet is turned back": the rows with place Line; and "T lines in preorder".
 use Rattle.std.specs.Prelude.{ℕ, ◌+◌, ◌-◌, List, [], ◌∷◌, Bool, true, false, not, ◌&&◌, ◌||◌, eqb, leb, ltb, length, get_or, replicate}
 use Rattle.std.proofs.Math.Option.{Option, none, some}
-use Rattle.text.specs.Text.{Field, number, state_of}
+use Rattle.text.specs.declared.field.Field.{Field}
+use Rattle.text.specs.declared.field.Field.TheVariants.{Number as number}
+use Rattle.text.specs.Text.{state_of}
 use Rattle.text.specs.Bounds.{Bound}
 use Rattle.linekinds.specs.Lines.{Kind, plain, counted, one_less, never}
 use Rattle.linekinds.specs.KeyLines.{at, values}

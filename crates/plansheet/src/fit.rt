@@ -10,7 +10,7 @@ ghost use Rattle.exchange.specs.Found.{index_of};
 ghost use Rattle.exchange.specs.Fit.{within_bits, all_within_bits, worked_fits};
 ghost use Rattle.plansheet.specs.FitRows.{count_fits_by, child_fits_by, row_fits_by, fact_rows_fit, Placed, found_at};
 
-use exchange::fact::{CHILD, CONST, COUNT, FORM, Fact, FactRow, ORDER, fact_row};
+use exchange::fact::{CHILD, CONST, COUNT, ChildForm, FORM, Fact, FactRow, FactRows, ORDER};
 use exchange::form::{relationship_of, split_of, top_of};
 use exchange::places::child_places;
 use exchange::row::{Row, node_at};
@@ -36,12 +36,10 @@ fn within_bits(n: u64, mask: u64) -> bool
 pub fn masks_fit(n: u64, masks: &[u64]) -> bool
     ensures { result ≡ all_within_bits n masks.now }
 {
-    let mut i: usize = 0;
-    while i < masks.len() {
-        if !within_bits(n, masks[i]) {
+    for mask in masks {
+        if !within_bits(n, *mask) {
             return false;
         }
-        i += 1;
     }
     true
 }
@@ -89,7 +87,7 @@ fn child_fits(target: u64, rows: &[Row], x: FactRow, place: usize, f: ChildRow) 
 }
 
 // A row of a known form of a known child.
-fn row_fits(target: u64, rows: &[Row], places: &[u64], facts: &[ChildRow], x: FactRow) -> bool
+fn row_fits(target: u64, rows: &[Row], places: &[usize], facts: &[ChildRow], x: FactRow) -> bool
     requires { (length facts.now ≡ length places.now) × Placed rows.now places.now }
     ensures { result ≡ row_fits_by target rows.now places.now facts.now x }
 {
@@ -104,7 +102,7 @@ fn row_fits(target: u64, rows: &[Row], places: &[u64], facts: &[ChildRow], x: Fa
         return false;
     }
     let i = (number - 1) as usize;
-    child_fits(target, rows, x, places[i] as usize, facts[i])
+    child_fits(target, rows, x, places[i], facts[i])
 }
 
 // Whether the row was found at that place.
@@ -117,66 +115,47 @@ fn found_at(f: Fact, i: usize) -> bool
     }
 }
 
-// Every one of the first n rows fits, and is the first of its child and form.
+// Every row fits, and is the first of its child and form.
 pub fn rows_fit(
     target: u64,
     rows: &[Row],
-    places: &[u64],
+    places: &[usize],
     facts: &[ChildRow],
-    index: &[u64],
-    xs: &[FactRow],
-    n: usize,
+    xs: FactRows,
 ) -> bool
-    requires facts_len { (length facts.now ≡ length places.now) × (length places.now ≤ 8) × Placed rows.now places.now }
-    requires n_in_bounds { (n ≤ length xs.now) × (index.now ≡ index_of (take n xs.now)) }
-    ensures { result ≡ fact_rows_fit target rows.now places.now facts.now (take n xs.now) }
+    requires { (length facts.now ≡ length places.now) × (length places.now ≤ 8) × Placed rows.now places.now }
+    ensures { result ≡ fact_rows_fit target rows.now places.now facts.now xs.entry.rows.now }
 {
-    let mut i: usize = 0;
-    while i < n {
-        let x = xs[i];
-        if !row_fits(target, rows, places, facts, x) {
+    for (i, x) in xs.rows.iter().enumerate() {
+        if !row_fits(target, rows, places, facts, *x) {
             return false;
         }
-        let f = fact_row(index, xs, n, x[CHILD], x[FORM]);
-        if !found_at(f, i) {
+        let at = ChildForm {
+            child: x[CHILD],
+            form: x[FORM],
+        };
+        if !found_at(xs.fact_row(at), i) {
             return false;
         }
-        i += 1;
     }
     true
 }
 
-// Whether the first n X rows and the masks fit the tree whose worked node stands at `worked`; each of its children has an F row.
+// Whether the X rows and the masks fit the tree whose worked node stands at `worked`; each of its children has an F row.
 pub fn facts_fit(
     target: u64,
     rows: &[Row],
     worked: usize,
     facts: &[ChildRow],
-    index: &[u64],
-    xs: &[FactRow],
-    n: usize,
+    xs: FactRows,
     masks: &[u64],
 ) -> bool
     requires stand_all { StandAll rows.now (worked + 1) (length facts.now) }
-    requires worked_in_bounds { (worked < length rows.now) × (length facts.now ≤ 8) × (n ≤ length xs.now) × (index.now ≡ index_of (take n xs.now)) }
-    ensures { (s : Settings) (o : Operator) (b : NodeFacts) (ts : Plans) (rest : List (List ℕ)) → s.target ≡ target → trees ts ≡ length facts.now → drop (worked + 1) rows.now ≡ flattens ts ++ rest → result ≡ worked_fits s (record { node = b; children = map child_facts facts.now; rows = map fact_row (take n xs.now); masks = masks.now }) (node o ts) }
+    requires worked_in_bounds { (worked < length rows.now) × (length facts.now ≤ 8) }
+    ensures { (s : Settings) (o : Operator) (b : NodeFacts) (ts : Plans) (rest : List (List ℕ)) → s.target ≡ target → trees ts ≡ length facts.now → drop (worked + 1) rows.now ≡ flattens ts ++ rest → result ≡ worked_fits s (record { node = b; children = map child_facts facts.now; rows = map fact_row xs.entry.rows.now; masks = masks.now }) (node o ts) }
 {
-    let children = facts.len() as u64;
-    let mut places = [0u64; 8];
-    let mut needs = [0u64; 8];
-    let mut counts = [0u64; 8];
-    child_places(
-        rows,
-        worked + 1,
-        children,
-        &mut places,
-        &mut needs,
-        &mut counts,
-        0,
-    );
-    let end = facts.len();
-    if !rows_fit(target, rows, &places[0..end], facts, index, xs, n) {
-        return false;
-    }
-    masks_fit(children, masks)
+    let mut room = [0usize; 8];
+    let places = &mut room[..facts.len()];
+    child_places(rows, worked + 1, &mut *places);
+    rows_fit(target, rows, &*places, facts, xs) && masks_fit(facts.len() as u64, masks)
 }

@@ -8,9 +8,10 @@ ghost use Rattle.plansheet.specs.Shapes.{fixed_line, plain_shape};
 ghost use Rattle.plansheet.specs.PlanLines.{settings_line, node_line, child_line, fact_line, mask_line, two_to};
 ghost use Rattle.plansheet.specs.ReadRows.{masks_number};
 
+use crate::description::LineShape;
 use crate::shape::{over_any, shaped_line};
 use linekinds::line::Read;
-use text::line::{Line, line_at};
+use text::line::line_at;
 
 // The largest number of a plain field; of a row count or a limit.
 pub const PLAIN: u64 = 65535;
@@ -70,23 +71,20 @@ fn plain_line(
     ensures answer { (seen : ℕ) → result ≡ read_by (line_number (fixed_line (plain_shape letter width codes.now)) seen (after s.now at) (line_at letter s.now at)) (after s.now at) (line_at letter s.now at) }
     ensures stored { fields.new ≡ stored_in fields.old (line_fields letter (line (drop at s.now))) }
 {
-    let Line::Fields {
-        count,
-        worst,
-        largest,
-        next,
-    } = line_at(s, at, letter, fields)
-    else {
+    let Some(f) = line_at(s, at, letter, fields) else {
         return Read::Refused(1);
     };
-    let m = masks_number(width, count, worst, largest, next);
+    let m = masks_number(width, f.count, f.worst, f.largest, f.next);
     if m != 0 {
         return Read::Refused(m);
     }
-    if over_any(codes, &fields[0..count]) {
+    if over_any(codes, &fields[0..f.count]) {
         return Read::Refused(4);
     }
-    Read::Line { count, next }
+    Read::Line {
+        count: f.count,
+        next: f.next,
+    }
 }
 
 // The D line.
@@ -108,7 +106,13 @@ pub fn settings_line(s: &[u8], at: usize, fields: &mut [[u64; 2]]) -> Read
     ];
     let sizes: [u64; 0] = [];
     let codes: [u64; 9] = [ANY, 1, 1, ANY, 1, ANY, ANY, 1, 1];
-    shaped_line(s, at, 68, &bounds, &sizes, &codes, fields)
+    let shape = LineShape {
+        letter: 68,
+        bounds: &bounds,
+        sizes: &sizes,
+        codes: &codes,
+    };
+    shaped_line(s, at, shape, fields)
 }
 
 // The B line.
@@ -120,7 +124,13 @@ pub fn node_line(s: &[u8], at: usize, fields: &mut [[u64; 2]]) -> Read
     let bounds: [[u64; 2]; 4] = [[0, PLAIN], [0, PLAIN], [0, PLAIN], [0, PLAIN]];
     let sizes: [u64; 0] = [];
     let codes: [u64; 4] = [1, 1, 1, 1];
-    shaped_line(s, at, 66, &bounds, &sizes, &codes, fields)
+    let shape = LineShape {
+        letter: 66,
+        bounds: &bounds,
+        sizes: &sizes,
+        codes: &codes,
+    };
+    shaped_line(s, at, shape, fields)
 }
 
 // An F line.
@@ -140,7 +150,13 @@ pub fn child_line(s: &[u8], at: usize, fields: &mut [[u64; 2]]) -> Read
     ];
     let sizes: [u64; 7] = [ANY, ANY, ANY, ANY, ANY, ANY, 8];
     let codes: [u64; 6] = [1, 1, 2, ANY, 1, 1];
-    shaped_line(s, at, 70, &bounds, &sizes, &codes, fields)
+    let shape = LineShape {
+        letter: 70,
+        bounds: &bounds,
+        sizes: &sizes,
+        codes: &codes,
+    };
+    shaped_line(s, at, shape, fields)
 }
 
 // An X line.
@@ -160,18 +176,15 @@ pub fn mask_line(s: &[u8], at: usize, n: u64, fields: &mut [[u64; 2]]) -> Read
     ensures stored { fields.new ≡ stored_in fields.old (line_fields 89 (line (drop at s.now))) }
 {
     let sets = sets_of(n);
-    let Line::Fields {
-        count,
-        worst,
-        largest,
-        next,
-    } = line_at(s, at, 89, fields)
-    else {
+    let Some(f) = line_at(s, at, 89, fields) else {
         return Read::Refused(1);
     };
-    let m = masks_number(sets, count, worst, largest, next);
+    let m = masks_number(sets, f.count, f.worst, f.largest, f.next);
     if m != 0 {
         return Read::Refused(m);
     }
-    Read::Line { count, next }
+    Read::Line {
+        count: f.count,
+        next: f.next,
+    }
 }

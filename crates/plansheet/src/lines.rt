@@ -1,12 +1,14 @@
 // Reads the lines of a D sheet into the rooms lent: the D line and the tree, then B, F, X and Y.
 ghost use Rattle.std.specs.Prelude.{◌≡◌, List, ◌+◌, ◌≤◌, length, drop};
-ghost use Rattle.text.specs.Text.{Field, parts};
+ghost use Rattle.text.specs.declared.field.Field.{Field};
+ghost use Rattle.text.specs.Text.{parts};
 ghost use Rattle.sheet.specs.KeySheets.{sheet};
 ghost use Rattle.plansheet.specs.PlanLines.{plan_line};
 ghost use Rattle.plansheet.specs.PlanSheets.{FactLines, operator_rows, read_masks, read_children, read_facts};
 ghost use Rattle.plansheet.specs.ReadRows.{rows_by, Left, run_from};
 ghost use Rattle.plansheet.specs.ReadPlans.{tree_run, TreeLeft, turned_back, facts_by, MasksHeld, ChildrenHeld, FactsHeld};
 
+use crate::description::{LineShape, TreeShape};
 use crate::facts::{copy_values, read_children, read_facts};
 use crate::line::{ANY, LONG, PLAIN, mask_line, node_line, settings_line};
 use crate::shape::number_of;
@@ -54,9 +56,17 @@ pub fn read_plan_tree(
         [1, 1],
         [1, 1],
     ];
-    read_tree(
-        s, at, line, 84, &bounds, &sizes, &codes, &rules, 256, fields, rows,
-    )
+    let shape = TreeShape {
+        line: LineShape {
+            letter: 84,
+            bounds: &bounds,
+            sizes: &sizes,
+            codes: &codes,
+        },
+        rules: &rules,
+        most: 256,
+    };
+    read_tree(s, at, line, shape, fields, rows)
 }
 
 // The D line, and the T lines after it.

@@ -3,6 +3,7 @@ ghost use Rattle.std.specs.Prelude.{◌≡◌, true, ◌≤◌, ◌<◌, length}
 ghost use Rattle.plansheet.specs.Shapes.{rule_fits};
 ghost use Rattle.plansheet.specs.PlainTrees.{Wide, PlainCodes, PlainShape, OperatorFits, OperatorRead};
 
+use crate::description::{LineShape, TreeShape};
 use crate::line::PLAIN;
 use exchange::row::{CHILDREN, ID, KEEPS, KIND, NEED, Row, TRACKED};
 use numberlines::operator::operator_at;
@@ -14,72 +15,36 @@ pub const MOST_CHILDREN: u64 = 8;
 fn wide_bounds(bounds: &[[u64; 2]]) -> bool
     ensures { result ≡ true → Wide bounds.now }
 {
-    let mut i: usize = 0;
-    while i < bounds.len() {
-        if bounds[i][1] < PLAIN {
-            return false;
-        }
-        i += 1;
-    }
-    true
+    bounds.iter().all(|bound| PLAIN <= bound[1])
 }
 
 // Whether the codes turn a line of plain numbers without a limit back only at its keeps, tracked and need.
 fn plain_codes(codes: &[u64]) -> bool
     ensures { result ≡ true → PlainCodes codes.now }
 {
-    if codes.len() != 7 {
-        return false;
-    }
-    if codes[0] < PLAIN {
-        return false;
-    }
-    if codes[1] < PLAIN {
-        return false;
-    }
-    codes[4] >= PLAIN
+    codes.len() == 7 && PLAIN <= codes[0] && PLAIN <= codes[1] && PLAIN <= codes[4]
 }
 
 // Whether such a line is within the bounds, and has no most and no code but at those three.
-fn plain_shape(letter: u8, bounds: &[[u64; 2]], sizes: &[u64], codes: &[u64]) -> bool
-    ensures { result ≡ true → PlainShape letter bounds.now sizes.now codes.now }
+fn plain_shape(h: LineShape) -> bool
+    ensures { result ≡ true → PlainShape h.entry.letter h.entry.bounds.now h.entry.sizes.now h.entry.codes.now }
 {
-    if letter == 10 {
-        return false;
-    }
-    if bounds.len() != 8 {
-        return false;
-    }
-    if bounds[3][0] != 1 {
-        return false;
-    }
-    if sizes.len() != 0 {
-        return false;
-    }
-    if !wide_bounds(bounds) {
-        return false;
-    }
-    plain_codes(codes)
+    h.letter != b'\n'
+        && h.bounds.len() == 8
+        && h.bounds[3][0] == 1
+        && h.sizes.is_empty()
+        && wide_bounds(h.bounds)
+        && plain_codes(h.codes)
 }
 
 // How many rows may be read quickly: none, or those for which there is room.
-pub fn quick_rows(
-    letter: u8,
-    bounds: &[[u64; 2]],
-    sizes: &[u64],
-    codes: &[u64],
-    most: usize,
-    room: usize,
-) -> usize
-    ensures { (0 < result → PlainShape letter bounds.now sizes.now codes.now) × (result ≤ most) × (result ≤ room) }
+pub fn quick_rows(h: TreeShape, room: usize) -> usize
+    ensures { (0 < result → PlainShape h.entry.line.letter h.entry.line.bounds.now h.entry.line.sizes.now h.entry.line.codes.now) × (result ≤ h.entry.most) × (result ≤ room) }
 {
-    if !plain_shape(letter, bounds, sizes, codes) {
+    if !plain_shape(h.line) {
         return 0;
     }
-    if most < room {
-        return most;
-    }
-    room
+    h.most.min(room)
 }
 
 // Whether an operator of the kind may have so many children.
@@ -87,54 +52,34 @@ pub fn rule_fits(rules: &[[u64; 2]], kind: u64, children: u64) -> bool
     requires { kind < length rules.now }
     ensures { result ≡ rule_fits rules.now kind children }
 {
-    let k = kind as usize;
-    if children < rules[k][0] {
-        return false;
-    }
-    children <= rules[k][1]
+    let rule = rules[kind as usize];
+    rule[0] <= children && children <= rule[1]
 }
 
 // Whether the row of such a line has codes and children that it may have.
-fn operator_fits(codes: &[u64], rules: &[[u64; 2]], row: &Row) -> bool
-    requires { 7 ≤ length codes.now }
-    ensures { result ≡ true → OperatorFits codes.now rules.now row.now }
+fn operator_fits(h: TreeShape, row: &Row) -> bool
+    requires { 7 ≤ length h.line.codes.now }
+    ensures { result ≡ true → OperatorFits h.entry.line.codes.now h.entry.rules.now row.now }
 {
-    if codes[2] < row[KEEPS] {
-        return false;
-    }
-    if codes[5] < row[TRACKED] {
-        return false;
-    }
-    if codes[6] < row[NEED] {
-        return false;
-    }
-    if MOST_CHILDREN < row[CHILDREN] {
-        return false;
-    }
-    if rules.len() as u64 <= row[KIND] {
-        return false;
-    }
-    rule_fits(rules, row[KIND], row[CHILDREN])
+    let codes = h.line.codes;
+    row[KEEPS] <= codes[2]
+        && row[TRACKED] <= codes[5]
+        && row[NEED] <= codes[6]
+        && row[CHILDREN] <= MOST_CHILDREN
+        && row[KIND] < h.rules.len() as u64
+        && rule_fits(h.rules, row[KIND], row[CHILDREN])
 }
 
 // The line at a place as row `seen`, where nothing in it is unusual: the place of its LF.
-pub fn operator_read(
-    s: &[u8],
-    at: usize,
-    seen: usize,
-    letter: u8,
-    codes: &[u64],
-    rules: &[[u64; 2]],
-    row: &mut Row,
-) -> Plain
-    requires { (letter ≡ 10 → ⊥) × (7 ≤ length codes.now) × (seen < 65536) }
-    ensures { OperatorRead letter s.now at seen codes.now rules.now result row.new }
+pub fn operator_read(s: &[u8], at: usize, seen: usize, h: TreeShape, row: &mut Row) -> Plain
+    requires { (h.line.letter ≡ 10 → ⊥) × (7 ≤ length h.line.codes.now) × (seen < 65536) }
+    ensures { OperatorRead h.entry.line.letter s.now at seen h.entry.line.codes.now h.entry.rules.now result row.new }
 {
-    let r = operator_at(s, at, letter, &mut *row);
+    let r = operator_at(s, at, h.line.letter, &mut *row);
     let Plain::Line { end: _ } = r else {
         return r;
     };
-    if !operator_fits(codes, rules, &*row) {
+    if !operator_fits(h, &*row) {
         return Plain::Unusual;
     }
     row[ID] = seen as u64 + 1;

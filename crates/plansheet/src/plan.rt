@@ -15,9 +15,9 @@ use crate::fit::facts_fit;
 use crate::line::sets_of;
 use crate::lines::{Facts, read_fact_lines, read_tree_lines};
 use crate::tree::Rows;
-use exchange::fact::{FactRow, index_rows};
+use exchange::fact::{FactRow, FactRows, index_rows};
 use exchange::row::{Row, children_at};
-use exchange::settings::{Checked, Settings};
+use exchange::settings::Settings;
 use exchange::status::ChildRow;
 use exchange::worked::remove_dist_changing_operators;
 
@@ -38,7 +38,7 @@ pub enum Plan {
 }
 
 // The D line's numbers as settings, within their bounds.
-fn checked_settings(head: &[u64]) -> Checked
+fn checked_settings(head: &[u64]) -> Option<Settings>
     requires { 9 ≤ length head.now }
     ensures { result ≡ checked (settings_of head.now) }
 {
@@ -67,19 +67,15 @@ fn plan_fits(
     if xs.len() < n {
         return false;
     }
-    index_rows(xs, n, &mut *index);
+    let there = &xs[..n];
+    index_rows(there, &mut *index);
+    let known = FactRows {
+        index: &*index,
+        rows: there,
+    };
     let k = children as usize;
     let many = sets_of(children);
-    facts_fit(
-        target,
-        rows,
-        worked,
-        &facts[0..k],
-        &*index,
-        xs,
-        n,
-        &masks[0..many],
-    )
+    facts_fit(target, rows, worked, &facts[..k], known, &masks[..many])
 }
 
 // A refusal of lines.
@@ -123,8 +119,7 @@ fn judge_plan(
     ensures answer { (t : PlanTree) (g : FactLines) → lines ≡ length (flatten t) → PlanRooms t g rows.now facts.now xs.now masks.now worked children n → result ≡ plan_by (judged_plan (plan_sheet (settings_of head.now) t g)) }
     ensures indexed { (x : PlanSheet) → result ≡ plan_by (sheet x) → (n ≤ length xs.now) × (index.new ≡ index_of (take n xs.now)) }
 {
-    let c = checked_settings(head);
-    let Checked::Fine(settings) = c else {
+    let Some(settings) = checked_settings(head) else {
         return Plan::Refused { number: 7, line: 0 };
     };
     if !plan_fits(

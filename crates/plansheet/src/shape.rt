@@ -6,52 +6,48 @@ ghost use Rattle.linekinds.specs.Lines.{line_number};
 ghost use Rattle.linekinds.specs.Reading.{row_values, read_by};
 ghost use Rattle.linekinds.specs.ListLines.{number_of};
 ghost use Rattle.plansheet.specs.Shapes.{over_any, fixed_line};
-ghost use Rattle.plansheet.specs.ReadRows.{Bounded, shape_of, judged_number, shape_number};
+ghost use Rattle.plansheet.specs.Described.{shape_by};
+ghost use Rattle.plansheet.specs.ReadRows.{misfit_number, shape_number};
 
+use crate::description::LineShape;
 use linekinds::line::Read;
-use text::bounds::{Judged, fixed_at};
+use text::bounds::{Misfit, fixed_at};
 
 // Whether one of the first fields is over its largest number.
 pub fn over_any(largest: &[u64], fields: &[[u64; 2]]) -> bool
     ensures { result ≡ over_any largest.now (row_values fields.now) }
 {
-    let mut i: usize = 0;
-    while i < largest.len() {
-        if fields.len() <= i {
-            return false;
-        }
-        if largest[i] < fields[i][1] {
+    for (most, field) in largest.iter().zip(fields) {
+        if *most < field[1] {
             return true;
         }
-        i += 1;
     }
     false
 }
 
 // The number that a line's fields and the place after it give it: 3, 4, or 0.
-pub fn shape_number(sizes: &[u64], codes: &[u64], next: usize, fields: &[[u64; 2]]) -> u64
-    ensures { result ≡ shape_number sizes.now codes.now next (row_values fields.now) }
+pub fn shape_number(h: LineShape, next: usize, fields: &[[u64; 2]]) -> u64
+    ensures { result ≡ shape_number h.entry.sizes.now h.entry.codes.now next (row_values fields.now) }
 {
     if next > 65536 {
         return 3;
     }
-    if over_any(sizes, fields) {
+    if over_any(h.sizes, fields) {
         return 3;
     }
-    if over_any(codes, fields) {
+    if over_any(h.codes, fields) {
         return 4;
     }
     0
 }
 
-// The number of a line whose fields are not within their bounds, or that is none of the letter; else 0.
-pub fn judged_number(j: Judged) -> u64
-    ensures { result ≡ judged_number j }
+// The number of a line whose fields are not within their bounds, or that is none of the letter.
+pub fn misfit_number(m: Misfit) -> u64
+    ensures { result ≡ misfit_number m }
 {
-    match j {
-        Judged::Line { count: _, next: _ } => 0,
-        Judged::Unfit => 2,
-        Judged::Wrong => 1,
+    match m {
+        Misfit::Unfit => 2,
+        Misfit::Wrong => 1,
     }
 }
 
@@ -66,26 +62,21 @@ pub fn number_of(r: Read) -> u64
 }
 
 // The line of a letter at a place; its fields go into the rows lent.
-pub fn shaped_line(
-    s: &[u8],
-    at: usize,
-    letter: u8,
-    bounds: &[[u64; 2]],
-    sizes: &[u64],
-    codes: &[u64],
-    fields: &mut [[u64; 2]],
-) -> Read
-    requires { (length bounds.now ≤ length fields.old) × Bounded bounds.now }
-    ensures answer { (seen : ℕ) → result ≡ read_by (line_number (fixed_line (shape_of letter bounds.now sizes.now codes.now)) seen (after s.now at) (line_at letter s.now at)) (after s.now at) (line_at letter s.now at) }
-    ensures stored { fields.new ≡ stored_in fields.old (line_fields letter (line (drop at s.now))) }
+pub fn shaped_line(s: &[u8], at: usize, h: LineShape, fields: &mut [[u64; 2]]) -> Read
+    requires { length h.bounds.now ≤ length fields.old }
+    ensures answer { (seen : ℕ) → result ≡ read_by (line_number (fixed_line (shape_by h.entry)) seen (after s.now at) (line_at h.entry.letter s.now at)) (after s.now at) (line_at h.entry.letter s.now at) }
+    ensures stored { fields.new ≡ stored_in fields.old (line_fields h.entry.letter (line (drop at s.now))) }
 {
-    let j = fixed_at(s, at, letter, bounds, fields);
-    let Judged::Line { count, next } = j else {
-        return Read::Refused(judged_number(j));
+    let j = match fixed_at(s, at, h.letter, h.bounds, fields) {
+        Ok(j) => j,
+        Err(m) => return Read::Refused(misfit_number(m)),
     };
-    let n = shape_number(sizes, codes, next, &fields[0..count]);
+    let n = shape_number(h, j.next, &fields[0..j.count]);
     if n != 0 {
         return Read::Refused(n);
     }
-    Read::Line { count, next }
+    Read::Line {
+        count: j.count,
+        next: j.next,
+    }
 }

@@ -4,104 +4,75 @@ ghost use Rattle.text.specs.Text.{line, line_fields, line_at, after};
 ghost use Rattle.text.specs.Read.{stored_in};
 ghost use Rattle.linekinds.specs.Lines.{line_number};
 ghost use Rattle.linekinds.specs.Reading.{read_by};
-ghost use Rattle.plansheet.specs.Shapes.{exchange_limited, tree_line};
+ghost use Rattle.plansheet.specs.Shapes.{exchange_limited};
 ghost use Rattle.plansheet.specs.PlainTrees.{PlainShape, number_at, tree_row_by, RowStored};
 ghost use Rattle.plansheet.specs.PlanSheets.{operator_rows};
-ghost use Rattle.plansheet.specs.ReadRows.{Bounded, shape_of, tree_number, fields_row, rows_by, Left, run_from};
+ghost use Rattle.plansheet.specs.Described.{tree_by};
+ghost use Rattle.plansheet.specs.ReadRows.{tree_number, fields_row, rows_by, Left, run_from};
 
+use crate::description::TreeShape;
 use crate::operator::{MOST_CHILDREN, operator_read, quick_rows, rule_fits};
-use crate::shape::{judged_number, number_of, shape_number};
+use crate::shape::{misfit_number, number_of, shape_number};
+use exchange::kind::{REPARTITION, REPARTITION_UNKNOWN};
 use exchange::row::{CHILDREN, Row};
 use linekinds::line::Read;
 use numberlines::row::Plain;
-use text::bounds::{Judged, fixed_at};
+use text::bounds::fixed_at;
 
 // A repartition with a limit.
 fn exchange_limited(kind: u64, state: u64) -> bool
     ensures { result ≡ exchange_limited kind state }
 {
-    if state == 1 {
-        return false;
-    }
-    if kind == 3 {
-        return true;
-    }
-    kind == 4
+    state != 1 && (kind == REPARTITION || kind == REPARTITION_UNKNOWN)
 }
 
 // The number that a tree line's fields, the lines before it and the place after it give it: 2, 3, 4, 6, or 0.
-fn tree_number(
-    sizes: &[u64],
-    codes: &[u64],
-    rules: &[[u64; 2]],
-    most: usize,
-    seen: usize,
-    next: usize,
-    fields: &[[u64; 2]],
-) -> u64
+fn tree_number(h: TreeShape, seen: usize, next: usize, fields: &[[u64; 2]]) -> u64
     requires { 8 ≤ length fields.now }
-    ensures { result ≡ tree_number sizes.now codes.now rules.now most seen next fields.now }
+    ensures { result ≡ tree_number h.entry.line.sizes.now h.entry.line.codes.now h.entry.rules.now h.entry.most seen next fields.now }
 {
     let kind = fields[0][1];
     let children = fields[7][1];
     if exchange_limited(kind, fields[3][0]) {
         return 2;
     }
-    if most <= seen {
+    if h.most <= seen {
         return 3;
     }
     if MOST_CHILDREN < children {
         return 3;
     }
-    let n = shape_number(sizes, codes, next, fields);
+    let n = shape_number(h.line, next, fields);
     if n != 0 {
         return n;
     }
-    if rules.len() as u64 <= kind {
+    if h.rules.len() as u64 <= kind {
         return 4;
     }
-    if rule_fits(rules, kind, children) {
+    if rule_fits(h.rules, kind, children) {
         return 0;
     }
     6
 }
 
 // The tree line at a place, before which there are `seen`; its fields go into the rows lent.
-fn tree_line(
-    s: &[u8],
-    at: usize,
-    seen: usize,
-    letter: u8,
-    bounds: &[[u64; 2]],
-    sizes: &[u64],
-    codes: &[u64],
-    rules: &[[u64; 2]],
-    most: usize,
-    fields: &mut [[u64; 2]],
-) -> Read
-    requires { (8 ≤ length bounds.now) × (length bounds.now ≤ length fields.old) × Bounded bounds.now }
-    ensures answer { result ≡ read_by (line_number (tree_line (shape_of letter bounds.now sizes.now codes.now) rules.now most) seen (after s.now at) (line_at letter s.now at)) (after s.now at) (line_at letter s.now at) }
-    ensures stored { fields.new ≡ stored_in fields.old (line_fields letter (line (drop at s.now))) }
+fn tree_line(s: &[u8], at: usize, seen: usize, h: TreeShape, fields: &mut [[u64; 2]]) -> Read
+    requires { length h.line.bounds.now ≤ length fields.old }
+    ensures answer { result ≡ read_by (line_number (tree_by h.entry) seen (after s.now at) (line_at h.entry.line.letter s.now at)) (after s.now at) (line_at h.entry.line.letter s.now at) }
+    ensures stored { fields.new ≡ stored_in fields.old (line_fields h.entry.line.letter (line (drop at s.now))) }
 {
-    let j = fixed_at(s, at, letter, bounds, fields);
-    let Judged::Line { count, next } = j else {
-        return Read::Refused(judged_number(j));
+    let j = match fixed_at(s, at, h.line.letter, h.line.bounds, fields) {
+        Ok(j) => j,
+        Err(m) => return Read::Refused(misfit_number(m)),
     };
-    let n = tree_number(sizes, codes, rules, most, seen, next, &fields[0..count]);
+    let n = tree_number(h, seen, j.next, &fields[0..j.count]);
     if n != 0 {
         return Read::Refused(n);
     }
-    Read::Line { count, next }
-}
-
-// The mark of a limit by its field's state.
-fn limit_mark(state: u64) -> u64
-    ensures { result ≡ cond (eqb state 0) 1 0 }
-{
-    if state == 0 {
-        return 1;
+    Read::Line {
+        count: j.count,
+        next: j.next,
     }
-    0
 }
 
 // A tree line's fields as an operator's row.
@@ -109,7 +80,7 @@ fn operator_row(fields: &[[u64; 2]], id: u64) -> Row
     requires { 8 ≤ length fields.now }
     ensures { result ≡ fields_row id fields.now }
 {
-    let limited = limit_mark(fields[3][0]);
+    let limited = u64::from(fields[3][0] == 0);
     [
         id,
         fields[0][1],
@@ -146,31 +117,15 @@ fn judged_row(
     s: &[u8],
     at: usize,
     seen: usize,
-    letter: u8,
-    bounds: &[[u64; 2]],
-    sizes: &[u64],
-    codes: &[u64],
-    rules: &[[u64; 2]],
-    most: usize,
+    h: TreeShape,
     fields: &mut [[u64; 2]],
     rows: &mut [Row],
 ) -> TreeRow
-    requires { (8 ≤ length bounds.now) × (length bounds.now ≤ length fields.old) × Bounded bounds.now × (most ≤ 65536) }
-    ensures answer { result ≡ tree_row_by (number_at (tree_line (shape_of letter bounds.now sizes.now codes.now) rules.now most) seen s.now at) (after s.now at) (line_at letter s.now at) }
-    ensures stored { RowStored (tree_line (shape_of letter bounds.now sizes.now codes.now) rules.now most) seen s.now at rows.old rows.new }
+    requires { length h.line.bounds.now ≤ length fields.old }
+    ensures answer { result ≡ tree_row_by (number_at (tree_by h.entry) seen s.now at) (after s.now at) (line_at h.entry.line.letter s.now at) }
+    ensures stored { RowStored (tree_by h.entry) seen s.now at rows.old rows.new }
 {
-    let r = tree_line(
-        s,
-        at,
-        seen,
-        letter,
-        bounds,
-        sizes,
-        codes,
-        rules,
-        most,
-        &mut *fields,
-    );
+    let r = tree_line(s, at, seen, h, &mut *fields);
     let Read::Line { count, next } = r else {
         return TreeRow::Refused(number_of(r));
     };
@@ -188,22 +143,17 @@ fn tree_row(
     at: usize,
     seen: usize,
     quick: usize,
-    letter: u8,
-    bounds: &[[u64; 2]],
-    sizes: &[u64],
-    codes: &[u64],
-    rules: &[[u64; 2]],
-    most: usize,
+    h: TreeShape,
     fields: &mut [[u64; 2]],
     rows: &mut [Row],
 ) -> TreeRow
-    requires in_bounds { (8 ≤ length bounds.now) × (length bounds.now ≤ length fields.old) × Bounded bounds.now × (most ≤ 65536) }
-    requires plain_shape { (0 < quick → PlainShape letter bounds.now sizes.now codes.now) × (quick ≤ most) × (quick ≤ length rows.old) }
-    ensures answer { result ≡ tree_row_by (number_at (tree_line (shape_of letter bounds.now sizes.now codes.now) rules.now most) seen s.now at) (after s.now at) (line_at letter s.now at) }
-    ensures stored { RowStored (tree_line (shape_of letter bounds.now sizes.now codes.now) rules.now most) seen s.now at rows.old rows.new }
+    requires in_bounds { length h.line.bounds.now ≤ length fields.old }
+    requires plain_shape { (0 < quick → PlainShape h.line.letter h.line.bounds.now h.line.sizes.now h.line.codes.now) × (quick ≤ h.most) × (quick ≤ length rows.old) }
+    ensures answer { result ≡ tree_row_by (number_at (tree_by h.entry) seen s.now at) (after s.now at) (line_at h.entry.line.letter s.now at) }
+    ensures stored { RowStored (tree_by h.entry) seen s.now at rows.old rows.new }
 {
     if seen < quick {
-        let r = operator_read(s, at, seen, letter, codes, rules, &mut rows[seen]);
+        let r = operator_read(s, at, seen, h, &mut rows[seen]);
         if let Plain::Line { end } = r {
             return TreeRow::Row {
                 children: rows[seen][CHILDREN],
@@ -211,9 +161,7 @@ fn tree_row(
             };
         }
     }
-    judged_row(
-        s, at, seen, letter, bounds, sizes, codes, rules, most, fields, rows,
-    )
+    judged_row(s, at, seen, h, fields, rows)
 }
 
 // How many rows were read, the place after them and the number of the line there; or a refusal and its line.
@@ -235,40 +183,22 @@ pub fn read_tree(
     s: &[u8],
     at: usize,
     line: u64,
-    letter: u8,
-    bounds: &[[u64; 2]],
-    sizes: &[u64],
-    codes: &[u64],
-    rules: &[[u64; 2]],
-    most: usize,
+    h: TreeShape,
     fields: &mut [[u64; 2]],
     rows: &mut [Row],
 ) -> Rows
-    requires in_bounds { (8 ≤ length bounds.now) × (length bounds.now ≤ length fields.old) × Bounded bounds.now }
-    requires most_bound { (most ≤ 65536) × (at ≤ length s.now) × (line ≤ at + 1) }
-    ensures answer { result ≡ rows_by (run_from (tree_line (shape_of letter bounds.now sizes.now codes.now) rules.now most) 1 s.now line at) }
-    ensures left { Left (operator_rows 1) s.now (run_from (tree_line (shape_of letter bounds.now sizes.now codes.now) rules.now most) 1 s.now line at) rows.old rows.new }
+    requires in_bounds { length h.line.bounds.now ≤ length fields.old }
+    requires at_bound { (at ≤ length s.now) × (line ≤ at + 1) }
+    ensures answer { result ≡ rows_by (run_from (tree_by h.entry) 1 s.now line at) }
+    ensures left { Left (operator_rows 1) s.now (run_from (tree_by h.entry) 1 s.now line at) rows.old rows.new }
 {
-    let quick = quick_rows(letter, bounds, sizes, codes, most, rows.len());
+    let quick = quick_rows(h, rows.len());
     let mut p = at;
     let mut l = line;
     let mut n: usize = 0;
     let mut owed: u64 = 1;
     while owed != 0 {
-        let r = tree_row(
-            s,
-            p,
-            n,
-            quick,
-            letter,
-            bounds,
-            sizes,
-            codes,
-            rules,
-            most,
-            &mut *fields,
-            &mut *rows,
-        );
+        let r = tree_row(s, p, n, quick, h, &mut *fields, &mut *rows);
         match r {
             TreeRow::Refused(number) => return Rows::Refused { number, line: l },
             TreeRow::Row { children, next } => {

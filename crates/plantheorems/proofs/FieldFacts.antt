@@ -8,7 +8,9 @@ use mathlib.Core.Bool.{true, false}
 use lib.Dec.{ltb}
 use lib.ListN.{length, get_or, drop, length-drop}
 use borrow.Author.Tests.{ltb-false, le-ltb, le-leb, leb-true}
-use Rattle.text.specs.Text.{Field, number, empty, malformed, value_of}
+use Rattle.text.specs.declared.field.Field.{Field}
+use Rattle.text.specs.declared.field.Field.TheVariants.{Number as number, Empty as empty, Malformed as malformed}
+use Rattle.text.specs.Text.{value_of}
 use Rattle.text.specs.Bounds.{Bound, allows, fits}
 use Rattle.text.proofs.Exact.{both}
 use Rattle.text.proofs.Limits.{fits_length}

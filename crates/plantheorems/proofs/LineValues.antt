@@ -8,7 +8,9 @@ use mathlib.Core.Bool.{true, ◌&&◌}
 use lib.Dec.{leb}
 use lib.ListN.{length, get_or, length-map, replicate}
 use borrow.Author.Tests.{leb-true, le-leb}
-use Rattle.text.specs.Text.{Field, number, empty, malformed, value_of}
+use Rattle.text.specs.declared.field.Field.{Field}
+use Rattle.text.specs.declared.field.Field.TheVariants.{Number as number, Empty as empty, Malformed as malformed}
+use Rattle.text.specs.Text.{value_of}
 use Rattle.text.specs.Bounds.{allows, fits}
 use Rattle.text.proofs.Exact.{both}
 use Rattle.exchange.specs.declared.settings.Settings.{Settings}

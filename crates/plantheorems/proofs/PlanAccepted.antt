@@ -6,7 +6,8 @@ use native.Mathlib.Omega.{arith}
 use mathlib.Core.List.{List, ◌++◌}
 use mathlib.Core.Bool.{Bool, true, false, cond}
 use lib.ListN.{length, length-append}
-use Rattle.text.specs.Text.{Field, parts}
+use Rattle.text.specs.declared.field.Field.{Field}
+use Rattle.text.specs.Text.{parts}
 use Rattle.text.specs.Lines.{first_of}
 use Rattle.text.specs.Write.{line_text}
 use Rattle.exchange.specs.Trees.{Plan}

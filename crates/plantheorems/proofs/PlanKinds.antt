@@ -9,7 +9,8 @@ use mathlib.Core.Option.{Option, none}
 use lib.Dec.{eqb}
 use lib.ListN.{length, replicate}
 use borrow.Author.Tests.{eqb-true, eqb-false, eq-eqb, ne_eqb}
-use Rattle.text.specs.Text.{Field, parts, line_fields}
+use Rattle.text.specs.declared.field.Field.{Field}
+use Rattle.text.specs.Text.{parts, line_fields}
 use Rattle.text.specs.Lines.{first_of}
 use Rattle.text.specs.Write.{fields_text, line_text}
 use Rattle.text.proofs.Places.{first_cons}

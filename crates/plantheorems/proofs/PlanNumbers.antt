@@ -7,7 +7,8 @@ use mathlib.Core.List.{List}
 use mathlib.Core.Bool.{cond}
 use mathlib.Core.Option.{Option}
 use lib.ListN.{length, get_or, drop}
-use Rattle.text.specs.Text.{Field, parts}
+use Rattle.text.specs.declared.field.Field.{Field}
+use Rattle.text.specs.Text.{parts}
 use Rattle.text.specs.Lines.{first_of}
 use Rattle.linekinds.specs.Lines.{Kind, at_end}
 use Rattle.sheet.specs.Refusals.{conditions, Lowest, NoCondition, place_after}

@@ -8,7 +8,8 @@ use mathlib.Core.List.{List, [], ◌∷◌, ◌++◌, append_assoc, tail}
 use mathlib.Core.Bool.{true, false}
 use mathlib.Core.Option.{Option, some}
 use lib.ListN.{length, drop, length-append}
-use Rattle.text.specs.Text.{Field, parts, after}
+use Rattle.text.specs.declared.field.Field.{Field}
+use Rattle.text.specs.Text.{parts, after}
 use Rattle.text.specs.Lines.{first_of, next_of}
 use Rattle.text.specs.Write.{fields_text, line_text}
 use Rattle.text.proofs.RoundTrip.{first_back}

@@ -7,7 +7,8 @@ use mathlib.Core.List.{List, [], ◌∷◌, ◌++◌, map}
 use mathlib.Core.Bool.{Bool, true, false, cond}
 use mathlib.Core.Option.{Option}
 use lib.ListN.{length}
-use Rattle.text.specs.Text.{Field, parts}
+use Rattle.text.specs.declared.field.Field.{Field}
+use Rattle.text.specs.Text.{parts}
 use Rattle.text.specs.Lines.{first_of}
 use Rattle.exchange.specs.Trees.{node, none, ◌∷ᶠ◌, trees, Operator, Plan, Plans}
 use Rattle.exchange.specs.Rows.{flatten}

@@ -9,7 +9,9 @@ use mathlib.Core.Option.{Option, none, some}
 use lib.Dec.{eqb, ltb, leb}
 use lib.ListN.{length, get_or}
 use borrow.Author.Tests.{eqb-true, eqb-false, leb-true, leb-false, le-leb, lt-leb, le-ltb, not-false}
-use Rattle.text.specs.Text.{Field, number, empty, malformed, state_of, value_of}
+use Rattle.text.specs.declared.field.Field.{Field}
+use Rattle.text.specs.declared.field.Field.TheVariants.{Number as number, Empty as empty, Malformed as malformed}
+use Rattle.text.specs.Text.{state_of, value_of}
 use Rattle.text.specs.Bounds.{Bound, allows, fits}
 use Rattle.text.proofs.Exact.{both}
 use Rattle.text.proofs.Limits.{fits_length}

@@ -2,7 +2,7 @@
 -- Renders document 01, "T lines in preorder", "per child of the worked node `F,..`" and "rows `X,..`": where T lines, F lines and X rows end.
 use Rattle.std.specs.Prelude.{ℕ, suc, List, [], ◌∷◌, cond}
 use Rattle.std.proofs.Math.Option.{Option, none}
-use Rattle.text.specs.Text.{Field}
+use Rattle.text.specs.declared.field.Field.{Field}
 use Rattle.text.specs.Lines.{first_of}
 use Rattle.linekinds.specs.Lines.{Kind, fields_of, counted, one_less}
 

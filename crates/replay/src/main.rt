@@ -4,105 +4,78 @@
 // Where no case follows, it writes `?` and ends.
 #![tactic(auto)]
 
-ghost use Rattle.std.specs.Prelude.{◌≡◌, length};
+ghost use Rattle.std.specs.Prelude.{◌+◌, ◌<◌, ◌≤◌, IfSome, length};
 
-use input::{large_buffer, read_full};
+use input::{answered, buffer, print_answer, read_full};
 use std::io;
 
 // What the room is filled with before a call; no answer has it.
 const FILLED: u8 = 126;
 
-fn mebibyte() -> [u8; 1048576]
-    ensures { 1048576 ≡ length result }
+// A case's number may have one digit more than this.
+const LARGE: usize = 1048576;
+
+// How many bytes the first line has, with its LF.
+fn line_length(text: &[u8]) -> usize
+    ensures { result ≤ length text.now }
 {
-    [0; 1048576]
-}
-
-fn wide(b: u8) -> usize {
-    b as usize
-}
-
-// The place after the line's LF, or the text's length.
-fn line_end(s: &[u8], at: usize) -> usize {
-    let mut i = at;
-    while i < s.len() {
-        if s[i] == 10 {
-            return i + 1;
-        }
-        i += 1;
+    match text.iter().position(|b| *b == b'\n') {
+        Some(n) => n + 1,
+        None => text.len(),
     }
-    i
 }
 
-#[derive(Clone, Copy)]
-struct Number {
-    value: usize,
-    next: usize,
-}
-
-// The number at a place, and the place after the byte that ends it.
-fn number_at(s: &[u8], at: usize) -> Number {
+// The number at the front, and what follows the byte that ends it; nothing where it is too large.
+fn number(text: &[u8]) -> Option<(usize, &[u8])>
+    ensures { IfSome result (λ found. length found.1.now ≤ length text.now) }
+{
     let mut value: usize = 0;
-    let mut i = at;
-    while i < s.len() {
-        let d = wide(s[i]);
-        if d < 48 {
-            return Number { value, next: i + 1 };
+    for (i, b) in text.iter().enumerate() {
+        if !b.is_ascii_digit() {
+            return Some((value, &text[i + 1..]));
         }
-        if d > 57 {
-            return Number { value, next: i + 1 };
+        if value > LARGE {
+            return None;
         }
-        if value > 1048576 {
-            return Number { value, next: i };
-        }
-        value = value * 10 + (d - 48);
-        i += 1;
+        value = value * 10 + usize::from(*b - b'0');
     }
-    Number { value, next: i }
+    Some((value, &text[text.len()..]))
 }
 
-fn fill(room: &mut [u8]) {
-    let mut i: usize = 0;
-    while i < room.len() {
-        room[i] = FILLED;
-        i += 1;
-    }
+// A sheet for an entry, and how many bytes of room there are for the answer.
+#[derive(Clone, Copy)]
+struct Case<'a> {
+    entry: u8,
+    room: usize,
+    sheet: &'a [u8],
 }
 
-fn untouched(room: &[u8], from: usize) -> bool {
-    let mut i = from;
-    while i < room.len() {
-        if room[i] != FILLED {
-            return false;
-        }
-        i += 1;
-    }
-    true
+// The case whose line `entry,room,length` is at the front, and what follows it.
+fn case_of(text: &[u8]) -> Option<(Case<'_>, &[u8])>
+    ensures { IfSome result (λ found. length found.1.now < length text.now) }
+{
+    let (entry, after_entry) = text.split_first()?;
+    let (room, after_room) = number(after_entry.get(1..)?)?;
+    let (length, after_length) = number(after_room)?;
+    let (sheet, rest) = after_length.split_at_checked(length)?;
+    Some((
+        Case {
+            entry: *entry,
+            room,
+            sheet,
+        },
+        rest,
+    ))
 }
 
-fn ask(entry: u8, sheet: &[u8], room: &mut [u8]) -> u64 {
-    match entry {
-        b'k' => lochkave::lochkave_adjust_input_keys_ordering(sheet, room),
-        b'i' => lochkave::lochkave_reorder_join_keys_to_inputs(sheet, room),
-        b'x' => lochkave::lochkave_ensure_distribution(sheet, room),
-        b'w' => lochkave::lochkave_rewrite(sheet, room),
-        _ => lochkave::lochkave_decide(sheet, room),
+fn ask(case: Case<'_>, room: &mut [u8]) -> u64 {
+    match case.entry {
+        b'k' => lochkave::lochkave_adjust_input_keys_ordering(case.sheet, room),
+        b'i' => lochkave::lochkave_reorder_join_keys_to_inputs(case.sheet, room),
+        b'x' => lochkave::lochkave_ensure_distribution(case.sheet, room),
+        b'w' => lochkave::lochkave_rewrite(case.sheet, room),
+        _ => lochkave::lochkave_decide(case.sheet, room),
     }
-}
-
-// Whether two rooms are the same.
-fn same(room: &[u8], other: &[u8]) -> bool {
-    if room.len() != other.len() {
-        return false;
-    }
-    let mut i: usize = 0;
-    while i < room.len() {
-        if room[i] != other[i] {
-            return false;
-        }
-        i += 1;
-    }
-    true
 }
 
 // Decides in lent rooms, which hold sevens.
@@ -132,105 +105,51 @@ fn decide_lent(sheet: &[u8], out: &mut [u8]) -> u64 {
 }
 
 // Whether a decision in lent rooms has the result, and leaves the same in its room.
-fn lent_alike(sheet: &[u8], room: &[u8], res: u64) -> bool {
-    let mut out = large_buffer();
-    if out.len() < room.len() {
+fn lent_alike(sheet: &[u8], room: &[u8], word: u64) -> bool {
+    let mut out = buffer::<65536>();
+    let Some(other) = out.get_mut(..room.len()) else {
         return false;
-    }
-    let n = room.len();
-    let other = &mut out[0..n];
-    fill(&mut *other);
-    if decide_lent(sheet, &mut *other) != res {
-        return false;
-    }
-    same(room, &*other)
+    };
+    other.fill(FILLED);
+    decide_lent(sheet, &mut *other) == word && *room == *other
 }
 
-fn put(rt: &impl Print, bytes: &[u8], from: usize, to: usize) -> io::Result<()> {
-    if to <= bytes.len() {
-        if from <= to {
-            rt.write_all(&bytes[from..to])?;
-        }
-    }
-    Ok(())
-}
-
-fn put_refusal(rt: &impl Print, number: u64, line: u64) -> io::Result<()> {
-    println!(rt; "e,{number},{line}")
-}
-
-// How many bytes of the room the answer has.
-fn written(res: u64) -> usize {
-    if res < 4294967296 {
-        return res as usize;
-    }
-    0
-}
-
-fn replay(rt: &impl Print, entry: u8, sheet: &[u8], room: &mut [u8]) -> io::Result<()> {
-    fill(room);
-    let result = ask(entry, sheet, room);
-    if result / 4294967296 > 0 {
-        put_refusal(rt, result / 4294967296, result % 4294967296)?;
-    }
-    put(rt, room, 0, written(result))?;
-    if !untouched(room, written(result)) {
+fn replay(rt: &impl Print, case: Case<'_>, room: &mut [u8]) -> io::Result<()> {
+    room.fill(FILLED);
+    let word = ask(case, room);
+    let answer = answered(word);
+    print_answer(rt, answer, room)?;
+    let mut beyond = room.iter().skip(answer.unwrap_or(0));
+    if !beyond.all(|b| *b == FILLED) {
         println!(rt; "touched")?;
     }
-    if entry == b'd' {
-        if !lent_alike(sheet, room, result) {
-            println!(rt; "lent")?;
-        }
+    if case.entry == b'd' && !lent_alike(case.sheet, room, word) {
+        println!(rt; "lent")?;
     }
     Ok(())
-}
-
-// The case whose line `entry,room,length` is at `at`: the place after it, or 0 where there is none.
-fn case_at(rt: &impl Print, s: &[u8], at: usize, room: &mut [u8]) -> io::Result<usize> {
-    if s.len() < 2 {
-        return Ok(0);
-    }
-    if s.len() - 2 < at {
-        return Ok(0);
-    }
-    let entry = s[at];
-    let first = number_at(s, at + 2);
-    let second = number_at(s, first.next);
-    let from = second.next;
-    let most = first.value;
-    if s.len() < from {
-        return Ok(0);
-    }
-    if s.len() - from < second.value {
-        return Ok(0);
-    }
-    if room.len() < most {
-        return Ok(0);
-    }
-    let to = from + second.value;
-    replay(rt, entry, &s[from..to], &mut room[0..most])?;
-    Ok(to)
 }
 
 // Every case of the text.
-fn run(rt: &impl Print, s: &[u8], room: &mut [u8]) -> io::Result<()> {
-    let mut at: usize = 0;
-    while at < s.len() {
-        let head = line_end(s, at);
-        put(rt, s, at, head)?;
-        let next = case_at(rt, s, head, room)?;
-        if next <= at {
-            println!(rt; "?")?;
-            return Ok(());
-        }
-        at = next;
+fn run(rt: &impl Print, text: &[u8], room: &mut [u8]) -> io::Result<()> {
+    let mut rest = text;
+    while !rest.is_empty() {
+        let (head, after_head) = rest.split_at(line_length(rest));
+        rt.write_all(head)?;
+        let Some((case, after_case)) = case_of(after_head) else {
+            return println!(rt; "?");
+        };
+        let Some(lent) = room.get_mut(..case.room) else {
+            return println!(rt; "?");
+        };
+        replay(rt, case, lent)?;
+        rest = after_case;
     }
     Ok(())
 }
 
 fn main(rt: HostRuntime) -> io::Result<()> {
-    let mut input = mebibyte();
-    let mut room = large_buffer();
+    let mut input = buffer::<1048576>();
+    let mut room = buffer::<65536>();
     let n = read_full(&mut rt.stdin(), &mut input)?;
     run(&rt, &input[..n], &mut room)
 }

@@ -8,7 +8,7 @@ use mathlib.Core.Bool.{true, false}
 use mathlib.Core.Option.{Option, none, some}
 use lib.ListN.{length, length-map, length-append}
 use borrow.Author.Tests.{le-leb}
-use Rattle.text.specs.Text.{number}
+use Rattle.text.specs.declared.field.Field.TheVariants.{Number as number}
 use Rattle.text.specs.Bounds.{Bound, allows_all}
 use Rattle.text.proofs.Lengths.{line_bound, all_short}
 use Rattle.keys.specs.Expressions.{Expression, same_expr}

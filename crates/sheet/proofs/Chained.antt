@@ -8,7 +8,7 @@ use mathlib.Core.Option.{Option, none, some}
 use lib.Dec.{eqb}
 use lib.ListN.{drop, replicate}
 use borrow.Author.Tests.{ne_eqb}
-use Rattle.text.specs.Text.{Field}
+use Rattle.text.specs.declared.field.Field.{Field}
 use Rattle.text.specs.Lines.{first_of, next_of}
 use Rattle.linekinds.specs.Lines.{Kind, Stage, Run, read, refused, before, behind, onward, line_number, fields_of, rows_of, chain}
 use Rattle.sheet.specs.KeySheets.{Reading, turned, ended, head_of}

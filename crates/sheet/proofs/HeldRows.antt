@@ -9,7 +9,8 @@ use native.Mathlib.Omega.{arith}
 use borrow.Author.Tests.{ne_eqb}
 use lib.Dec.{eqb}
 use lib.ListN.{length, replicate}
-use Rattle.text.specs.Text.{Field, parts}
+use Rattle.text.specs.declared.field.Field.{Field}
+use Rattle.text.specs.Text.{parts}
 use Rattle.text.specs.Lines.{first_of, next_of}
 use Rattle.linekinds.specs.Lines.{Kind, Run, read, refused, before, line_number, fields_of}
 use Rattle.linekinds.specs.KeyLines.{at, expr_line}

@@ -10,7 +10,8 @@ use borrow.Author.Tests.{ne_eqb}
 use lib.Dec.{eqb}
 use lib.ListN.{length, get_or, drop, length-map, drop_of_length-le}
 use lib.Seq.{get_or-drop, drop-cons, drop-drop}
-use Rattle.text.specs.Text.{Field, value_of}
+use Rattle.text.specs.declared.field.Field.{Field}
+use Rattle.text.specs.Text.{value_of}
 use Rattle.keys.specs.Expressions.{Expression, expression, expressions, rules}
 use Rattle.keys.specs.Reorder.{Rule}
 use Rattle.keys.specs.InputValues as K

@@ -8,7 +8,8 @@ use native.Mathlib.Omega.{arith}
 use borrow.Author.Tests.{eqb-true}
 use lib.Dec.{eqb}
 use lib.ListN.{length, get_or, length-map}
-use Rattle.text.specs.Text.{Field, value_of, parts}
+use Rattle.text.specs.declared.field.Field.{Field}
+use Rattle.text.specs.Text.{value_of, parts}
 use Rattle.text.specs.Write.{line_text}
 use Rattle.keys.specs.Expressions.{expressions}
 use Rattle.linekinds.specs.Lines.{read, at_end, whole_entries}

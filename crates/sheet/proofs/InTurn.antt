@@ -5,7 +5,8 @@ use mathlib.Core.List.{List, [], ◌∷◌, ◌++◌}
 use mathlib.Core.Bool.{Bool, true, false, ◌&&◌}
 use mathlib.Core.Option.{Option}
 use lib.Dec.{eqb, leb}
-use Rattle.text.specs.Text.{Field, most}
+use Rattle.text.specs.declared.field.Field.{Field}
+use Rattle.text.specs.Text.{most}
 use Rattle.text.specs.Bounds.{Bound}
 use Rattle.text.specs.Write.{line_text}
 use Rattle.linekinds.specs.Lines.{Kind, fields_fit, too_many_entries}

@@ -7,7 +7,9 @@ use mathlib.Core.Bool.{Bool, true, false, ◌||◌}
 use lib.Dec.{ltb, leb}
 use lib.ListN.{length, take, drop, length-map, length-take, length-drop, replicate}
 use borrow.Author.Tests.{eqb-true, leb-true, not-false, ltb-false}
-use Rattle.text.specs.Text.{Field, number, value_of}
+use Rattle.text.specs.declared.field.Field.{Field}
+use Rattle.text.specs.declared.field.Field.TheVariants.{Number as number}
+use Rattle.text.specs.Text.{value_of}
 use Rattle.text.specs.Bounds.{fits}
 use Rattle.text.specs.Write.{line_text}
 use Rattle.text.proofs.Exact.{both}

@@ -8,7 +8,9 @@ use mathlib.Core.Option.{Option, none, some}
 use lib.Dec.{eqb, ltb}
 use lib.ListN.{length, get_or, length-map, replicate}
 use borrow.Author.Tests.{eqb-true, eq-eqb, leb-true, le-leb, ltb-false, le-ltb, not-false}
-use Rattle.text.specs.Text.{Field, number, empty, malformed, value_of}
+use Rattle.text.specs.declared.field.Field.{Field}
+use Rattle.text.specs.declared.field.Field.TheVariants.{Number as number, Empty as empty, Malformed as malformed}
+use Rattle.text.specs.Text.{value_of}
 use Rattle.text.specs.Bounds.{allows, allows_all, fits}
 use Rattle.text.proofs.Exact.{both}
 use Rattle.keys.specs.Reorder.{Rule}

@@ -10,7 +10,8 @@ use lib.Dec.{eqb, leb}
 use lib.ListN.{length, take, length-map, replicate}
 use lib.Seq.{get_or-take}
 use borrow.Author.Tests.{eqb-true, eq-eqb, leb-true, le-leb, le-ltb, ltb-false, not-false}
-use Rattle.text.specs.Text.{Field, number}
+use Rattle.text.specs.declared.field.Field.{Field}
+use Rattle.text.specs.declared.field.Field.TheVariants.{Number as number}
 use Rattle.text.specs.Bounds.{allows_all, fits}
 use Rattle.text.proofs.Exact.{both}
 use Rattle.keys.specs.Reorder.{Rule}

@@ -8,7 +8,7 @@ use mathlib.Core.Bool.{Bool, true, false, cond, not, ◌||◌}
 use mathlib.Core.Option.{Option, none, some}
 use lib.Dec.{ltb}
 use lib.ListN.{get_or}
-use Rattle.text.specs.Text.{Field}
+use Rattle.text.specs.declared.field.Field.{Field}
 use Rattle.linekinds.specs.Lines.{Kind, most_bytes, fields_fit, too_many_entries, line_number}
 use Rattle.sheet.specs.Refusals.{conditions, Lowest, NoCondition}
 

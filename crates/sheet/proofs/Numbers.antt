@@ -9,7 +9,9 @@ use lib.Dec.{eqb}
 use lib.ListN.{length, take, drop, get_or, take-append-drop, drop_of_length-le}
 use lib.Seq.{drop-cons}
 use borrow.Author.Tests.{eqb-true, eqb-false, not-true, not-false}
-use Rattle.text.specs.Text.{Field, number, empty, malformed, value_of}
+use Rattle.text.specs.declared.field.Field.{Field}
+use Rattle.text.specs.declared.field.Field.TheVariants.{Number as number, Empty as empty, Malformed as malformed}
+use Rattle.text.specs.Text.{value_of}
 use Rattle.text.specs.Bounds.{Bound, allows, allows_all, fits}
 use Rattle.text.proofs.Exact.{both}
 use Rattle.keys.specs.Expressions.{Expression}

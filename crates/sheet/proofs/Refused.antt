@@ -9,7 +9,8 @@ use mathlib.Core.Option.{Option}
 use lib.Dec.{eqb}
 use lib.ListN.{get_or}
 use borrow.Author.Tests.{eqb-true, eqb-false, eq-eqb}
-use Rattle.text.specs.Text.{Field, parts}
+use Rattle.text.specs.declared.field.Field.{Field}
+use Rattle.text.specs.Text.{parts}
 use Rattle.text.specs.Lines.{first_of, next_of}
 use Rattle.keys.specs.Adjust.{KeySheet}
 use Rattle.keys.specs.Inputs.{JoinSheet}

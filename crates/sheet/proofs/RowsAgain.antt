@@ -9,7 +9,9 @@ use mathlib.Core.Option.{Option, none, some}
 use lib.Dec.{eqb, ltb, leb}
 use lib.ListN.{length, take, drop, length-append, take-append-drop}
 use borrow.Author.Tests.{eqb-true, ltb-false, le-ltb, le-leb, leb-true}
-use Rattle.text.specs.Text.{Field, number, empty, malformed, most, parts, after}
+use Rattle.text.specs.declared.field.Field.{Field}
+use Rattle.text.specs.declared.field.Field.TheVariants.{Number as number, Empty as empty, Malformed as malformed}
+use Rattle.text.specs.Text.{most, parts, after}
 use Rattle.text.specs.Lines.{first_of, next_of}
 use Rattle.text.specs.Bounds.{Bound, widest, allows, allows_all, fits}
 use Rattle.text.specs.Write.{fields_text, line_text}

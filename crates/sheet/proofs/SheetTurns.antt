@@ -10,7 +10,8 @@ use borrow.Author.Tests.{ne_eqb, eqb-true, eqb-false, ltb-true, ltb-false}
 use lib.Dec.{eqb, ltb}
 use lib.ListN.{length, get_or, take, drop, set, length-set, length-append, get_or-append}
 use lib.Seq.{get_or-append_seam, get_or-set_same, get_or-set_other}
-use Rattle.text.specs.Text.{Field, line_at, after, parts}
+use Rattle.text.specs.declared.field.Field.{Field}
+use Rattle.text.specs.Text.{line_at, after, parts}
 use Rattle.text.specs.Lines.{first_of, next_of}
 use Rattle.text.proofs.Places.{bridge, after_next, after_lines}
 use Rattle.linekinds.specs.Lines.{Run, read, refused, before, behind, line_number}
@@ -20,12 +21,13 @@ use Rattle.linekinds.specs.ListLines.{line_letter, line_codes, line_kind, packed
 use Rattle.linekinds.specs.declared.kind.Codes.TheVariants as C
 use Rattle.linekinds.specs.declared.lists.SheetKind.{SheetKind}
 use Rattle.linekinds.specs.declared.lists.SheetKind.TheVariants.{Key, Join}
-use Rattle.linekinds.specs.declared.lists.Listed.{Listed}
-use Rattle.linekinds.specs.declared.lists.Listed.TheVariants.{Packed, Turned}
+use Rattle.std.specs.Prelude.{Result, Ok, Err}
+use Rattle.linekinds.specs.declared.lists.Packed.{Packed}
+use Rattle.refusals.specs.declared.Refusal.{Refusal as Reason}
+use Rattle.refusals.specs.Refusals.{refusal_of}
 use Rattle.linekinds.proofs.ReadLists.{good_small, good_fit, good_entries}
 use Rattle.sheet.specs.Held.{held_at}
-use Rattle.sheet.specs.SheetLines.{in_turn, line_kinds, lines_from, lines_by, HeldLine, HeldLines, Full, HeadKept}
-use Rattle.sheet.specs.declared.read.Lines.TheVariants as L
+use Rattle.sheet.specs.SheetLines.{in_turn, line_kinds, lines_from, refused_on, lines_by, HeldLine, HeldLines, Full, HeadKept}
 
 -- ---- the letter of a line's kind
 
@@ -75,29 +77,35 @@ module _ (s : List ℕ) (k : SheetKind) (i p : ℕ) where
   fits_room : (count : ℕ) (list ns : List ℕ) → length list ≡ 64 → count ≡ length ns → take count list ≡ ns → count ≤ 64
   fits_room count list ns h c e = omega (arith, ap length e, lib.ListN.length-take count list)
 
+  -- the list of a line, and its refusal
+  abbrev listed : Option (List Field) → Packed
+  listed x = record { count = length (packed_list (line_codes k i) x); next = after s p }
+
   taken_at :
-      (x : Option (List Field)) (t : Bool) (count next : ℕ) (list : List ℕ) → line_at (line_letter k i) s p ≡ x → eqb (N x) 0 ≡ t →
-      Packed count next ≡ cond t (Packed (length (packed_list (line_codes k i) x)) (after s p)) (Turned (N x)) → length list ≡ 64 →
-      (N x ≡ 0 → take (length (packed_list (line_codes k i) x)) list ≡ packed_list (line_codes k i) x) → Taken s k i p count next list
+      (x : Option (List Field)) (t : Bool) (r : Packed) (list : List ℕ) → line_at (line_letter k i) s p ≡ x → eqb (N x) 0 ≡ t →
+      Ok r ≡ cond t (Ok (listed x)) (Err (refusal_of (N x))) → length list ≡ 64 →
+      (N x ≡ 0 → take (length (packed_list (line_codes k i) x)) list ≡ packed_list (line_codes k i) x) → Taken s k i p r.count r.next list
   unfolding line_number
-  taken_at none true count next list a t e f h = let z : ◌≡◌ {A = ℕ} 1 0 = eqb-true 1 0 t in absurd (omega arith)
-  taken_at (some fs) true count next list a t e f h =
+  taken_at none true r list a t e f h = let z : ◌≡◌ {A = ℕ} 1 0 = eqb-true 1 0 t in absurd (omega arith)
+  taken_at (some fs) true r list a t e f h =
       let z : N (some fs) ≡ 0 = eqb-true (N (some fs)) 0 t in
-      let c : count ≡ length (packed_by (line_codes k i) (values fs)) = cc in
-      let g : take count list ≡ packed_by (line_codes k i) (values fs) = rw c (h z) in
-      record { fs = fs; is = a; zero = z; goes = cc; counts = c; room = fits_room count list _ f c g; held = g }
-  taken_at x false count next list a t e f h = let z : ◌≡◌ {A = ℕ} 0 1 = cc in absurd (omega arith)
+      let q : r ≡ listed (some fs) = cc in
+      let c : r.count ≡ length (packed_by (line_codes k i) (values fs)) = ap (λ (x : Packed). x.count) q in
+      let g : take r.count list ≡ packed_by (line_codes k i) (values fs) = rw c (h z) in
+      record { fs = fs; is = a; zero = z; goes = ap (λ (x : Packed). x.next) q; counts = c; room = fits_room r.count list _ f c g; held = g }
+  taken_at x false r list a t e f h = let z : ◌≡◌ {A = ℕ} 0 1 = cc in absurd (omega arith)
 
-  pub taken : (r : Listed) (count next : ℕ) (list : List ℕ) → ListRead s p k i r list → r ≡ Packed count next → Taken s k i p count next list
-  taken r count next list h e = taken_at (line_at (line_letter k i) s p) _ count next list refl refl (sym e ∙ h.answer) h.full h.held
+  pub taken : (x : Result Packed Reason) (r : Packed) (list : List ℕ) → ListRead s p k i x list → x ≡ Ok r → Taken s k i p r.count r.next list
+  taken x r list h e = taken_at (line_at (line_letter k i) s p) _ r list refl refl (sym e ∙ h.answer) h.full h.held
 
-  refusal_at : (x : Option (List Field)) (t : Bool) (n : ℕ) → eqb (N x) 0 ≡ t →
-      Turned n ≡ cond t (Packed (length (packed_list (line_codes k i) x)) (after s p)) (Turned (N x)) → (N x ≡ n) × (n ≡ 0 → ⊥)
-  refusal_at x true n t e = let z : ◌≡◌ {A = ℕ} 0 1 = cc in absurd (omega arith)
-  refusal_at x false n t e = let a : N x ≡ n = cc in (a, λ z. eqb-false (N x) 0 t (a ∙ z))
+  refusal_at : (x : Option (List Field)) (t : Bool) (w : Reason) → eqb (N x) 0 ≡ t →
+      Err w ≡ cond t (Ok (listed x)) (Err (refusal_of (N x))) → (w ≡ refusal_of (N x)) × (N x ≡ 0 → ⊥)
+  refusal_at x true w t e = let z : ◌≡◌ {A = ℕ} 0 1 = cc in absurd (omega arith)
+  refusal_at x false w t e = (cc, eqb-false (N x) 0 t)
 
-  pub refusal : (r : Listed) (n : ℕ) (list : List ℕ) → ListRead s p k i r list → r ≡ Turned n → Refusal s k i p n
-  refusal r n list h e = let q = refusal_at (line_at (line_letter k i) s p) _ n refl (sym e ∙ h.answer) in record { is = q.0; wrong = q.1 }
+  -- the number of a line that was turned back, and what it was turned back for
+  pub refusal : (x : Result Packed Reason) (w : Reason) (list : List ℕ) → ListRead s p k i x list → x ≡ Err w → Refusal s k i p (N (line_at (line_letter k i) s p)) × (w ≡ refusal_of (N (line_at (line_letter k i) s p)))
+  refusal x w list h e = let q = refusal_at (line_at (line_letter k i) s p) _ w refl (sym e ∙ h.answer) in (record { is = refl; wrong = q.1 }, q.0)
 
   -- ---- and the lines from there on
 
@@ -216,7 +224,7 @@ module _ (s : List ℕ) (k : SheetKind) (n : ℕ) where
         let z : lines_from s k i (n - i) p ≡ refused m (suc i) = rw (left e) (line_refused s k i p m (n - suc i) (suc i) r) in
         rw h.line (sym (ap (behind h.rows) z) ∙ h.answer)
 
-    pub head_refused : (m : ℕ) → i < n → Refusal s k i p m → L.Refused m l ≡ lines_by whole
+    pub head_refused : (m : ℕ) → i < n → Refusal s k i p m → Err (refused_on m l) ≡ lines_by whole
     head_refused m e r = ap lines_by (whole_refused m e r)
 
     pub held_refused : (m : ℕ) → i < n → Refusal s k i p m → (lists' : List (List ℕ)) (counts' : List ℕ) → HeldLines s k 1 whole lists' counts'
@@ -259,7 +267,7 @@ module _ (s : List ℕ) (k : SheetKind) (n : ℕ) where
         let z : n - i ≡ 0 = omega arith in
         rw h.line (ap (λ (rs : List (List Field)). read rs (parts 10 (drop p s)) (suc i) p) (sym (append-nil h.rows)) ∙ rw z at h.answer)
 
-    pub head_done : n ≤ i → L.Read p l ≡ lines_by whole
+    pub head_done : n ≤ i → Ok (record { next = p; line = l }) ≡ lines_by whole
     head_done e = ap lines_by (whole_done e)
 
     pub held_done : n ≤ i → HeldLines s k 1 whole lists counts

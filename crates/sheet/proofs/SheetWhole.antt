@@ -10,7 +10,8 @@ use borrow.Author.Tests.{ltb-false, eqb-false}
 use lib.Dec.{eqb, ltb}
 use lib.ListN.{length, get_or, drop, length-drop, length-map, drop_of_length-le}
 use lib.Seq.{get_or-take}
-use Rattle.text.specs.Text.{Field, parts, after, state_of, value_of, greatest}
+use Rattle.text.specs.declared.field.Field.{Field}
+use Rattle.text.specs.Text.{parts, after, state_of, value_of, greatest}
 use Rattle.text.specs.Lines.{first_of}
 use Rattle.text.proofs.Places.{bridge}
 use Rattle.linekinds.specs.Lines.{Run, read, refused, before, line_number, fields_of, at_end}
@@ -23,8 +24,10 @@ use Rattle.linekinds.specs.declared.lists.SheetKind.TheVariants.{Key, Join}
 use Rattle.linekinds.proofs.LineNumbers.{line_number_lem, at_value}
 use Rattle.linekinds.proofs.ReadLists.{good_fit}
 use Rattle.sheet.specs.Held.{held_at}
-use Rattle.sheet.specs.SheetLines.{most_lists, in_turn, line_kinds, line_count, count_by, FewChildren, lines_from, lines_by, whole_lines, ended_by, HeldLine, HeldLines, HeadKept}
-use Rattle.sheet.specs.declared.read.Lines.TheVariants as L
+use Rattle.sheet.specs.SheetLines.{refused_on, most_lists, in_turn, line_kinds, line_count, count_by, FewChildren, lines_from, lines_by, whole_lines, ended_by, HeldLine, HeldLines, HeadKept}
+use Rattle.std.specs.Prelude.{Ok, Err}
+use Rattle.refusals.specs.declared.Refused.{Refused}
+use Rattle.sheet.specs.declared.read.LinesRead.{LinesRead}
 use Rattle.sheet.proofs.Accepted.{nothing_follows}
 use Rattle.sheet.proofs.SheetTurns.{Taken, Refusal, line_read_lem, line_refused}
 
@@ -128,18 +131,19 @@ module _ (s : List ℕ) (p : ℕ) where
       go false e = refl
 
 module _ (s : List ℕ) (k : SheetKind) (lists : List (List ℕ)) (counts : List ℕ) where
-  pub end_refused : (run : Run) (n l : ℕ) → L.Refused n l ≡ lines_by run → L.Refused n l ≡ ended_by run
-  end_refused (read rs ls m p) n l e = let z : ◌≡◌ {A = ℕ} 0 1 = cc in absurd (omega arith)
-  end_refused (refused m q) n l e = e
+  pub end_refused : (run : Run) (r : Refused) → Err r ≡ lines_by run → Err r ≡ ended_by run
+  end_refused (read rs ls m p) r e = let z : ◌≡◌ {A = ℕ} 0 1 = cc in absurd (omega arith)
+  end_refused (refused m q) r e = e
 
-  module _ (next line : ℕ) where
-    pub end_extra : (run : Run) → L.Read next line ≡ lines_by run → HeldLines s k 0 run lists counts → next < length s → L.Refused 1 line ≡ ended_by run
+  module _ (t : LinesRead) where
+    pub end_extra : (run : Run) → Ok t ≡ lines_by run → HeldLines s k 0 run lists counts → t.next < length s → Err (refused_on 1 t.line) ≡ ended_by run
     end_extra (read rs ls l p) e h g =
-        let a : next ≡ p = cc in
-        let b : line ≡ l = cc in
+        let q : t ≡ record { next = p; line = l } = cc in
+        let a : t.next ≡ p = ap (λ (x : LinesRead). x.next) q in
+        let b : t.line ≡ l = ap (λ (x : LinesRead). x.line) q in
         rw (h.0, more_here s p (rw a at g), b)
     end_extra (refused m q) e h g = let z : ◌≡◌ {A = ℕ} 0 1 = cc in absurd (omega arith)
 
-    pub end_none : (run : Run) → L.Read next line ≡ lines_by run → HeldLines s k 0 run lists counts → length s ≤ next → L.Read next line ≡ ended_by run
-    end_none (read rs ls l p) e h g = let a : next ≡ p = cc in rw (h.0, end_here s p (rw a at g)) e
+    pub end_none : (run : Run) → Ok t ≡ lines_by run → HeldLines s k 0 run lists counts → length s ≤ t.next → Ok t ≡ ended_by run
+    end_none (read rs ls l p) e h g = let q : t ≡ record { next = p; line = l } = cc in let a : t.next ≡ p = ap (λ (x : LinesRead). x.next) q in rw (h.0, end_here s p (rw a at g)) e
     end_none (refused m q) e h g = let z : ◌≡◌ {A = ℕ} 0 1 = cc in absurd (omega arith)

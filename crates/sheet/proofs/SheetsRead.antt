@@ -9,7 +9,8 @@ use borrow.Author.Tests.{eqb-true, ne_eqb, lt-leb}
 use lib.Dec.{eqb, leb}
 use lib.ListN.{length, get_or, take, drop, length-map}
 use lib.Seq.{get_or-take}
-use Rattle.text.specs.Text.{Field, parts, value_of}
+use Rattle.text.specs.declared.field.Field.{Field}
+use Rattle.text.specs.Text.{parts, value_of}
 use Rattle.text.specs.Lines.{first_of}
 use Rattle.keys.specs.Expressions.{expression, expressions, rule, rules}
 use Rattle.linekinds.specs.Lines.{Run, read, refused, fields_of, at_end}
@@ -22,10 +23,11 @@ use Rattle.linekinds.specs.declared.lists.SheetKind.{SheetKind}
 use Rattle.linekinds.specs.declared.lists.SheetKind.TheVariants.{Key, Join}
 use Rattle.sheet.specs.KeySheets.{Reading, sheet, turned, ended, mark, row, head_of, pairs_serve, serves, unused_keys, key_lists_fit, join_lists_fit, key_whole, join_whole, read_key_sheet, read_join_sheet}
 use Rattle.sheet.specs.Held.{held_at, pair_rows, child_count, held_key_sheet, held_join_sheet, KeyHeld, JoinHeld, held_text}
-use Rattle.sheet.specs.SheetLines.{whole_lines, ended_by, HeldLine, HeldLines}
+use Rattle.sheet.specs.SheetLines.{whole_lines, refused_on, lines_by, ended_by, HeldLine, HeldLines}
 use Rattle.sheet.specs.ListFits.{direction_counts, key_counts_fit, input_counts, join_counts_fit, sheet_by, KeyRead, JoinRead}
-use Rattle.sheet.specs.declared.read.Lines.TheVariants as L
-use Rattle.sheet.specs.declared.sheets.Sheet.TheVariants.{Held, Refused}
+use Rattle.std.specs.Prelude.{Ok, Err}
+use Rattle.refusals.specs.declared.Refused.{Refused}
+use Rattle.sheet.specs.declared.read.LinesRead.{LinesRead}
 use Rattle.sheet.proofs.Chained.{whole_rows}
 use Rattle.sheet.proofs.KeyAccepted.{stages_of_key, stages_of_input, key_in_turn, join_in_turn}
 use Rattle.sheet.proofs.LegalSheets.{key_read_legal, join_read_legal}
@@ -51,32 +53,39 @@ pub record AllRead (run : Run) (next line : ℕ) : Type 0 where
   pub is : run ≡ read rows lines line next
   pub end : at_end lines ≡ true
 
-all_at_lem : (t : Bool) (rs : List (List Field)) (ls : List (List ℕ)) (l p next line : ℕ) → at_end ls ≡ t → L.Read next line ≡ cond t (L.Read p l) (L.Refused 1 l) → AllRead (read rs ls l p) next line
-all_at_lem true rs ls l p next line t e = let a : p ≡ next = cc in let b : l ≡ line = cc in record { rows = rs; lines = ls; is = rw (a, b); end = t }
-all_at_lem false rs ls l p next line t e = let z : ◌≡◌ {A = ℕ} 0 1 = cc in absurd (omega arith)
+all_at_lem : (t : Bool) (rs : List (List Field)) (ls : List (List ℕ)) (l p : ℕ) (r : LinesRead) → at_end ls ≡ t → Ok r ≡ cond t (lines_by (read rs ls l p)) (Err (refused_on 1 l)) → AllRead (read rs ls l p) r.next r.line
+all_at_lem true rs ls l p r t e = let q : record { next = p; line = l } ≡ r = cc in let a : p ≡ r.next = ap (λ (x : LinesRead). x.next) q in let b : l ≡ r.line = ap (λ (x : LinesRead). x.line) q in record { rows = rs; lines = ls; is = rw (a, b); end = t }
+all_at_lem false rs ls l p r t e = let z : ◌≡◌ {A = ℕ} 0 1 = cc in absurd (omega arith)
 
-all_read : (run : Run) (next line : ℕ) → L.Read next line ≡ ended_by run → AllRead run next line
-all_read (refused n l) next line e = let z : ◌≡◌ {A = ℕ} 0 1 = cc in absurd (omega arith)
-all_read (read rs ls l p) next line e = all_at_lem (at_end ls) rs ls l p next line refl e
+all_read : (run : Run) (r : LinesRead) → Ok r ≡ ended_by run → AllRead run r.next r.line
+all_read (refused n l) r e = let z : ◌≡◌ {A = ℕ} 0 1 = cc in absurd (omega arith)
+all_read (read rs ls l p) r e = all_at_lem (at_end ls) rs ls l p r refl e
+
+-- a sheet that is turned back, and what for
+pub record Back {A : Type 0} (x : Reading A) (r : Refused) : Type 0 where
+  pub number : ℕ
+  pub line : ℕ
+  pub is : x ≡ turned number line
+  pub refusal : r ≡ refused_on number line
 
 module _ {A : Type 0} (whole : List (List Field) → Reading A) where
-  turned_at : (t : Bool) (rs : List (List Field)) (l p n line : ℕ) → L.Refused n line ≡ cond t (L.Read p l) (L.Refused 1 l) → cond t (whole rs) (turned 1 l) ≡ turned n line
-  turned_at true rs l p n line e = let z : ◌≡◌ {A = ℕ} 0 1 = cc in absurd (omega arith)
-  turned_at false rs l p n line e = let a : 1 ≡ n = cc in let b : l ≡ line = cc in rw (a, b)
+  turned_at : (t : Bool) (rs : List (List Field)) (ls : List (List ℕ)) (l p : ℕ) (r : Refused) → Err r ≡ cond t (lines_by (read rs ls l p)) (Err (refused_on 1 l)) → Back (cond t (whole rs) (turned 1 l)) r
+  turned_at true rs ls l p r e = let z : ◌≡◌ {A = ℕ} 0 1 = cc in absurd (omega arith)
+  turned_at false rs ls l p r e = record { number = 1; line = l; is = refl; refusal = cc }
 
-  ended_turned : (run : Run) (n line : ℕ) → L.Refused n line ≡ ended_by run → ended whole run ≡ turned n line
-  ended_turned (refused m l) n line e = let a : m ≡ n = cc in let b : l ≡ line = cc in rw (a, b)
-  ended_turned (read rs ls l p) n line e = turned_at (at_end ls) rs l p n line e
+  ended_turned : (run : Run) (r : Refused) → Err r ≡ ended_by run → Back (ended whole run) r
+  ended_turned (refused m l) r e = record { number = m; line = l; is = refl; refusal = cc }
+  ended_turned (read rs ls l p) r e = turned_at (at_end ls) rs ls l p r e
 
   ended_all : (run : Run) (next line : ℕ) (a : AllRead run next line) → ended whole run ≡ whole a.rows
   ended_all run next line a = rw (a.is, a.end)
 
-module _ (s : List ℕ) (n line : ℕ) where
-  pub key_turned : L.Refused n line ≡ ended_by (whole_lines Key s) → read_key_sheet s ≡ turned n line
-  key_turned e = key_whole_lem s ∙ ended_turned (whole_rows stages_of_key key_whole) (whole_lines Key s) n line e
+module _ (s : List ℕ) (r : Refused) where
+  pub key_turned : Err r ≡ ended_by (whole_lines Key s) → Back (read_key_sheet s) r
+  key_turned e = rw (key_whole_lem s) (ended_turned (whole_rows stages_of_key key_whole) (whole_lines Key s) r e)
 
-  pub join_turned : L.Refused n line ≡ ended_by (whole_lines Join s) → read_join_sheet s ≡ turned n line
-  join_turned e = join_whole_lem s ∙ ended_turned (whole_rows stages_of_input join_whole) (whole_lines Join s) n line e
+  pub join_turned : Err r ≡ ended_by (whole_lines Join s) → Back (read_join_sheet s) r
+  join_turned e = rw (join_whole_lem s) (ended_turned (whole_rows stages_of_input join_whole) (whole_lines Join s) r e)
 
 -- ---- lists by their counts
 
@@ -170,16 +179,16 @@ module _ (k : SheetKind) (lists : List (List ℕ)) (counts : List ℕ) (rs : Lis
   head_long : 0 < length rs → packed_by (line_codes k 0) (values (get_or rs 0 [])) ≡ values (get_or rs 0 []) → length (held_at lists counts 0) ≡ length (get_or rs 0 [])
   head_long h e = ap length ((line k lists counts rs held 0 h).is ∙ e) ∙ length-map (get_or rs 0 []) value_of
 
-module _ (s : List ℕ) (lists : List (List ℕ)) (counts : List ℕ) (next line' : ℕ) where
-  module _ (e : L.Read next line' ≡ ended_by (whole_lines Key s)) (h : HeldLines s Key 0 (whole_lines Key s) lists counts) where
-    key_all : AllRead (whole_lines Key s) next line'
-    key_all = all_read (whole_lines Key s) next line' e
+module _ (s : List ℕ) (lists : List (List ℕ)) (counts : List ℕ) (t : LinesRead) where
+  module _ (e : Ok t ≡ ended_by (whole_lines Key s)) (h : HeldLines s Key 0 (whole_lines Key s) lists counts) where
+    key_all : AllRead (whole_lines Key s) t.next t.line
+    key_all = all_read (whole_lines Key s) t e
 
     key_rows_lem : (j : ℕ) → j < length key_all.rows → HeldLine Key lists counts (0 + j) (get_or key_all.rows j [])
     key_rows_lem = (rw key_all.is at h).1
 
     key_count : length key_all.rows ≡ 9 + at (head_of key_all.rows) 6
-    key_count = key_many s key_all.rows key_all.lines line' next key_all.is
+    key_count = key_many s key_all.rows key_all.lines t.line t.next key_all.is
 
     key_head_lem : length (held_at lists counts 0) ≡ 7
     key_head_lem = head_long Key lists counts key_all.rows key_rows_lem (omega (arith, key_count)) refl ∙ (line Key lists counts key_all.rows key_rows_lem 0 (omega (arith, key_count))).fits
@@ -190,7 +199,7 @@ module _ (s : List ℕ) (lists : List (List ℕ)) (counts : List ℕ) (next line
         let rs : List (List Field) = key_all.rows in
         let n : 9 ≤ length rs = omega (arith, key_count) in
         let at_0 : (j : ℕ) → j < 7 → get_or (get_or lists 0 []) j 0 ≡ get_or (held_at lists counts 0) j 0 = λ j g. stands Key lists counts rs key_rows_lem 0 j (omega arith) (omega (arith, key_head_lem)) in
-        key_whole_lem s ∙ ended_all (whole_rows stages_of_key key_whole) (whole_lines Key s) next line' key_all
+        key_whole_lem s ∙ ended_all (whole_rows stages_of_key key_whole) (whole_lines Key s) t.next t.line key_all
         ∙ rw (← key_held lists counts rs key_rows_lem key_count, key_counts lists counts (λ i g. (line Key lists counts rs key_rows_lem i (omega arith)).long), at_0 0 (omega arith), at_0 1 (omega arith))
 
     pub key_stands : 17 ≤ length lists → 17 ≤ length counts → read_key_sheet s ≡ sheet (held_key_sheet lists counts) → KeyHeld lists counts
@@ -205,19 +214,19 @@ module _ (s : List ℕ) (lists : List (List ℕ)) (counts : List ℕ) (next line
         let rs : List (List Field) = key_all.rows in
         let c : child_count lists counts ≡ at (head_of rs) 6 = head_held Key lists counts rs key_rows_lem 6 (omega (arith, key_count)) refl in
         let f : List Field = fields_of (first_of 75 (parts 10 s)) in
-        let g : length rs ≡ 9 + at f 6 = key_rows_many s rs key_all.lines line' next key_all.is in
+        let g : length rs ≡ 9 + at f 6 = key_rows_many s rs key_all.lines t.line t.next key_all.is in
         let n : 9 + child_count lists counts ≡ 9 + at f 6 = omega (arith, key_count, c, g) in
-        rw n (text_again Key lists counts s (9 + at f 6) rs key_all.lines line' next key_all.is g key_all.end key_rows_lem)
+        rw n (text_again Key lists counts s (9 + at f 6) rs key_all.lines t.line t.next key_all.is g key_all.end key_rows_lem)
 
-  module _ (e : L.Read next line' ≡ ended_by (whole_lines Join s)) (h : HeldLines s Join 0 (whole_lines Join s) lists counts) where
-    join_all : AllRead (whole_lines Join s) next line'
-    join_all = all_read (whole_lines Join s) next line' e
+  module _ (e : Ok t ≡ ended_by (whole_lines Join s)) (h : HeldLines s Join 0 (whole_lines Join s) lists counts) where
+    join_all : AllRead (whole_lines Join s) t.next t.line
+    join_all = all_read (whole_lines Join s) t e
 
     join_rows_lem : (j : ℕ) → j < length join_all.rows → HeldLine Join lists counts (0 + j) (get_or join_all.rows j [])
     join_rows_lem = (rw join_all.is at h).1
 
     join_count : length join_all.rows ≡ 8
-    join_count = join_many s join_all.rows join_all.lines line' next join_all.is
+    join_count = join_many s join_all.rows join_all.lines t.line t.next join_all.is
 
     join_line : (i : ℕ) → i < 8 → HeldLine Join lists counts i (get_or join_all.rows i [])
     join_line i g = line Join lists counts join_all.rows join_rows_lem i (omega (arith, join_count))
@@ -236,7 +245,7 @@ module _ (s : List ℕ) (lists : List (List ℕ)) (counts : List ℕ) (next line
 
     pub join_again_lem : held_text Join lists counts 0 8 ≡ s
     unfolding whole_lines
-    join_again_lem = text_again Join lists counts s 8 join_all.rows join_all.lines line' next join_all.is join_count join_all.end join_rows_lem
+    join_again_lem = text_again Join lists counts s 8 join_all.rows join_all.lines t.line t.next join_all.is join_count join_all.end join_rows_lem
 
     join_fit :
         join_lists_fit (held_join_sheet lists counts) (drop 1 join_all.rows)
@@ -258,7 +267,7 @@ module _ (s : List ℕ) (lists : List (List ℕ)) (counts : List ℕ) (next line
         let rs : List (List Field) = join_all.rows in
         let at_0 : (i : ℕ) → i < 8 → 0 < length (held_at lists counts i) → get_or (get_or lists i []) 0 0 ≡ get_or (held_at lists counts i) 0 0
         = λ i g m. stands Join lists counts rs join_rows_lem i 0 (omega (arith, join_count)) m in
-        join_whole_lem s ∙ ended_all (whole_rows stages_of_input join_whole) (whole_lines Join s) next line' join_all
+        join_whole_lem s ∙ ended_all (whole_rows stages_of_input join_whole) (whole_lines Join s) t.next t.line join_all
         ∙ rw (
           ← join_held lists counts rs join_rows_lem join_count,
           join_fit,
@@ -276,14 +285,14 @@ same_sheet : {A : Type 0} (r : Reading A) (x y : A) → r ≡ sheet x → r ≡ 
 same_sheet r x y e f = cc
 
 module _ (s : List ℕ) (lists : List (List ℕ)) (counts : List ℕ) where
-  pub key_refused : (n l : ℕ) → read_key_sheet s ≡ turned n l → KeyRead s (Refused n l) lists counts
+  pub key_refused : (n l : ℕ) → read_key_sheet s ≡ turned n l → KeyRead s (Err (refused_on n l)) lists counts
   key_refused n l e = record { answer = ap sheet_by (sym e); held = λ x f. absurd (apart (read_key_sheet s) x n l e f); again = λ x f. absurd (apart (read_key_sheet s) x n l e f) }
 
-  pub key_whole_read : read_key_sheet s ≡ sheet (held_key_sheet lists counts) → KeyHeld lists counts → held_text Key lists counts 0 (9 + child_count lists counts) ≡ s → KeyRead s Held lists counts
+  pub key_whole_read : read_key_sheet s ≡ sheet (held_key_sheet lists counts) → KeyHeld lists counts → held_text Key lists counts 0 (9 + child_count lists counts) ≡ s → KeyRead s (Ok tt) lists counts
   key_whole_read e h g = record { answer = ap sheet_by (sym e); held = λ x f. (h, same_sheet (read_key_sheet s) (held_key_sheet lists counts) x e f); again = λ x f. g }
 
-  pub join_refused : (n l : ℕ) → read_join_sheet s ≡ turned n l → JoinRead s (Refused n l) lists counts
+  pub join_refused : (n l : ℕ) → read_join_sheet s ≡ turned n l → JoinRead s (Err (refused_on n l)) lists counts
   join_refused n l e = record { answer = ap sheet_by (sym e); held = λ x f. absurd (apart (read_join_sheet s) x n l e f); again = λ x f. absurd (apart (read_join_sheet s) x n l e f) }
 
-  pub join_whole_read : read_join_sheet s ≡ sheet (held_join_sheet lists counts) → JoinHeld lists counts → held_text Join lists counts 0 8 ≡ s → JoinRead s Held lists counts
+  pub join_whole_read : read_join_sheet s ≡ sheet (held_join_sheet lists counts) → JoinHeld lists counts → held_text Join lists counts 0 8 ≡ s → JoinRead s (Ok tt) lists counts
   join_whole_read e h g = record { answer = ap sheet_by (sym e); held = λ x f. (h, same_sheet (read_join_sheet s) (held_join_sheet lists counts) x e f); again = λ x f. g }

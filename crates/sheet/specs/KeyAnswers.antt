@@ -1,7 +1,7 @@
 -- K and I answers as text, and the decisions on the bytes of such sheets.
 -- Renders document 01, "Answer: `k,changed,report`", "Answer `i,report,followed`", and refusal 10.
 use Rattle.std.specs.Prelude.{ℕ, List, [], ◌∷◌, ◌++◌, map}
-use Rattle.text.specs.Text.{number}
+use Rattle.text.specs.declared.field.Field.TheVariants.{Number as number}
 use Rattle.text.specs.Write.{line_text}
 use Rattle.keys.specs.Expressions.{Expression, same_expr}
 use Rattle.keys.specs.Adjust.{KeySheet, KeyAnswer, Projected, Adjustment, answered, name_not_found, adjust_input_keys_ordering}

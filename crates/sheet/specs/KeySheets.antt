@@ -2,7 +2,8 @@
 -- Renders document 01, "Key sheet", and refusals 1 to 6 of "Where a sheet is turned back".
 use Rattle.std.specs.Prelude.{ℕ, List, [], ◌∷◌, map, Bool, false, cond, not, ◌&&◌, ◌||◌, eqb, length, get_or, drop}
 use Rattle.std.proofs.Math.Option.{Option, none, some}
-use Rattle.text.specs.Text.{Field, parts}
+use Rattle.text.specs.declared.field.Field.{Field}
+use Rattle.text.specs.Text.{parts}
 use Rattle.keys.specs.Reorder.{Rule}
 use Rattle.keys.specs.Expressions.{Expression}
 use Rattle.keys.specs.Adjust.{KeySheet}

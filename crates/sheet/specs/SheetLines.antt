@@ -1,9 +1,10 @@
 -- The lines of a K or I sheet read one after the other, and what reading leaves in the rooms lent.
 -- Renders document 01, "Lines in order", and "Lowest line first, then lowest number".
-use Rattle.std.specs.Prelude.{◌≡◌, ℕ, zero, suc, ◌+◌, ◌-◌, ◌≤◌, ◌<◌, true, cond, eqb, length, get_or, drop}
+use Rattle.std.specs.Prelude.{◌≡◌, ℕ, zero, suc, ◌+◌, ◌-◌, ◌≤◌, ◌<◌, true, cond, eqb, length, get_or, drop, Result, Ok, Err}
 use mathlib.Core.List.{List, [], ◌∷◌, tail}
 use Rattle.std.proofs.Math.Option.{Option}
-use Rattle.text.specs.Text.{Field, parts}
+use Rattle.text.specs.declared.field.Field.{Field}
+use Rattle.text.specs.Text.{parts}
 use Rattle.text.specs.Lines.{first_of, next_of}
 use Rattle.linekinds.specs.Lines.{Kind, Run, read, refused, before, whole_entries, line_number, fields_of, at_end}
 use Rattle.linekinds.specs.KeyLines.{at, values}
@@ -11,11 +12,10 @@ use Rattle.linekinds.specs.Reading.{head_count, entry_width, packed_by, Small, F
 use Rattle.linekinds.specs.ListLines.{line_codes, line_kind, line_letter}
 use Rattle.linekinds.specs.declared.lists.SheetKind.{SheetKind}
 use Rattle.linekinds.specs.declared.lists.SheetKind.TheVariants.{Key, Join}
-use Rattle.linekinds.specs.declared.lists.Listed.{Listed}
-use Rattle.linekinds.specs.declared.lists.Listed.TheVariants.{Packed, Turned}
+use Rattle.refusals.specs.declared.Refused.{Refused}
+use Rattle.refusals.specs.Refusals.{refusal_of}
 use Rattle.sheet.specs.Held.{held_at}
-use Rattle.sheet.specs.declared.read.Lines.{Lines}
-use Rattle.sheet.specs.declared.read.Lines.TheVariants as L
+use Rattle.sheet.specs.declared.read.LinesRead.{LinesRead}
 
 -- a line of each kind, the first with the number `line` and at the place `at`
 unfoldable pub in_turn : List Kind → ℕ → ℕ → List (List ℕ) → Run
@@ -52,19 +52,18 @@ abbrev pub FewChildren : SheetKind → ℕ → Type 0
 FewChildren Key n = n ≤ 8
 FewChildren Join n = Unit {0}
 
--- the number of a line that was turned back, or 0
-abbrev pub turned_number : Listed → ℕ
-turned_number (Packed count next) = 0
-turned_number (Turned n) = n
-
 -- the lines from line i on, which begins at a place
 abbrev pub lines_from : List ℕ → SheetKind → ℕ → ℕ → ℕ → Run
 lines_from s k i n at = in_turn (line_kinds k i n) (suc i) at (parts 10 (drop at s))
 
--- all lines were read, with the place after them and how many they are; or a refusal and its line
-abbrev pub lines_by : Run → Lines
-lines_by (read rs ls l p) = L.Read p l
-lines_by (refused n l) = L.Refused n l
+-- a refusal by its number, on a line
+abbrev pub refused_on : ℕ → ℕ → Refused
+refused_on n l = record { refusal = refusal_of n; line = l }
+
+-- all lines were read, with the place after them and the number of the next; or a refusal and its line
+abbrev pub lines_by : Run → Result LinesRead Refused
+lines_by (read rs ls l p) = Ok (record { next = p; line = l })
+lines_by (refused n l) = Err (refused_on n l)
 
 -- the list of line i is held
 pub record HeldLine (k : SheetKind) (lists : List (List ℕ)) (counts : List ℕ) (i : ℕ) (fs : List Field) : Type 0 where
@@ -85,9 +84,9 @@ unfoldable pub whole_lines : SheetKind → List ℕ → Run
 whole_lines k s = in_turn (line_kinds k 0 (line_count k (fields_of (first_of (line_letter k 0) (parts 10 s))))) 1 0 (parts 10 s)
 
 -- and nothing after them
-abbrev pub ended_by : Run → Lines
-ended_by (read rs ls l p) = cond (at_end ls) (L.Read p l) (L.Refused 1 l)
-ended_by (refused n l) = L.Refused n l
+abbrev pub ended_by : Run → Result LinesRead Refused
+ended_by (read rs ls l p) = cond (at_end ls) (Ok (record { next = p; line = l })) (Err (refused_on 1 l))
+ended_by (refused n l) = Err (refused_on n l)
 
 -- every list has room for 64 numbers
 abbrev pub Full : List (List ℕ) → Type 0

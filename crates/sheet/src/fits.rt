@@ -7,91 +7,57 @@ ghost use Rattle.sheet.specs.ListFits.{direction_counts, pair_counts, key_counts
 fn pairs_serve(op: u64, mode: u64) -> bool
     ensures { result ≡ pairs_serve op mode }
 {
-    if op == 2 {
-        return true;
-    }
-    if op != 0 {
-        return false;
-    }
-    mode == 0
+    op == 2 || op == 0 && mode == 0
 }
 
 // A list that does not serve is empty.
 fn serves(b: bool, n: usize) -> bool
     ensures { result ≡ serves b n }
 {
-    if b {
-        return true;
-    }
-    n == 0
+    b || n == 0
 }
 
 fn directions_fit(op: u64, s: usize, l: usize) -> bool
     ensures { result ≡ direction_counts op s l }
 {
-    if op == 2 {
-        return s == l;
-    }
-    s == 0
+    if op == 2 { s == l } else { s == 0 }
 }
 
 // The counts of L, G, S and W of a K sheet.
 fn pairs_fit(op: u64, mode: u64, l: usize, g: usize, s: usize, w: usize) -> bool
     ensures { result ≡ pair_counts op mode l g s w }
 {
-    if l != g {
-        return false;
-    }
-    if !directions_fit(op, s, l) {
-        return false;
-    }
     let pairs = pairs_serve(op, mode);
-    if !serves(pairs, l) {
-        return false;
-    }
-    serves(pairs, w / 2)
+    l == g && directions_fit(op, s, l) && serves(pairs, l) && serves(pairs, w / 2)
 }
 
 // The counts of a K sheet's lines.
+#[tactic(auto, unfolding(crate::specs::ListFits::key_counts_fit))]
 pub fn key_lists_fit(op: u64, mode: u64, counts: &[usize]) -> bool
     requires { 9 ≤ length counts.now }
     ensures { result ≡ key_counts_fit op mode counts.now }
 {
-    if !pairs_fit(op, mode, counts[2], counts[3], counts[4], counts[5]) {
-        return false;
-    }
-    if !serves(op == 3, counts[6]) {
-        return false;
-    }
-    if !serves(op == 3, counts[7]) {
-        return false;
-    }
-    serves(op == 4, counts[8])
+    pairs_fit(op, mode, counts[2], counts[3], counts[4], counts[5])
+        && serves(op == 3, counts[6])
+        && serves(op == 3, counts[7])
+        && serves(op == 4, counts[8])
 }
 
 // H or N: a mark, and no keys after mark 0.
 fn input_fits(mark: u64, n: usize) -> bool
     ensures { result ≡ input_counts mark n }
 {
-    if mark == 1 {
-        return true;
-    }
-    n <= 1
+    mark == 1 || n <= 1
 }
 
 // The counts of an I sheet's lines, and the marks of H and N.
+#[tactic(auto, unfolding(crate::specs::ListFits::join_counts_fit))]
 pub fn join_lists_fit(op: u64, counts: &[usize], h: u64, n: u64) -> bool
     requires { 6 ≤ length counts.now }
     ensures { result ≡ join_counts_fit op counts.now h n }
 {
-    if counts[1] != counts[2] {
-        return false;
-    }
-    if !directions_fit(op, counts[3], counts[1]) {
-        return false;
-    }
-    if !input_fits(h, counts[4]) {
-        return false;
-    }
-    input_fits(n, counts[5])
+    counts[1] == counts[2]
+        && directions_fit(op, counts[3], counts[1])
+        && input_fits(h, counts[4])
+        && input_fits(n, counts[5])
 }

@@ -8,68 +8,77 @@ use Prim.Native.Nat.{ℕ, ◌≤◌, ◌<◌}
 use native.Mathlib.Omega.{arith}
 use lib.ListN.{length, take, drop, get_or, length-map, get_or-map}
 use lib.Seq.{sets-eq, take_at, get_or-take}
-use Rattle.text.specs.Text.{Field, empty, state_of, value_of, row, greatest, line, line_fields, line_at}
-use Rattle.text.specs.Read.{line_read, stored_in}
+use Rattle.text.specs.declared.field.Field.{Field}
+use Rattle.text.specs.declared.field.Field.TheVariants.{Empty as empty}
+use Rattle.text.specs.Text.{state_of, value_of, row, greatest, line, line_fields, line_at}
+use Rattle.text.specs.Read.{tallied, line_read, stored_in}
 use Rattle.text.specs.Bounds.{fits_rows, judged}
-use Rattle.text.specs.declared.line.Line.TheVariants.{Fields, Wrong}
-use Rattle.text.specs.declared.bounds.Judged.TheVariants as J
+use Rattle.text.specs.declared.line.Fields.{Fields}
+use Rattle.text.specs.declared.bounds.Judged.{Judged}
+use Rattle.text.specs.declared.bounds.Misfit.{Misfit}
+use Rattle.text.specs.declared.bounds.Misfit.TheVariants.{Unfit, Wrong}
+use Rattle.std.specs.Prelude.{None, Some}
+use Rattle.std.specs.Prelude.{Result, Ok, Err}
 use Rattle.text.proofs.Places.{read_fields}
 
 -- ---- of `line_at`
 
-pub record Opened (next : ℕ) (x : Option (List Field)) (count worst largest after : ℕ) : Type 0 where
+pub record Opened (next : ℕ) (x : Option (List Field)) (f : Fields) : Type 0 where
   pub fs : List Field
   pub is : x ≡ some fs
-  pub counts : count ≡ length fs
-  pub states : worst ≡ greatest 0 (map state_of fs)
-  pub values : largest ≡ greatest 0 (map value_of fs)
-  pub goes : after ≡ next
+  pub counts : f.count ≡ length fs
+  pub states : f.worst ≡ greatest 0 (map state_of fs)
+  pub values : f.largest ≡ greatest 0 (map value_of fs)
+  pub goes : f.next ≡ next
 
-pub opened : (next : ℕ) (x : Option (List Field)) (count worst largest after : ℕ) → Fields count worst largest after ≡ line_read next x → Opened next x count worst largest after
-opened next none count worst largest after e = let z : ◌≡◌ {A = ℕ} 0 1 = cc in absurd (omega arith)
-opened next (some fs) count worst largest after e = record { fs = fs; is = refl; counts = cc; states = cc; values = cc; goes = cc }
+pub opened : (next : ℕ) (x : Option (List Field)) (f : Fields) → Some f ≡ line_read next x → Opened next x f
+opened next none f e = let z : ◌≡◌ {A = ℕ} 0 1 = cc in absurd (omega arith)
+opened next (some fs) f e = let is : f ≡ tallied next fs = cc in record { fs = fs; is = refl; counts = rw is refl; states = rw is refl; values = rw is refl; goes = rw is refl }
 
-pub wrong_none : (next : ℕ) (x : Option (List Field)) → Wrong ≡ line_read next x → x ≡ none
+pub wrong_none : (next : ℕ) (x : Option (List Field)) → None ≡ line_read next x → x ≡ none
 wrong_none next none e = refl
 wrong_none next (some fs) e = let z : ◌≡◌ {A = ℕ} 0 1 = cc in absurd (omega arith)
 
 -- ---- of `fixed_at`
 
-pub record Passed (bs : List (List ℕ)) (next : ℕ) (x : Option (List Field)) (count after : ℕ) : Type 0 where
+pub record Passed (bs : List (List ℕ)) (next : ℕ) (x : Option (List Field)) (j : Judged) : Type 0 where
   pub fs : List Field
   pub is : x ≡ some fs
-  pub counts : count ≡ length fs
-  pub goes : after ≡ next
+  pub counts : j.count ≡ length fs
+  pub goes : j.next ≡ next
   pub within : fits_rows bs (map row fs) ≡ true
 
-passed_at : (t : Bool) (bs : List (List ℕ)) (next : ℕ) (fs : List Field) (count after : ℕ) → fits_rows bs (map row fs) ≡ t → J.Line count after ≡ cond t (J.Line (length fs) next) J.Unfit → Passed bs next (some fs) count after
-passed_at true bs next fs count after t e = record { fs = fs; is = refl; counts = cc; goes = cc; within = t }
-passed_at false bs next fs count after t e = let z : ◌≡◌ {A = ℕ} 0 1 = cc in absurd (omega arith)
+abbrev line_of : List Field → ℕ → Result Judged Misfit
+line_of fs next = Ok (record { count = length fs; next = next })
 
-pub passed : (bs : List (List ℕ)) (next : ℕ) (x : Option (List Field)) (count after : ℕ) → J.Line count after ≡ judged bs next x → Passed bs next x count after
-passed bs next none count after e = let z : ◌≡◌ {A = ℕ} 0 1 = cc in absurd (omega arith)
-passed bs next (some fs) count after e = passed_at (fits_rows bs (map row fs)) bs next fs count after refl e
+passed_at : (t : Bool) (bs : List (List ℕ)) (next : ℕ) (fs : List Field) (j : Judged) → fits_rows bs (map row fs) ≡ t → Ok j ≡ cond t (line_of fs next) (Err Unfit) → Passed bs next (some fs) j
+passed_at true bs next fs j t e = let is : j ≡ record { count = length fs; next = next } = cc in record { fs = fs; is = refl; counts = rw is refl; goes = rw is refl; within = t }
+passed_at false bs next fs j t e = let z : ◌≡◌ {A = ℕ} 0 1 = cc in absurd (omega arith)
+
+pub passed : (bs : List (List ℕ)) (next : ℕ) (x : Option (List Field)) (j : Judged) → Ok j ≡ judged bs next x → Passed bs next x j
+passed bs next none j e = let z : ◌≡◌ {A = ℕ} 0 1 = cc in absurd (omega arith)
+passed bs next (some fs) j e = passed_at (fits_rows bs (map row fs)) bs next fs j refl e
 
 pub record Failed (bs : List (List ℕ)) (x : Option (List Field)) : Type 0 where
   pub fs : List Field
   pub is : x ≡ some fs
   pub outside : fits_rows bs (map row fs) ≡ false
 
-failed_at : (t : Bool) (bs : List (List ℕ)) (next : ℕ) (fs : List Field) → fits_rows bs (map row fs) ≡ t → J.Unfit ≡ cond t (J.Line (length fs) next) J.Unfit → Failed bs (some fs)
+failed_at : (t : Bool) (bs : List (List ℕ)) (next : ℕ) (fs : List Field) → fits_rows bs (map row fs) ≡ t → Err Unfit ≡ cond t (line_of fs next) (Err Unfit) → Failed bs (some fs)
 failed_at true bs next fs t e = let z : ◌≡◌ {A = ℕ} 0 1 = cc in absurd (omega arith)
 failed_at false bs next fs t e = record { fs = fs; is = refl; outside = t }
 
-pub failed : (bs : List (List ℕ)) (next : ℕ) (x : Option (List Field)) → J.Unfit ≡ judged bs next x → Failed bs x
+pub failed : (bs : List (List ℕ)) (next : ℕ) (x : Option (List Field)) → Err Unfit ≡ judged bs next x → Failed bs x
 failed bs next none e = let z : ◌≡◌ {A = ℕ} 0 1 = cc in absurd (omega arith)
 failed bs next (some fs) e = failed_at (fits_rows bs (map row fs)) bs next fs refl e
 
-judged_at : (t : Bool) (count next : ℕ) → J.Wrong ≡ cond t (J.Line count next) J.Unfit → ◌≡◌ {A = ℕ} 0 1
-judged_at true count next e = cc
-judged_at false count next e = cc
+judged_at : (t : Bool) (fs : List Field) (next : ℕ) → Err Wrong ≡ cond t (line_of fs next) (Err Unfit) → ◌≡◌ {A = ℕ} 0 1
+judged_at true fs next e = cc
+judged_at false fs next e = cc
 
-pub judged_none : (bs : List (List ℕ)) (next : ℕ) (x : Option (List Field)) → J.Wrong ≡ judged bs next x → x ≡ none
+pub judged_none : (bs : List (List ℕ)) (next : ℕ) (x : Option (List Field)) → Err Wrong ≡ judged bs next x → x ≡ none
 judged_none bs next none e = refl
-judged_none bs next (some fs) e = let z = judged_at (fits_rows bs (map row fs)) (length fs) next e in absurd (omega arith)
+judged_none bs next (some fs) e = let z = judged_at (fits_rows bs (map row fs)) fs next e in absurd (omega arith)
 
 -- ---- the rows
 

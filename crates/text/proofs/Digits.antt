@@ -5,7 +5,8 @@ use mathlib.Core.List.{List}
 use Prim.Native.Nat.{ℕ, ◌+◌, ◌-◌, ◌*◌, ◌≤◌, ◌<◌}
 use native.Mathlib.Omega.{arith}
 use lib.ListN.{length, drop, get_or}
-use Rattle.text.specs.Text.{number, empty, malformed, most}
+use Rattle.text.specs.declared.field.Field.TheVariants.{Number as number, Empty as empty, Malformed as malformed}
+use Rattle.text.specs.Text.{most}
 use Rattle.text.specs.Scan.{span, more_digits, first}
 use Rattle.text.specs.Read.{field_to}
 use Rattle.text.specs.declared.field.Scanned.{Scanned}

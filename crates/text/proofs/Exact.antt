@@ -8,7 +8,9 @@ use native.Mathlib.Omega.{arith}
 use lib.Dec.{ltb, leb, eqb}
 use lib.ListN.{length, get_or, get_or-append}
 use borrow.Author.Tests.{le-leb, leb-true, ne_eqb, eqb-false, ltb-true, ltb-false}
-use Rattle.text.specs.Text.{Field, number, empty, malformed, run, field, is_digit}
+use Rattle.text.specs.declared.field.Field.{Field}
+use Rattle.text.specs.declared.field.Field.TheVariants.{Number as number, Empty as empty, Malformed as malformed}
+use Rattle.text.specs.Text.{run, field, is_digit}
 use Rattle.text.specs.Write.{decimal}
 use Rattle.text.specs.Bounds.{Bound, allows}
 use Rattle.text.proofs.Decimal.{decimal_one, decimal_more, decimal_some, length_one, length_more, by_tenths}

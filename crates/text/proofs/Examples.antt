@@ -7,7 +7,9 @@ use mathlib.Core.Bool.{true, false}
 use Prim.Native.Nat.{ℕ}
 use Prim.Native.String.{String}
 use Prim.Native.Char.{code}
-use Rattle.text.specs.Text.{Field, number, empty, malformed, most, until, onto, parts, run, field, fields, line, line_fields, line_at}
+use Rattle.text.specs.declared.field.Field.{Field}
+use Rattle.text.specs.declared.field.Field.TheVariants.{Number as number, Empty as empty, Malformed as malformed}
+use Rattle.text.specs.Text.{most, until, onto, parts, run, field, fields, line, line_fields, line_at}
 use Rattle.text.specs.Lines.{first_of}
 use Rattle.text.specs.Bounds.{Bound, fits}
 use Rattle.text.specs.Write.{digits, decimal, field_text, fields_text, line_text}

@@ -9,7 +9,9 @@ use lib.Dec.{eqb, leb}
 use lib.ListN.{length, take, drop, get_or, length-drop}
 use lib.Seq.{drop-drop, get_or-drop}
 use borrow.Author.Tests.{ne_eqb, le-leb, leb-true, eqb-true, eqb-false}
-use Rattle.text.specs.Text.{Field, number, empty, malformed, most, until, onto, parts, run, field, fields, line}
+use Rattle.text.specs.declared.field.Field.{Field}
+use Rattle.text.specs.declared.field.Field.TheVariants.{Number as number, Empty as empty, Malformed as malformed}
+use Rattle.text.specs.Text.{most, until, onto, parts, run, field, fields, line}
 use Rattle.text.specs.Scan.{span, more_digits, first}
 
 -- a field that goes on after a number that is not 0

@@ -8,7 +8,9 @@ use native.Mathlib.Numerals.{add-one}
 use native.Mathlib.Omega.{arith}
 use lib.ListN.{length, drop, get_or, set, length-set, length-drop}
 use lib.Seq.{sets}
-use Rattle.text.specs.Text.{Field, number, until, line, fields, state_of, value_of, row, greatest}
+use Rattle.text.specs.declared.field.Field.{Field}
+use Rattle.text.specs.declared.field.Field.TheVariants.{Number as number}
+use Rattle.text.specs.Text.{until, line, fields, state_of, value_of, row, greatest}
 use Rattle.text.specs.Scan.{span, first, ends_line, DigitAndComma}
 use Rattle.text.proofs.Scanning.{span_next, span_comma, first_more, digits_comma, ends_cases, goes_on}
 use Rattle.text.specs.Read.{field_to, tallied}
@@ -32,7 +34,7 @@ pub record Head (s : List ℕ) (at : ℕ) (out₀ out : List (List ℕ)) (i n wo
 pub head_first : (s : List ℕ) (at : ℕ) (out : List (List ℕ)) → Head s at out out at 0 0 0
 head_first s at out = record { few = omega arith; within = omega arith; place = refl; counted = omega arith; worse = refl; best = refl; stored = refl; room = refl }
 
-module _ (s : List ℕ) (at : ℕ) (out₀ out : List (List ℕ)) (i n worst largest : ℕ) (h : Head s at out₀ out i n worst largest) (c : Scanned) (is : c ≡ field_to (i + span (drop i s)) (first (drop i s))) (out' : List (List ℕ)) (put : out' ≡ set out n (c.state ∷ c.value ∷ [])) (worst' : ℕ) (up : worst' ≡ max worst c.state) (largest' : ℕ) (up' : largest' ≡ max largest c.value) where
+module _ (s : List ℕ) (at : ℕ) (out₀ out : List (List ℕ)) (i n worst largest : ℕ) (h : Head s at out₀ out i n worst largest) (c : Scanned) (is : c ≡ field_to (i + span (drop i s)) (first (drop i s))) (out' : List (List ℕ)) (put : out' ≡ set out n (row c.field)) (worst' : ℕ) (up : worst' ≡ max worst (state_of c.field)) (largest' : ℕ) (up' : largest' ≡ max largest (value_of c.field)) where
   f : Field
   f = first (drop i s)
 
@@ -45,29 +47,29 @@ module _ (s : List ℕ) (at : ℕ) (out₀ out : List (List ℕ)) (i n worst lar
   pub found_ge : i ≤ c.end
   found_ge = omega (arith, found)
 
-  state_is : c.state ≡ state_of (first (drop i s))
-  state_is = ap (λ (x : Scanned). x.state) is
+  state_is : state_of c.field ≡ state_of (first (drop i s))
+  state_is = ap (λ (x : Scanned). state_of x.field) is
 
-  value_is : c.value ≡ value_of (first (drop i s))
-  value_is = ap (λ (x : Scanned). x.value) is
+  value_is : value_of c.field ≡ value_of (first (drop i s))
+  value_is = ap (λ (x : Scanned). value_of x.field) is
 
   put_is : out' ≡ set out n (row (first (drop i s)))
-  put_is = put ∙ (λ k. set out n (state_is k ∷ value_is k ∷ []))
+  put_is = put ∙ ap (λ (x : Scanned). set out n (row x.field)) is
 
   pub room' : length out' ≡ length out₀
   room' = ap length put ∙ length-set out n _ ∙ h.room
 
   module _ (e : from s i ≡ first (drop i s) ∷ []) (u : until 10 (drop i s) ≡ span (drop i s)) where
-    last : (record { count = n + 1; worst = worst'; largest = largest'; end = c.end } ≡ tallied (at + until 10 (drop at s)) (from s at)) × (out' ≡ sets out₀ 0 (map row (from s at)))
+    last : (record { count = n + 1; worst = worst'; largest = largest'; next = c.end } ≡ tallied (at + until 10 (drop at s)) (from s at)) × (out' ≡ sets out₀ 0 (map row (from s at)))
     unfolding greatest
     last =
         let e₁ : n + 1 ≡ length (from s at) = omega (arith, ap length e, h.counted) in
         let e₂ : worst' ≡ greatest 0 (map state_of (from s at)) = up ∙ ap (max worst) state_is ∙ sym (ap (λ (x : List Field). greatest worst (map state_of x)) e) ∙ h.worse in
         let e₃ : largest' ≡ greatest 0 (map value_of (from s at)) = up' ∙ ap (max largest) value_is ∙ sym (ap (λ (x : List Field). greatest largest (map value_of x)) e) ∙ h.best in
         let e₄ : c.end ≡ at + until 10 (drop at s) = omega (arith, found, u, h.place) in
-        ((λ k. record { count = e₁ k; worst = e₂ k; largest = e₃ k; end = e₄ k }), put_is ∙ sym (ap (λ (x : List Field). sets out n (map row x)) e) ∙ h.stored)
+        ((λ k. record { count = e₁ k; worst = e₂ k; largest = e₃ k; next = e₄ k }), put_is ∙ sym (ap (λ (x : List Field). sets out n (map row x)) e) ∙ h.stored)
 
-  pub head_last : ends_line (drop c.end s) ≡ true → (record { count = n + 1; worst = worst'; largest = largest'; end = c.end } ≡ tallied (at + until 10 (drop at s)) (from s at)) × (out' ≡ sets out₀ 0 (map row (from s at)))
+  pub head_last : ends_line (drop c.end s) ≡ true → (record { count = n + 1; worst = worst'; largest = largest'; next = c.end } ≡ tallied (at + until 10 (drop at s)) (from s at)) × (out' ≡ sets out₀ 0 (map row (from s at)))
   head_last t =
       ends_cases s c.end t
       (λ l. last (out_fields s i c.end found l) (out_until s i c.end found l))
@@ -106,7 +108,7 @@ module _ (s : List ℕ) (i : ℕ) (l : DigitAndComma s i) (d : ℕ) (is : d ≡ 
       let f : number (d - 48) ≡ first (drop i s) = sym (first_more s i d h is n44 n10 low high ∙ digits_comma s (i + 1) (get_or s (i + 1) 0) l.room refl (d - 48) l.comma) in
       λ k. field_to (w k) (f k)
 
-  pub head_digit : (at : ℕ) (out₀ out : List (List ℕ)) (n worst largest : ℕ) → Head s at out₀ out i n worst largest → (out' : List (List ℕ)) → out' ≡ set out n (0 ∷ (d - 48) ∷ []) → (largest' : ℕ) → largest' ≡ max largest (d - 48) → Head s at out₀ out' (i + 2) (n + 1) worst largest'
+  pub head_digit : (at : ℕ) (out₀ out : List (List ℕ)) (n worst largest : ℕ) → Head s at out₀ out i n worst largest → (out' : List (List ℕ)) → out' ≡ set out n (row (number (d - 48))) → (largest' : ℕ) → largest' ≡ max largest (d - 48) → Head s at out₀ out' (i + 2) (n + 1) worst largest'
   head_digit at out₀ out n worst largest h out' put largest' up =
       let e : i + 1 + 1 ≡ i + 2 = omega arith in
       let e₀ : worst ≡ max worst 0 = omega arith in

@@ -7,37 +7,45 @@ use mathlib.Core.Bool.{Bool, true, false, cond}
 use Prim.Native.Nat.{ℕ, ◌-◌, ◌≤◌}
 use native.Mathlib.Omega.{arith}
 use lib.ListN.{length, take, drop, length-map}
-use Rattle.text.specs.Text.{Field, row, line, line_fields, line_at, after}
+use Rattle.text.specs.declared.field.Field.{Field}
+use Rattle.text.specs.Text.{row, line, line_fields, line_at, after}
 use Rattle.text.specs.Read.{line_read, stored_in}
 use Rattle.text.specs.Bounds.{fits_rows, judged}
-use Rattle.text.specs.declared.line.Line.TheVariants.{Fields, Wrong}
-use Rattle.text.specs.declared.bounds.Judged.TheVariants as J
+use Rattle.text.specs.declared.line.Fields.{Fields}
+use Rattle.text.specs.declared.bounds.Judged.{Judged}
+use Rattle.text.specs.declared.bounds.Misfit.TheVariants.{Unfit, Wrong}
+use Rattle.std.specs.Prelude.{None, Some}
+use Rattle.std.specs.Prelude.{Ok, Err}
 use Rattle.text.proofs.Answers.{Opened, opened, rows_held}
 use Rattle.text.proofs.Limits.{uneven}
 
-pub wrong : (bs : List (List ℕ)) (next : ℕ) (x : Option (List Field)) → Wrong ≡ line_read next x → J.Wrong ≡ judged bs next x
+pub wrong : (bs : List (List ℕ)) (next : ℕ) (x : Option (List Field)) → None ≡ line_read next x → Err Wrong ≡ judged bs next x
 wrong bs next none e = refl
 wrong bs next (some fs) e = let z : ◌≡◌ {A = ℕ} 0 1 = cc in absurd (omega arith)
 
-judged_is : (bs : List (List ℕ)) (next : ℕ) (x : Option (List Field)) (count worst largest after : ℕ) (o : Opened next x count worst largest after) → judged bs next x ≡ cond (fits_rows bs (map row o.fs)) (J.Line count after) J.Unfit
-judged_is bs next x count worst largest after o = rw (o.counts, o.goes, o.is)
+-- what is answered of a line within its bounds
+abbrev line_of : Fields → Judged
+line_of f = record { count = f.count; next = f.next }
 
-module _ (bs : List (List ℕ)) (letter : ℕ) (s : List ℕ) (at count worst largest after' : ℕ) (e : Fields count worst largest after' ≡ line_read (after s at) (line_at letter s at)) where
-  o : Opened (after s at) (line_at letter s at) count worst largest after'
-  o = opened (after s at) (line_at letter s at) count worst largest after' e
+judged_is : (bs : List (List ℕ)) (next : ℕ) (x : Option (List Field)) (f : Fields) (o : Opened next x f) → judged bs next x ≡ cond (fits_rows bs (map row o.fs)) (Ok (line_of f)) (Err Unfit)
+judged_is bs next x f o = rw (o.counts, o.goes, o.is)
 
-  answer : judged bs (after s at) (line_at letter s at) ≡ cond (fits_rows bs (map row o.fs)) (J.Line count after') J.Unfit
-  answer = judged_is bs _ _ _ _ _ _ o
+module _ (bs : List (List ℕ)) (letter : ℕ) (s : List ℕ) (at : ℕ) (f : Fields) (e : Some f ≡ line_read (after s at) (line_at letter s at)) where
+  o : Opened (after s at) (line_at letter s at) f
+  o = opened (after s at) (line_at letter s at) f e
 
-  pub other_count : (count ≡ length bs → ⊥) → J.Unfit ≡ judged bs (after s at) (line_at letter s at)
+  answer : judged bs (after s at) (line_at letter s at) ≡ cond (fits_rows bs (map row o.fs)) (Ok (line_of f)) (Err Unfit)
+  answer = judged_is bs _ _ f o
+
+  pub other_count : (f.count ≡ length bs → ⊥) → Err Unfit ≡ judged bs (after s at) (line_at letter s at)
   other_count ne = rw (answer, uneven bs (map row o.fs) (λ q. ne (omega (arith, length-map o.fs row, o.counts))))
 
-  module _ (out out' : List (List ℕ)) (stored : out' ≡ stored_in out (line_fields letter (line (drop at s)))) (room : count ≤ length out) where
-    held : take (count - 0) out' ≡ map row o.fs
-    held = let z : count - 0 ≡ length o.fs = omega (arith, o.counts) in rw z (rows_held letter s at o.fs o.is out out' stored (omega (arith, o.counts)))
+  module _ (out out' : List (List ℕ)) (stored : out' ≡ stored_in out (line_fields letter (line (drop at s)))) (room : f.count ≤ length out) where
+    held : take (f.count - 0) out' ≡ map row o.fs
+    held = let z : f.count - 0 ≡ length o.fs = omega (arith, o.counts) in rw z (rows_held letter s at o.fs o.is out out' stored (omega (arith, o.counts)))
 
-    pub fit : (r : Bool) → r ≡ fits_rows bs (take (count - 0) out') → r ≡ true → J.Line count after' ≡ judged bs (after s at) (line_at letter s at)
+    pub fit : (r : Bool) → r ≡ fits_rows bs (take (f.count - 0) out') → r ≡ true → Ok (line_of f) ≡ judged bs (after s at) (line_at letter s at)
     fit r is t = rw (answer, ← held, ← is, t)
 
-    pub unfit : (r : Bool) → r ≡ fits_rows bs (take (count - 0) out') → r ≡ false → J.Unfit ≡ judged bs (after s at) (line_at letter s at)
+    pub unfit : (r : Bool) → r ≡ fits_rows bs (take (f.count - 0) out') → r ≡ false → Err Unfit ≡ judged bs (after s at) (line_at letter s at)
     unfit r is t = rw (answer, ← held, ← is, t)

@@ -8,7 +8,8 @@ use native.Mathlib.Nat.{suc-mul}
 use native.Mathlib.Omega.{arith}
 use lib.ListN.{length, get_or, length-append}
 use borrow.Author.Tests.{leb-true}
-use Rattle.text.specs.Text.{Field, number, empty, malformed}
+use Rattle.text.specs.declared.field.Field.{Field}
+use Rattle.text.specs.declared.field.Field.TheVariants.{Number as number, Empty as empty, Malformed as malformed}
 use Rattle.text.specs.Bounds.{Bound, allows, allows_all}
 use Rattle.text.specs.Write.{field_text, fields_text, line_text}
 use Rattle.text.proofs.Decimal.{decimal_below}

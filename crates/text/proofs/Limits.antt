@@ -11,7 +11,9 @@ use lib.Dec.{leb, eqb}
 use lib.ListN.{length, drop, get_or, drop_of_length-le}
 use lib.Seq.{drop-cons}
 use borrow.Author.Tests.{le-leb, lt-leb, leb-true, leb-false}
-use Rattle.text.specs.Text.{Field, number, empty, malformed, most, field, parts, fields, line_fields, state_of, value_of, row, greatest}
+use Rattle.text.specs.declared.field.Field.{Field}
+use Rattle.text.specs.declared.field.Field.TheVariants.{Number as number, Empty as empty, Malformed as malformed}
+use Rattle.text.specs.Text.{most, field, parts, fields, line_fields, state_of, value_of, row, greatest}
 use Rattle.text.specs.Bounds.{Bound, widest, allows, allows_all, well_formed, fits, bound_row, row_within, fits_rows}
 use Rattle.text.proofs.Exact.{both, number_exact}
 

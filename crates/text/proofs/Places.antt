@@ -10,7 +10,8 @@ use lib.Dec.{eqb, ltb}
 use lib.ListN.{length, take, drop, length-drop}
 use lib.Seq.{drop-drop}
 use borrow.Author.Tests.{ltb-true, ltb-false}
-use Rattle.text.specs.Text.{Field, until, onto, parts, line, line_fields, line_at, after}
+use Rattle.text.specs.declared.field.Field.{Field}
+use Rattle.text.specs.Text.{until, onto, parts, line, line_fields, line_at, after}
 use Rattle.text.specs.Lines.{first_of, next_of}
 use Rattle.text.proofs.Parts.{until_le, parts_last, parts_more}
 

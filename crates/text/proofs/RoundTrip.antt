@@ -10,7 +10,9 @@ use lib.Dec.{eqb}
 use lib.ListN.{length, drop, length-append}
 use lib.Seq.{take-append_seam, drop-append_seam, drop-append-add}
 use borrow.Author.Tests.{lt-ltb, leb-true, eq-eqb, ne_eqb}
-use Rattle.text.specs.Text.{Field, number, empty, malformed, most, until, parts, field, fields, line, line_fields, line_at, after}
+use Rattle.text.specs.declared.field.Field.{Field}
+use Rattle.text.specs.declared.field.Field.TheVariants.{Number as number, Empty as empty, Malformed as malformed}
+use Rattle.text.specs.Text.{most, until, parts, field, fields, line, line_fields, line_at, after}
 use Rattle.text.specs.Lines.{first_of}
 use Rattle.text.specs.Bounds.{widest, allows, allows_all}
 use Rattle.text.specs.Write.{decimal, field_text, fields_text, line_text}

@@ -9,7 +9,9 @@ use lib.Dec.{eqb}
 use lib.ListN.{length, drop, get_or}
 use lib.Seq.{drop-cons}
 use borrow.Author.Tests.{eq-eqb, ne_eqb}
-use Rattle.text.specs.Text.{Field, number, empty, malformed, row}
+use Rattle.text.specs.declared.field.Field.{Field}
+use Rattle.text.specs.declared.field.Field.TheVariants.{Number as number, Empty as empty, Malformed as malformed}
+use Rattle.text.specs.Text.{row}
 use Rattle.text.specs.Write.{decimal, field_text, fields_text, field_of, row_field}
 
 -- a field written as a row stands for itself

@@ -10,7 +10,8 @@ use lib.Dec.{eqb, ltb}
 use lib.ListN.{length, drop, get_or, drop_of_length-le}
 use lib.Seq.{drop-cons}
 use borrow.Author.Tests.{eq-eqb, ne_eqb, le-leb, lt-leb, eqb-true, eqb-false, ltb-true, ltb-false}
-use Rattle.text.specs.Text.{number, empty, malformed, most}
+use Rattle.text.specs.declared.field.Field.TheVariants.{Number as number, Empty as empty, Malformed as malformed}
+use Rattle.text.specs.Text.{most}
 use Rattle.text.specs.Scan.{span, more_digits, first, ends_line}
 
 pub span_end : (s : List ℕ) (i : ℕ) → length s ≤ i → span (drop i s) ≡ 0

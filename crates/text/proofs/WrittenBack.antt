@@ -10,7 +10,9 @@ use lib.Dec.{leb, eqb}
 use lib.ListN.{length, take, drop, length-append, length-drop, take-append-drop}
 use lib.Seq.{drop-drop}
 use borrow.Author.Tests.{eqb-true}
-use Rattle.text.specs.Text.{Field, number, empty, malformed, most, state_of, until, onto, parts, field, fields, line, line_fields, line_at, after}
+use Rattle.text.specs.declared.field.Field.{Field}
+use Rattle.text.specs.declared.field.Field.TheVariants.{Number as number, Empty as empty, Malformed as malformed}
+use Rattle.text.specs.Text.{most, state_of, until, onto, parts, field, fields, line, line_fields, line_at, after}
 use Rattle.text.specs.Lines.{first_of}
 use Rattle.text.specs.Bounds.{well_formed}
 use Rattle.text.specs.Write.{field_text, fields_text, line_text}

@@ -2,9 +2,13 @@
 -- Document 01, the paragraph that begins "A sheet is ASCII lines ended by LF", and number 2 of its table.
 use Rattle.std.specs.Prelude.{ℕ, List, [], ◌∷◌, map, Bool, true, false, cond, ◌&&◌, leb, length, get_or}
 use Rattle.std.proofs.Math.Option.{Option, none, some}
-use Rattle.text.specs.Text.{Field, number, empty, malformed, most, state_of, row}
+use Rattle.std.specs.Prelude.{Result, Ok, Err}
+use Rattle.text.specs.declared.field.Field.{Field}
+use Rattle.text.specs.declared.field.Field.TheVariants.{Number as number, Empty as empty, Malformed as malformed}
+use Rattle.text.specs.Text.{most, state_of, row}
 use Rattle.text.specs.declared.bounds.Judged.{Judged}
-use Rattle.text.specs.declared.bounds.Judged.TheVariants.{Line, Unfit, Wrong}
+use Rattle.text.specs.declared.bounds.Misfit.{Misfit}
+use Rattle.text.specs.declared.bounds.Misfit.TheVariants.{Unfit, Wrong}
 
 pub record Bound : Type 0 where
   pub optional : Bool
@@ -51,6 +55,6 @@ fits_rows (b ∷ bs) [] = false
 fits_rows (b ∷ bs) (f ∷ fs) = row_within b f && fits_rows bs fs
 
 -- a line of fixed fields, with the place after it
-abbrev pub judged : List (List ℕ) → ℕ → Option (List Field) → Judged
-judged bs next none = Wrong
-judged bs next (some fs) = cond (fits_rows bs (map row fs)) (Line (length fs) next) Unfit
+abbrev pub judged : List (List ℕ) → ℕ → Option (List Field) → Result Judged Misfit
+judged bs next none = Err Wrong
+judged bs next (some fs) = cond (fits_rows bs (map row fs)) (Ok (record { count = length fs; next = next })) (Err Unfit)

@@ -2,7 +2,8 @@
 -- Document 01, the paragraph that begins "A sheet is ASCII lines ended by LF".
 use Rattle.std.specs.Prelude.{ℕ, suc, ◌+◌, List, [], ◌∷◌, length}
 use Rattle.std.proofs.Math.Option.{Option, none}
-use Rattle.text.specs.Text.{Field, line_fields}
+use Rattle.text.specs.declared.field.Field.{Field}
+use Rattle.text.specs.Text.{line_fields}
 
 -- the fields of the first line
 unfoldable pub first_of : ℕ → List (List ℕ) → Option (List Field)

@@ -1,7 +1,9 @@
 -- Cited only by the contracts of private functions: a field as a single pass over the bytes sees it.
 -- That it is the field of `Text` is proved in proofs/Fields.antt.
 use Rattle.std.specs.Prelude.{◌≡◌, ℕ, suc, ◌+◌, ◌-◌, ◌*◌, ◌≤◌, ◌<◌, length, get_or, List, [], ◌∷◌, Bool, true, cond, leb, eqb}
-use Rattle.text.specs.Text.{Field, number, empty, malformed, most}
+use Rattle.text.specs.declared.field.Field.{Field}
+use Rattle.text.specs.declared.field.Field.TheVariants.{Number as number, Empty as empty, Malformed as malformed}
+use Rattle.text.specs.Text.{most}
 
 -- how many bytes stand before the first comma or LF
 unfoldable pub span : List ℕ → ℕ

@@ -2,6 +2,8 @@
 -- Document 01, the paragraph that begins "A sheet is ASCII lines ended by LF".
 use Rattle.std.specs.Prelude.{ℕ, suc, ◌+◌, ◌-◌, ◌*◌, max, List, [], ◌∷◌, map, Bool, cond, ◌&&◌, ltb, leb, eqb, length, take, drop}
 use Rattle.std.proofs.Math.Option.{Option, none, some}
+use Rattle.text.specs.declared.field.Field.{Field}
+use Rattle.text.specs.declared.field.Field.TheVariants.{Number as number, Empty as empty, Malformed as malformed}
 
 -- how many bytes stand before the first b, or all of them where there is none
 unfoldable pub until : ℕ → List ℕ → ℕ
@@ -17,12 +19,6 @@ onto x (p ∷ ps) = (x ∷ p) ∷ ps
 unfoldable pub parts : ℕ → List ℕ → List (List ℕ)
 parts b [] = [] ∷ []
 parts b (x ∷ xs) = cond (eqb x b) ([] ∷ parts b xs) (onto x (parts b xs))
-
--- what a field is
-pub data Field : Type 0 where
-  number : ℕ → Field
-  empty : Field
-  malformed : Field
 
 abbrev pub is_digit : ℕ → Bool
 is_digit b = leb 48 b && leb b 57

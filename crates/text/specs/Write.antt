@@ -2,7 +2,8 @@
 -- Document 01, the paragraph that begins "A sheet is ASCII lines ended by LF": answers are lines of the same form.
 use Rattle.std.specs.Prelude.{ℕ, zero, suc, ◌+◌, ◌/◌, ◌%◌, ◌≡◌, List, [], ◌∷◌, ◌++◌, cond, ltb, eqb, length, get_or}
 use Rattle.std.proofs.lemmas.List.Edits.{sets}
-use Rattle.text.specs.Text.{Field, number, empty, malformed}
+use Rattle.text.specs.declared.field.Field.{Field}
+use Rattle.text.specs.declared.field.Field.TheVariants.{Number as number, Empty as empty, Malformed as malformed}
 
 -- the digits of n, with as many steps as k allows
 unfoldable pub digits : ℕ → ℕ → List ℕ

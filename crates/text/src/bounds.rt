@@ -4,12 +4,18 @@ ghost use Rattle.text.specs.Text.{line, line_fields, line_at, after};
 ghost use Rattle.text.specs.Read.{stored_in};
 ghost use Rattle.text.specs.Bounds.{fits_rows, judged};
 
-use crate::line::{Line, line_at};
+use crate::line::{Fields, line_at};
 
-// A line whose fields are within their bounds; one whose fields are not, or not as many; or no line of the letter.
+// A line whose fields are within their bounds, with the place after it.
 #[derive(Clone, Copy)]
-pub enum Judged {
-    Line { count: usize, next: usize },
+pub struct Judged {
+    pub count: usize,
+    pub next: usize,
+}
+
+// A line whose fields are not within their bounds, or not as many; or no line of the letter.
+#[derive(Clone, Copy, PartialEq, Eq, Debug)]
+pub enum Misfit {
     Unfit,
     Wrong,
 }
@@ -40,25 +46,19 @@ pub fn fixed_at(
     letter: u8,
     bounds: &[[u64; 2]],
     out: &mut [[u64; 2]],
-) -> Judged
+) -> Result<Judged, Misfit>
     requires { length bounds.now ≤ length out.old }
     ensures answer { result ≡ judged bounds.now (after s.now at) (line_at letter s.now at) }
     ensures stored { out.new ≡ stored_in out.old (line_fields letter (line (drop at s.now))) }
 {
-    let Line::Fields {
-        count,
-        worst: _,
-        largest: _,
-        next,
-    } = line_at(s, at, letter, out)
-    else {
-        return Judged::Wrong;
+    let Some(Fields { count, next, .. }) = line_at(s, at, letter, out) else {
+        return Err(Misfit::Wrong);
     };
     if count != bounds.len() {
-        return Judged::Unfit;
+        return Err(Misfit::Unfit);
     }
     if !rows_fit(bounds, &out[0..count]) {
-        return Judged::Unfit;
+        return Err(Misfit::Unfit);
     }
-    Judged::Line { count, next }
+    Ok(Judged { count, next })
 }

@@ -1,26 +1,64 @@
-// Reads one field of a line. A field is a state (0 a number, 1 empty, 2 malformed) and a value, 0 where it has none.
+// Reads one field of a line.
 ghost use Rattle.std.specs.Prelude.{◌≡◌, true, ◌+◌, drop};
-ghost use Rattle.text.specs.Text.{number, empty, malformed};
+ghost use Rattle.text.specs.declared.field.Field.TheVariants.{Number as number, Empty as empty, Malformed as malformed};
+ghost use Rattle.text.specs.Text.{state_of, value_of};
 ghost use Rattle.text.specs.Scan.{span, more_digits, first, DigitAndComma};
 ghost use Rattle.text.specs.Read.{field_to};
+ghost use Rattle.text.specs.Write.{row_field};
 
 const MOST: u64 = 18446744073709551615;
 
 // The largest number of which ten times as much still fits.
 const TENTH: u64 = 1844674407370955161;
 
+// A number of 64 bits, nothing, or anything else.
+#[derive(Clone, Copy, PartialEq, Eq, Debug)]
+pub enum Field {
+    Number(u64),
+    Empty,
+    Malformed,
+}
+
+impl Field {
+    // The field that a row stands for.
+    pub fn of_row(row: &[u64; 2]) -> Field
+        ensures { result ≡ row_field row.now }
+    {
+        match row[0] {
+            0 => Field::Number(row[1]),
+            1 => Field::Empty,
+            _ => Field::Malformed,
+        }
+    }
+
+    // The state of its row: 0 a number, 1 empty, 2 malformed.
+    pub fn state(self) -> u64
+        ensures { result ≡ state_of self }
+    {
+        match self {
+            Field::Number(_) => 0,
+            Field::Empty => 1,
+            Field::Malformed => 2,
+        }
+    }
+
+    // The value of its row, 0 where it is no number.
+    pub fn value(self) -> u64
+        ensures { result ≡ value_of self }
+    {
+        match self {
+            Field::Number(n) => n,
+            Field::Empty => 0,
+            Field::Malformed => 0,
+        }
+    }
+}
+
 // A field, with the place of the byte that ends it, or the text's length.
 #[derive(Clone, Copy)]
 pub struct Scanned {
     pub end: usize,
-    pub state: u64,
-    pub value: u64,
-}
-
-pub fn widened(b: u8) -> u64
-    ensures { result ≡ b }
-{
-    b as u64
+    pub field: Field,
 }
 
 fn number_to(end: usize, n: u64) -> Scanned
@@ -28,8 +66,7 @@ fn number_to(end: usize, n: u64) -> Scanned
 {
     Scanned {
         end,
-        state: 0,
-        value: n,
+        field: Field::Number(n),
     }
 }
 
@@ -38,8 +75,7 @@ fn empty_to(end: usize) -> Scanned
 {
     Scanned {
         end,
-        state: 1,
-        value: 0,
+        field: Field::Empty,
     }
 }
 
@@ -65,11 +101,9 @@ fn field_end(s: &[u8], at: usize) -> usize
 fn malformed_at(s: &[u8], at: usize) -> Scanned
     ensures { result ≡ field_to (at + span (drop at s.now)) malformed }
 {
-    let end = field_end(s, at);
     Scanned {
-        end,
-        state: 2,
-        value: 0,
+        end: field_end(s, at),
+        field: Field::Malformed,
     }
 }
 
@@ -80,7 +114,7 @@ fn more_digits(s: &[u8], at: usize, begun: u64) -> Scanned
     let mut i = at;
     let mut n = begun;
     while i < s.len() {
-        let b = widened(s[i]);
+        let b = u64::from(s[i]);
         if b == 44 {
             return number_to(i, n);
         }
@@ -117,7 +151,7 @@ pub(crate) fn field_at(s: &[u8], at: usize) -> Scanned
     if s.len() <= at {
         return empty_to(at);
     }
-    let b = widened(s[at]);
+    let b = u64::from(s[at]);
     if b == 44 {
         return empty_to(at);
     }

@@ -1,7 +1,9 @@
 // Writes numbers, fields and lines where there is room for them, and gives their exact length beforehand.
 ghost use Rattle.std.specs.Prelude.{◌≡◌, [], ◌∷◌, map, ℕ, ◌+◌, ◌-◌, ◌≤◌, ◌<◌, length};
 ghost use Rattle.std.proofs.lemmas.List.Edits.{sets};
-ghost use Rattle.text.specs.Write.{decimal, field_of, row_field, field_text, line_text, Wrote};
+ghost use Rattle.text.specs.Write.{decimal, row_field, field_text, line_text, Wrote};
+
+use crate::field::Field;
 
 // How many decimal digits a number has.
 pub fn number_length(n: u64) -> usize
@@ -18,14 +20,14 @@ pub fn number_length(n: u64) -> usize
     k
 }
 
-pub fn field_length(state: u64, value: u64) -> usize
-    ensures exact { result ≡ length (field_text (field_of state value)) }
+pub fn field_length(field: Field) -> usize
+    ensures exact { result ≡ length (field_text field) }
     ensures few { result ≤ 20 }
 {
-    if state != 0 {
-        return 0;
+    match field {
+        Field::Number(n) => number_length(n),
+        Field::Empty | Field::Malformed => 0,
     }
-    number_length(value)
 }
 
 // The length of the rows' line, whatever its letter.
@@ -33,10 +35,8 @@ pub fn line_length(rows: &[[u64; 2]]) -> usize
     ensures { (letter : ℕ) → result ≡ length (line_text letter (map row_field rows.now)) }
 {
     let mut n: usize = 2;
-    let mut i: usize = 0;
-    while i < rows.len() {
-        n = n + 1 + field_length(rows[i][0], rows[i][1]);
-        i += 1;
+    for row in rows {
+        n = n + 1 + field_length(Field::of_row(row));
     }
     n
 }
@@ -53,7 +53,7 @@ fn digit(d: u64) -> u8
     requires { d < 10 }
     ensures { result ≡ 48 + d }
 {
-    (48 + d) as u8
+    b'0' + d as u8
 }
 
 // The digits of `n`, the last of them before `end`.
@@ -109,15 +109,15 @@ pub fn put_number(out: &mut [u8], at: usize, n: u64) -> usize
 }
 
 // A comma, and the field: its digits where it is a number, and else nothing.
-pub fn put_field(out: &mut [u8], at: usize, state: u64, value: u64) -> usize
-    requires { at + length (44 ∷ field_text (field_of state value)) ≤ length out.old }
-    ensures { Wrote out.old at (44 ∷ field_text (field_of state value)) out.new result }
+pub fn put_field(out: &mut [u8], at: usize, field: Field) -> usize
+    requires { at + length (44 ∷ field_text field) ≤ length out.old }
+    ensures { Wrote out.old at (44 ∷ field_text field) out.new result }
 {
-    let p = put_byte(out, at, 44);
-    if state != 0 {
-        return p;
+    let p = put_byte(out, at, b',');
+    match field {
+        Field::Number(n) => put_number(out, p, n),
+        Field::Empty | Field::Malformed => p,
     }
-    put_number(out, p, value)
 }
 
 // A letter, the fields of the rows, and an LF.
@@ -126,10 +126,8 @@ pub fn put_line(out: &mut [u8], at: usize, letter: u8, rows: &[[u64; 2]]) -> usi
     ensures { Wrote out.old at (line_text letter (map row_field rows.now)) out.new result }
 {
     let mut p = put_byte(out, at, letter);
-    let mut i: usize = 0;
-    while i < rows.len() {
-        p = put_field(out, p, rows[i][0], rows[i][1]);
-        i += 1;
+    for row in rows {
+        p = put_field(out, p, Field::of_row(row));
     }
-    put_byte(out, p, 10)
+    put_byte(out, p, b'\n')
 }

@@ -10,14 +10,8 @@ returns-in_default-clause-answer c = none_found (after c.args.s.now c.args.at) (
 pub returns-in_default-clause-stored : goal.returns-in_default-clause-stored
 returns-in_default-clause-stored c = c.line_at.ensures.stored
 
-pub widened-requires : goal.widened-requires
-widened-requires c = tt
-
-pub widened-requires-2 : goal.widened-requires-2
-widened-requires-2 c = tt
-
 pub returns-clause-answer : goal.returns-clause-answer
-returns-clause-answer c = line_found (after c.args.s.now c.args.at) (line_at c.args.letter c.args.s.now c.args.at) _ _ _ _ _ _ (sym c.in-Fields.is ∙ c.line_at.ensures.answer) c.widened.ensures c.widened-2.ensures
+returns-clause-answer c = line_found (after c.args.s.now c.args.at) (line_at c.args.letter c.args.s.now c.args.at) _ (sym c.in-Some.is ∙ c.line_at.ensures.answer)
 
 pub returns-clause-stored : goal.returns-clause-stored
 returns-clause-stored c = c.line_at.ensures.stored

@@ -15,8 +15,5 @@ returns-then-out-at-2 c = let both = no_room _ _ (line_text c.args.letter (map r
 pub put_line-requires : goal.put_line-requires
 put_line-requires c = omega (arith, c.line_length.ensures c.args.letter)
 
-pub widened-requires : goal.widened-requires
-widened-requires c = tt
-
 pub returns : goal.returns
-returns c = let both = room _ c.args.at (line_text c.args.letter (map row_field c.args.rows.now)) (omega (arith, c.line_length.ensures c.args.letter)) _ _ _ c.put_line.ensures c.widened.ensures in record { answer = both.0; stored = both.1 }
+returns c = let both = room _ c.args.at (line_text c.args.letter (map row_field c.args.rows.now)) (omega (arith, c.line_length.ensures c.args.letter)) _ _ c.put_line.ensures in record { answer = both.0; stored = both.1 }

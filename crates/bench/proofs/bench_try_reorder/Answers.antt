@@ -1,36 +1,38 @@
--- `bench::bench_try_reorder` meets its contract: one law of `Storing` for each way out.
-use mathlib.Core.Path.{◌≡◌, ap}
+-- `bench::bench_try_reorder` meets its contract: by whether the pairs were moved (`stood`, `moved`).
+use mathlib.Core.Path.{◌≡◌, ap, sym, ◌∙◌}
 use mathlib.Core.Bool.{true}
-use native.Mathlib.Omega.{arith}
+use Rattle.keys.specs.Lists.{permute}
+use Rattle.keys.specs.Expressions.{gone_number}
 use Rattle.keys.specs.Values.{report_of}
-use Rattle.keys.proofs.Outcomes.{from_start}
-use Rattle.bench.specs.Orders.{taken}
-use Rattle.bench.proofs.Storing.{was_tried, long_required, long_left, uneven, even, not_taken, stood, moved}
+use Rattle.std.proofs.lemmas.List.Edits.{sets}
+use Rattle.bench.specs.Orders.{taken, report_for, left_for, right_for}
+use Rattle.bench.proofs.Storing.{was_tried, even, stood, moved, unmoved}
 use Rattle.bench.proofs.bench_try_reorder.Goals as goal
+use Rattle.bench.proofs.bench_try_reorder.Goals.{After-report-2}
 
-pub returns-then-r-gt32 : goal.returns-then-r-gt32
-returns-then-r-gt32 c = let both = not_taken c.args.w.now c.args.r.now c.args.l.now c.args.g.now c.args.left.now c.args.right.now (long_required c.args.r.now c.args.l.now c.args.g.now c.if-r-gt32.true) in record { answer = both.0; left = both.1.0; right = both.1.1 }
+pub returns-in_default : goal.returns-in_default
+returns-in_default c =
+    let a = c.args in let t = c.try_reorder-tried in
+    let is_taken : taken a.r.now a.l.now a.g.now ≡ true = even a.r.now a.l.now a.g.now c.if-r-gt32.false c.if-l-gt32.false c.if-g-l.false in
+    let both = stood a.w.now a.r.now a.l.now a.g.now a.left.now a.right.now is_taken t.result (was_tried a.w.now a.r.now a.l.now a.g.now t.result t.ensures) (unmoved t.result c.in_default.not-Moved) in
+    record { answer = c.report.ensures ∙ both.0; left = both.1.0; right = both.1.1 }
 
-pub returns-then-l-gt32 : goal.returns-then-l-gt32
-returns-then-l-gt32 c = let both = not_taken c.args.w.now c.args.r.now c.args.l.now c.args.g.now c.args.left.now c.args.right.now (long_left c.args.r.now c.args.l.now c.args.g.now c.if-r-gt32.false c.if-l-gt32.true) in record { answer = both.0; left = both.1.0; right = both.1.1 }
+all_moved :
+    (c : After-report-2) → let a = c.args in
+    (report_of c.try_reorder-tried.result ≡ report_for a.w.now a.r.now a.l.now a.g.now)
+    × ((c.store_moved.new.out ≡ left_for a.w.now a.r.now a.l.now a.g.now a.left.now) × (c.store_moved-2.new.out ≡ right_for a.w.now a.r.now a.l.now a.g.now a.right.now))
+all_moved c =
+    let a = c.args in let t = c.try_reorder-tried in
+    let is_taken : taken a.r.now a.l.now a.g.now ≡ true = even a.r.now a.l.now a.g.now c.if-r-gt32.false c.if-l-gt32.false c.if-g-l.false in
+    moved a.w.now a.r.now a.l.now a.g.now a.left.now a.right.now is_taken t.result (was_tried a.w.now a.r.now a.l.now a.g.now t.result t.ensures) c.in-Moved.at c.in-Moved.is _ _
+    (c.store_moved.ensures ∙ ap (λ ps. sets a.left.now 0 (permute gone_number a.l.now ps)) c.numbers.ensures)
+    (c.store_moved-2.ensures ∙ ap (λ ps. sets a.right.now 0 (permute gone_number a.g.now ps)) c.numbers-2.ensures)
 
-pub returns-then-g-l : goal.returns-then-g-l
-returns-then-g-l c = let both = not_taken c.args.w.now c.args.r.now c.args.l.now c.args.g.now c.args.left.now c.args.right.now (uneven c.args.r.now c.args.l.now c.args.g.now c.if-r-gt32.false c.if-l-gt32.false c.if-g-l.true) in record { answer = both.0; left = both.1.0; right = both.1.1 }
+pub returns-clause-answer : goal.returns-clause-answer
+returns-clause-answer c = c.report-2.ensures ∙ ap report_of (sym c.in-Moved.is) ∙ (all_moved (goal.at.returns-clause-answer c).After-report-2).0
 
-pub returns-in-Met : goal.returns-in-Met
-returns-in-Met c =
-    let so = was_tried c.args.w.now c.args.r.now c.args.l.now c.args.g.now c.try_reorder-t.result c.try_reorder-t.ensures.1 in
-    let is_taken : taken c.args.r.now c.args.l.now c.args.g.now ≡ true = even c.args.r.now c.args.l.now c.args.g.now c.if-r-gt32.false c.if-l-gt32.false c.if-g-l.false in
-    let both = stood c.args.w.now c.args.r.now c.args.l.now c.args.g.now c.args.left.now c.args.right.now is_taken c.try_reorder-t.result so 1 (ap report_of c.in-Met.is) (λ z. omega arith) in record { answer = both.0; left = both.1.0; right = both.1.1 }
+pub returns-clause-left : goal.returns-clause-left
+returns-clause-left c = (all_moved (goal.at.returns-clause-left c).After-report-2).1.0
 
-pub returns-in-Impossible : goal.returns-in-Impossible
-returns-in-Impossible c =
-    let so = was_tried c.args.w.now c.args.r.now c.args.l.now c.args.g.now c.try_reorder-t.result c.try_reorder-t.ensures.1 in
-    let is_taken : taken c.args.r.now c.args.l.now c.args.g.now ≡ true = even c.args.r.now c.args.l.now c.args.g.now c.if-r-gt32.false c.if-l-gt32.false c.if-g-l.false in
-    let both = stood c.args.w.now c.args.r.now c.args.l.now c.args.g.now c.args.left.now c.args.right.now is_taken c.try_reorder-t.result so 3 (ap report_of c.in-Impossible.is) (λ z. omega arith) in record { answer = both.0; left = both.1.0; right = both.1.1 }
-
-pub returns-in-Moved : goal.returns-in-Moved
-returns-in-Moved c =
-    let so = was_tried c.args.w.now c.args.r.now c.args.l.now c.args.g.now c.try_reorder-t.result c.try_reorder-t.ensures.1 in
-    let is_taken : taken c.args.r.now c.args.l.now c.args.g.now ≡ true = even c.args.r.now c.args.l.now c.args.g.now c.if-r-gt32.false c.if-l-gt32.false c.if-g-l.false in
-    let at = c.try_reorder-t.result.at in let both = moved c.args.w.now c.args.r.now c.args.l.now c.args.g.now c.args.left.now c.args.right.now is_taken c.try_reorder-t.result so c.in-Moved.is _ _ _ (from_start at.count at.items) c.store_moved.ensures c.store_moved-in-Moved.ensures in record { answer = both.0; left = both.1.0; right = both.1.1 }
+pub returns-clause-right : goal.returns-clause-right
+returns-clause-right c = (all_moved (goal.at.returns-clause-right c).After-report-2).1.1

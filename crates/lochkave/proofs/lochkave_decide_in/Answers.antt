@@ -11,40 +11,28 @@ pub adjust_in-requires : goal.adjust_in-requires
 adjust_in-requires c = let k = c.keys_fit.ensures.0 c.if-not-keys_fit.false in
     (omega (arith, k.wide), k.many, k.full)
 
-pub returns-then-kind-eq75 : goal.returns-then-kind-eq75
+pub returns-in-75 : goal.returns-in-75
 unfolding decision
-returns-then-kind-eq75 c = let a = c.args in let both = first_key a.sheet.now a.out.now _ _ _ _ _ _ c.first_byte-kind.ensures c.if-kind-eq75.true (c.adjust_in.ensures.result, c.adjust_in.ensures.bytes) in record { result = both.0; bytes = both.1 }
+returns-in-75 c = let a = c.args in let both = first_key a.sheet.now a.out.now _ _ _ _ _ _ c.first_byte.ensures c.in-75.is (c.adjust_in.ensures.result, c.adjust_in.ensures.bytes) in record { result = both.0; bytes = both.1 }
 
 pub follow_in-requires : goal.follow_in-requires
 follow_in-requires c = let k = c.keys_fit.ensures.0 c.if-not-keys_fit.false in
     (omega (arith, k.wide), k.ruled, omega (arith, k.many), k.full)
 
-pub returns-then-kind-eq73 : goal.returns-then-kind-eq73
+pub returns-in-73 : goal.returns-in-73
 unfolding decision
-returns-then-kind-eq73 c = let a = c.args in let both = first_join a.sheet.now a.out.now _ _ _ _ _ _ c.first_byte-kind.ensures c.if-kind-eq73.true (c.follow_in.ensures.result, c.follow_in.ensures.bytes) in record { result = both.0; bytes = both.1 }
+returns-in-73 c = let a = c.args in let both = first_join a.sheet.now a.out.now _ _ _ _ _ _ c.first_byte.ensures c.in-73.is (c.follow_in.ensures.result, c.follow_in.ensures.bytes) in record { result = both.0; bytes = both.1 }
 
-pub slice_bounds-tree-end : goal.slice_bounds-tree-end
-slice_bounds-tree-end c = let t = c.trees_fit.ensures.0 c.if-not-trees_fit.false in
-    omega (arith, t.treed)
-
-pub slice_bounds-tree-end-2 : goal.slice_bounds-tree-end-2
-slice_bounds-tree-end-2 c = let t = c.trees_fit.ensures.0 c.if-not-trees_fit.false in
+pub slice_bounds-tree-end-in_default : goal.slice_bounds-tree-end-in_default
+slice_bounds-tree-end-in_default c = let t = c.trees_fit.ensures.0 c.if-not-trees_fit.false in
     sym (length-take-le 256 c.args.rows.now t.treed)
 
-pub slice_bounds-answer-end : goal.slice_bounds-answer-end
-slice_bounds-answer-end c = let t = c.trees_fit.ensures.0 c.if-not-trees_fit.false in
-    omega (arith, t.answered)
-
-pub slice_bounds-answer-end-2 : goal.slice_bounds-answer-end-2
-slice_bounds-answer-end-2 c = let t = c.trees_fit.ensures.0 c.if-not-trees_fit.false in
+pub slice_bounds-answer-end-in_default : goal.slice_bounds-answer-end-in_default
+slice_bounds-answer-end-in_default c = let t = c.trees_fit.ensures.0 c.if-not-trees_fit.false in
     sym (length-take-le 536 c.args.dst.now t.answered)
 
-pub slice_bounds-places-end : goal.slice_bounds-places-end
-slice_bounds-places-end c = let t = c.trees_fit.ensures.0 c.if-not-trees_fit.false in
-    omega (arith, t.indexed)
-
-pub slice_bounds-places-end-2 : goal.slice_bounds-places-end-2
-slice_bounds-places-end-2 c = let t = c.trees_fit.ensures.0 c.if-not-trees_fit.false in
+pub slice_bounds-places-end-in_default : goal.slice_bounds-places-end-in_default
+slice_bounds-places-end-in_default c = let t = c.trees_fit.ensures.0 c.if-not-trees_fit.false in
     sym (length-take-le 129 c.args.index.now t.indexed)
 
 pub distribute_in-requires : goal.distribute_in-requires
@@ -63,6 +51,6 @@ distribute_in-requires c = let k = c.keys_fit.ensures.0 c.if-not-keys_fit.false 
       indexed = length-take-le 129 a.index.now t.indexed;
     }
 
-pub returns : goal.returns
+pub returns-in_default : goal.returns-in_default
 unfolding decision
-returns c = let a = c.args in let both = first_plan_lem a.sheet.now a.out.now _ _ _ _ _ _ c.first_byte-kind.ensures c.if-kind-eq75.false c.if-kind-eq73.false (c.distribute_in.ensures.result, c.distribute_in.ensures.bytes) in record { result = both.0; bytes = both.1 }
+returns-in_default c = let a = c.args in let both = first_plan_lem a.sheet.now a.out.now _ _ _ _ _ _ c.first_byte.ensures (λ e. omega arith) (λ e. omega arith) (c.distribute_in.ensures.result, c.distribute_in.ensures.bytes) in record { result = both.0; bytes = both.1 }

@@ -1,6 +1,6 @@
--- Each case ends past its start.
-use Rattle.std.proofs.Common.{length, ◌-◌}
+-- Each case takes bytes of the text.
+use Rattle.std.proofs.Common.{length}
 use Rattle.replay.proofs.run.Given as goal
 
-abbrev pub decreases-loop-at : goal.decreases-loop-at
-decreases-loop-at g l = length l.s - l.at
+abbrev pub decreases-loop-rest : goal.decreases-loop-rest
+decreases-loop-rest g l = length l.rest

@@ -1,14 +1,10 @@
--- `adjust::aggregate::group_columns` meets its contract. The columns packed so far, before the columns left, are all (`columns_turn`).
+-- The columns packed so far, before the columns left, are all.
 use mathlib.Core.Path.{◌≡◌}
 use mathlib.Core.List.{◌++◌}
-use Prim.Native.Nat.{◌≤◌, ◌-◌}
 use lib.ListN.{length, take, drop}
 use Rattle.keys.specs.Expressions.{expressions}
 use Rattle.keys.specs.Adjust.{columns_from}
 use Rattle.adjust.proofs.aggregate.group_columns.Given as goal
 
 abbrev pub invariant-loop-i : goal.invariant-loop-i
-invariant-loop-i l = (l.i ≤ length l.o) × (length l.out ≡ 32) × (expressions (take l.i l.out) ++ columns_from l.i (drop l.i l.o) ≡ columns_from 0 l.o)
-
-abbrev pub decreases-loop-i : goal.decreases-loop-i
-decreases-loop-i l = length l.o - l.i
+invariant-loop-i l = (length l.out ≡ 32) × (expressions (take l.i l.out) ++ columns_from l.i (drop l.i l.groups) ≡ columns_from 0 l.groups)

@@ -1,12 +1,11 @@
--- `answers::key::answer_adjusted` meets its contract. R shifted and the projection are made ready for the answer.
+-- R shifted and the projection are made ready for the answer.
 use mathlib.Core.Path.{refl, ap, ◌∙◌}
 use mathlib.Core.List.{◌++◌}
 use native.Mathlib.Omega.{arith}
-use lib.ListN.{length, take, get_or, length-take}
+use lib.ListN.{length, get_or, length-take}
 use Rattle.keys.specs.Expressions.{expressions}
 use Rattle.keys.specs.Adjust.{placed_names, names_from}
-use Rattle.keys.specs.Answers.{projected_by}
-use Rattle.keys.proofs.Outcomes.{from_start}
+use Rattle.keys.specs.Answers.{projected_by, places_by}
 use Rattle.sheet.specs.KeyAnswers.{projected_numbers}
 use Rattle.moves.specs.Chosen.{shifted_for}
 use Rattle.moves.proofs.HeldKeys.{key_there, key_lines}
@@ -34,31 +33,14 @@ pub projected_by-w-requires : goal.projected_by-w-requires
 projected_by-w-requires c = let lines = key_lines c.args.lists.now c.args.counts.now c.requires.0 in
     (rw c.held-groups.ensures lines.3, rw c.held-names.ensures lines.4, refl)
 
-pub slice_bounds-answer_moved-end : goal.slice_bounds-answer_moved-end
-slice_bounds-answer_moved-end c = let w = c.requires.1.at in omega (arith, w.full, w.fits)
-
 pub answer_moved-requires : goal.answer_moved-requires
-answer_moved-requires c = let x = c.args.x in let w = c.requires.1.at in let k = c.shifted_keys-h in let j = c.projected_by-w in (
+answer_moved-requires c = let x = c.args.x.now in let k = c.shifted_keys-h in let j = c.projected_by-w in (
   c.requires.0,
-  rw (from_start x.at.count x.at.items, length-take x.at.count x.at.items) (omega (arith, w.fits)),
   record {
-    shifts =
-        ap expressions (from_start k.result k.new.out) ∙ k.ensures.2
-        ∙ (λ i. shifted_for x.first x.others (get_or (c.held.ensures i) 3 0) (expressions (c.held-2.ensures i)));
-    few = rw (from_start k.result k.new.out, length-take) (omega (arith, k.ensures.1));
+    shifts = k.ensures.2 ∙ (λ i. shifted_for x.first x.others (get_or (c.held.ensures i) 3 0) (expressions (c.held-2.ensures i)));
+    few = rw length-take (omega (arith, k.ensures.1));
   },
-  rw (from_start j.result j.new.out, length-take) (omega (arith, j.ensures.0)),
-  λ e.
-      let o = c.held-groups.ensures in let a = c.held-names.ensures in record {
-        places = take x.places.count x.places.items;
-        made =
-            from_start j.result j.new.out ∙ j.ensures.2
-            ∙ (λ i. projected_numbers (projected_by x.outcome (placed_names (o i) (from_start x.places.count x.places.items i) ++ names_from (length (o i)) (a i))));
-        fits = rw (from_start x.at.count x.at.items) (c.requires.2 e);
-      },
+  rw length-take (omega (arith, j.ensures.0)),
+  j.ensures.2 ∙ (λ i. projected_numbers (projected_by x.outcome (placed_names (c.held-groups.ensures i) (places_by x.outcome) ++ names_from (length (c.held-groups.ensures i)) (c.held-names.ensures i)))),
+  c.requires.1,
 )
-
-pub returns : goal.returns
-returns c = let x = c.args.x in let j = c.projected_by-w in let o = c.held-groups.ensures in let a = c.held-names.ensures in let e = from_start j.result j.new.out ∙ j.ensures.2
-    ∙ (λ i. projected_numbers (projected_by x.outcome (placed_names (o i) (from_start x.places.count x.places.items i) ++ names_from (length (o i)) (a i)))) in
-    rw (from_start x.at.count x.at.items) at (c.answer_moved.ensures (take x.places.count x.places.items) e)

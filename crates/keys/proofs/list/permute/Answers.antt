@@ -1,25 +1,20 @@
--- `keys::list::permute` meets its contract. The array filled so far, with what is left, is what stands at the positions (`fill_turn`).
+-- The array filled so far, with what is left, is what stands at the positions (`fill_turn`).
 use mathlib.Core.Path.{◌≡◌, sym, ◌∙◌}
 use native.Mathlib.Omega.{arith}
-use lib.ListN.{length, get_or, length-map, get_or-map}
+use lib.ListN.{length, get_or, length-set, length-map, get_or-map}
 use Rattle.keys.specs.Lists.{permute}
 use Rattle.keys.proofs.Turns.{fill_turn, fill_end}
-use borrow.Author.Rules.{rules}
 use Rattle.keys.proofs.list.permute.Goals as goal
 
-pub entry-requires : goal.entry-requires
-entry-requires c = tt
-
 pub loop-i-preserved : goal.loop-i-preserved
-loop-i-preserved c = let k = c.args.all.now in let ps = c.args.at.now in let gone = c.args.gone in let i = c.loop-i.i in let t = c.loop-i-test.true in (
-  search rules,
-  search rules,
-  fill_turn (permute gone k ps) c.loop-i.out i c.loop-i.invariant.2 c.entry.result (get_or k 0 gone)
-      (rw (length-map ps) t)
-      (omega (arith, t, c.loop-i.invariant.1, c.requires.0))
+loop-i-preserved c = let k = c.args.all.now in let ps = c.args.at.now in let gone = c.args.gone in let i = c.loop-i.i in (
+  simp length-set c.loop-i.invariant.0,
+  fill_turn (permute gone k ps) c.loop-i.out i c.loop-i.invariant.1 c.entry.result (get_or k 0 gone)
+      (rw (length-map ps) c.loop-i-test.true)
+      (omega (arith, c.loop-i.invariant.0))
       (c.entry.ensures ∙ sym (get_or-map (λ p. get_or k p gone) ps i 0)),
 )
 
 pub returns : goal.returns
-returns c = let ps = c.args.at.now in let e : length ps ≡ c.loop-i.i = omega (arith, c.loop-i.invariant.0, c.loop-i-test.false) in
-    (c.loop-i.invariant.1, rw e (fill_end (permute c.args.gone c.args.all.now ps) c.loop-i.out c.loop-i.i c.loop-i.invariant.2 (rw (length-map ps) c.loop-i-test.false)))
+returns c = let ps = c.args.at.now in let e : length ps ≡ c.loop-i.i = omega (arith, c.loop-i.auto.i-end) in
+    (c.loop-i.invariant.0, rw e (fill_end (permute c.args.gone c.args.all.now ps) c.loop-i.out c.loop-i.i c.loop-i.invariant.1 (rw (length-map ps) c.loop-i-test.false)))

@@ -1,28 +1,22 @@
--- `keys::reorder::rewrite_keys` meets its contract. The array filled so far, with what is left, is the rewritten keys (`fill_turn`).
+-- The array filled so far, with what is left, is the rewritten keys (`fill_turn`).
 use mathlib.Core.Path.{◌≡◌, sym, ◌∙◌}
 use mathlib.Core.List.{map}
 use native.Mathlib.Omega.{arith}
 use lib.Dec.{eqb}
-use lib.ListN.{length, length-map, get_or-map}
+use lib.ListN.{length, length-set, length-map, get_or-map}
 use Rattle.keys.specs.Reorder.{rewrite_one}
 use Rattle.keys.specs.Values.{number_rules}
 use Rattle.keys.proofs.Turns.{fill_turn, fill_end}
-use borrow.Author.Rules.{rules}
 use Rattle.keys.proofs.reorder.rewrite_keys.Goals as goal
 
-pub rewrite_one-requires : goal.rewrite_one-requires
-rewrite_one-requires c = tt
-
 pub loop-i-preserved : goal.loop-i-preserved
-loop-i-preserved c = let k = c.args.keys.now in let f = rewrite_one eqb (number_rules c.args.w.now) in
-    let i = c.loop-i.i in let t = c.loop-i-test.true in (
-      search rules,
-      search rules,
-      fill_turn (map f k) c.loop-i.out i c.loop-i.invariant.2 c.rewrite_one.result (f 0) (rw (length-map k f) t) (omega (arith, t, c.loop-i.invariant.1, c.requires.0))
-          (c.rewrite_one.ensures ∙ sym (get_or-map f k i 0)),
-    )
+loop-i-preserved c = let k = c.args.keys.now in let f = rewrite_one eqb (number_rules c.args.w.now) in let i = c.loop-i.i in (
+  simp length-set c.loop-i.invariant.0,
+  fill_turn (map f k) c.loop-i.out i c.loop-i.invariant.1 c.rewrite_one.result (f 0) (rw (length-map k f) c.loop-i-test.true) (omega (arith, c.loop-i.invariant.0))
+      (c.rewrite_one.ensures ∙ sym (get_or-map f k i 0)),
+)
 
 pub returns : goal.returns
 returns c = let k = c.args.keys.now in let f = rewrite_one eqb (number_rules c.args.w.now) in
-    let e : length k ≡ c.loop-i.i = omega (arith, c.loop-i.invariant.0, c.loop-i-test.false) in
-    (c.loop-i.invariant.1, rw e (fill_end (map f k) c.loop-i.out c.loop-i.i c.loop-i.invariant.2 (rw (length-map k f) c.loop-i-test.false)))
+    let e : length k ≡ c.loop-i.i = omega (arith, c.loop-i.auto.i-end) in
+    (c.loop-i.invariant.0, rw e (fill_end (map f k) c.loop-i.out c.loop-i.i c.loop-i.invariant.1 (rw (length-map k f) c.loop-i-test.false)))

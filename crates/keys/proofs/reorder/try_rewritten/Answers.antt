@@ -14,4 +14,4 @@ returns c = let a = c.rewrite_keys in let b = c.rewrite_keys-2 in let d = c.rewr
     let e = front_is (length r) (length r) a.new.out (rewrite eqb w r) a.ensures.1 refl in
     let f = front_is (length l) (length r) b.new.out (rewrite eqb w l) b.ensures.1 c.requires.1 in
     let h = front_is (length g) (length r) d.new.out (rewrite eqb w g) d.ensures.1 c.requires.2 in
-    (c.search_order.ensures.0, c.search_order.ensures.1 ∙ (λ k. searched eqb gone_number r l g (e k) (f k) (h k)))
+    c.search_order.ensures ∙ (λ k. searched eqb gone_number r l g (e k) (f k) (h k))

@@ -1,17 +1,11 @@
--- `linekinds::kind::over` meets its contract. The numbers from i on are over the largest exactly where all of them are.
-use mathlib.Core.Path.{sym, ◌∙◌}
-use mathlib.Core.List.{[]}
-use lib.ListN.{length-map, get_or-map}
-use Rattle.linekinds.specs.Reading.{row_value, row_values}
-use Rattle.linekinds.proofs.Defined.{over_here, over_later, over_end}
-use borrow.Author.Rules.{rules}
+-- `over` meets its contract: a row over the largest is a number over it.
+use Rattle.std.proofs.Common.{◌≡◌, ◌∙◌, arith, true}
+use Rattle.std.specs.Prelude.{slice_index, ltb, ◌↔◌, IsTrue}
+use Rattle.std.specs.List.{Any}
+use Rattle.std.proofs.lemmas.Grind.{common_steps}
+use Rattle.std.proofs.lemmas.Bool.Decides.{nat_tests}
+use Rattle.linekinds.proofs.Defined.{any_is, over_any}
 use Rattle.linekinds.proofs.kind.over.Goals as goal
 
-pub returns-then-most-rows : goal.returns-then-most-rows
-returns-then-most-rows c = let rs = c.args.rows.now in let i = c.loop-i.i in sym (c.loop-i.invariant.1 ∙ over_here c.args.most (row_values rs) i (rw (length-map rs row_value) c.loop-i-test.true) (rw (get_or-map row_value rs i []) c.if-most-rows.true))
-
-pub loop-i-preserved : goal.loop-i-preserved
-loop-i-preserved c = let rs = c.args.rows.now in let i = c.loop-i.i in (search rules, c.loop-i.invariant.1 ∙ over_later c.args.most (row_values rs) i (rw (length-map rs row_value) c.loop-i-test.true) (rw (get_or-map row_value rs i []) c.if-most-rows.false))
-
 pub returns : goal.returns
-returns c = let rs = c.args.rows.now in sym (c.loop-i.invariant.1 ∙ over_end c.args.most (row_values rs) c.loop-i.i (rw (length-map rs row_value) c.loop-i-test.false))
+returns c = let e : IsTrue c.any.result ↔ Any (λ r. ltb c.args.most (slice_index r 1) ≡ true) c.args.rows.now = grind (arith, common_steps, nat_tests) in any_is _ _ _ e ∙ over_any c.args.most c.args.rows.now

@@ -2,80 +2,90 @@
 use mathlib.Core.Path.{◌≡◌, sym, ap, subst, ◌∙◌}
 use mathlib.Core.List.{List, map}
 use mathlib.Core.Option.{Option, some}
-use Prim.Native.Nat.{ℕ, ◌-◌, ◌≤◌}
+use Prim.Native.Nat.{ℕ, ◌≤◌}
 use native.Mathlib.Omega.{arith}
-use lib.ListN.{length, take, drop, length-map}
-use Rattle.text.specs.Text.{Field, line, line_fields, line_at, after, row}
+use lib.ListN.{length, take, drop, length-map, length-take}
+use Rattle.text.specs.declared.field.Field.{Field}
+use Rattle.text.specs.Text.{line, line_fields, line_at, after, row}
 use Rattle.text.specs.Read.{stored_in}
 use Rattle.text.proofs.Answers.{rows_held}
 use Rattle.linekinds.specs.Lines.{line_number}
 use Rattle.linekinds.specs.KeyLines.{values}
-use Rattle.linekinds.specs.Reading.{kind_of, row_values, packed_by, read_by, Fits}
-use Rattle.linekinds.specs.ListLines.{line_letter, line_codes, line_kind, packed_list, number_of}
+use Rattle.linekinds.specs.Reading.{kind_of, row_values, packed_by, read_by, Small, Fits}
+use Rattle.linekinds.specs.ListLines.{line_letter, line_codes, packed_list}
 use Rattle.linekinds.specs.declared.kind.Codes.{Codes}
+use Rattle.linekinds.specs.declared.line.Read.{Read}
+use Rattle.linekinds.specs.declared.line.Read.TheVariants.{Line}
 use Rattle.linekinds.proofs.ReadLines.{row_values_lem}
 use Rattle.linekinds.proofs.ReadLists.{Good, was_read, was_turned, good_fit, good_room, good_small, list_turned, packed_long, list_packed}
 use Rattle.linekinds.proofs.lists.judged_list.Goals as goal
 
-pub returns-in_default : goal.returns-in_default
-returns-in_default c =
-    let answer : c.read_line-r.result ≡ read_by (line_number (line_kind c.args.k c.args.i) 0 (after (c.args.s.now) c.args.at) ((line_at (line_letter c.args.k c.args.i) (c.args.s.now) c.args.at))) (after (c.args.s.now) c.args.at) ((line_at (line_letter c.args.k c.args.i) (c.args.s.now) c.args.at)) = let e = c.line_codes-c.ensures in let f = c.line_letter-letter.ensures in c.read_line-r.ensures.answer 0
-    ∙ (λ j. read_by (line_number (kind_of (e j) (f j)) 0 (after (c.args.s.now) c.args.at) (line_at (f j) (c.args.s.now) c.args.at)) (after (c.args.s.now) c.args.at) (line_at (f j) (c.args.s.now) c.args.at)) in
-    let t = was_turned (line_codes c.args.k c.args.i) (line_letter c.args.k c.args.i) 0 (after (c.args.s.now) c.args.at) ((line_at (line_letter c.args.k c.args.i) (c.args.s.now) c.args.at)) _ (sym c.in_default.is ∙ answer) in
-    record {
-      answer = list_turned _ (after (c.args.s.now) c.args.at) (line_codes c.args.k c.args.i) ((line_at (line_letter c.args.k c.args.i) (c.args.s.now) c.args.at)) _ (t.0 ∙ sym (c.number_of.ensures ∙ ap number_of c.in_default.is)) t.1;
-      full = c.requires.1;
-      held = λ z. absurd (t.1 z);
-    }
+-- what the line reader answers, of the codes and the letter that line i has
+abbrev Answered : List ℕ → ℕ → Codes → ℕ → Read → Type 0
+Answered s at c letter r = r ≡ read_by (line_number (kind_of c letter) 0 (after s at) (line_at letter s at)) (after s at) (line_at letter s at)
+
+-- a line that was read, its fields in the rows
+module _ (s : List ℕ) (at : ℕ) (c : Codes) (letter count next : ℕ) (rows rows' : List (List ℕ)) (so : Answered s at c letter (Line count next)) (stored : rows' ≡ stored_in rows (line_fields letter (line (drop at s)))) (room : 192 ≤ length rows) where
+  abbrev good : Good c letter 0 (after s at) (line_at letter s at) count next
+  good = was_read c letter 0 (after s at) (line_at letter s at) count next so
+
+  zero_is : line_number (kind_of c letter) 0 (after s at) (some (good).fs) ≡ 0
+  zero_is = rw (← (good).is) (good).zero
+
+  few : count ≤ 192
+  few = rw (good).counts (good_room c letter 0 (after s at) (good).fs zero_is)
+
+  rows_are : take count rows' ≡ map row (good).fs
+  rows_are = subst (λ (n : ℕ). take n rows' ≡ map row (good).fs) (sym (good).counts) (rows_held letter s at (good).fs (good).is rows rows' stored (omega (arith, (good).counts, few, room)))
+
+  values_are : row_values (take count rows') ≡ values (good).fs
+  values_are = ap row_values rows_are ∙ row_values_lem (good).fs
+
+  fit : Fits c (length (take count rows'))
+  fit = subst (λ (m : ℕ). Fits c m) (sym (ap length rows_are ∙ length-map (good).fs row)) (good_fit c letter 0 (after s at) (good).fs zero_is)
+
+  small : Small (row_values (take count rows'))
+  small = rw values_are (good_small c letter 0 (after s at) (good).fs zero_is)
+
+  packed_is : packed_by c (row_values (take count rows')) ≡ packed_list c (line_at letter s at)
+  packed_is = ap (packed_by c) values_are ∙ ap (λ (x : Option (List Field)). packed_list c x) (sym (good).is)
 
 pub slice_bounds-pack_line-end : goal.slice_bounds-pack_line-end
 slice_bounds-pack_line-end c =
-    let answer : c.read_line-r.result ≡ read_by (line_number (line_kind c.args.k c.args.i) 0 (after (c.args.s.now) c.args.at) ((line_at (line_letter c.args.k c.args.i) (c.args.s.now) c.args.at))) (after (c.args.s.now) c.args.at) ((line_at (line_letter c.args.k c.args.i) (c.args.s.now) c.args.at)) = let e = c.line_codes-c.ensures in let f = c.line_letter-letter.ensures in c.read_line-r.ensures.answer 0
-    ∙ (λ j. read_by (line_number (kind_of (e j) (f j)) 0 (after (c.args.s.now) c.args.at) (line_at (f j) (c.args.s.now) c.args.at)) (after (c.args.s.now) c.args.at) (line_at (f j) (c.args.s.now) c.args.at)) in
-    let good : Good (line_codes c.args.k c.args.i) (line_letter c.args.k c.args.i) 0 (after (c.args.s.now) c.args.at) ((line_at (line_letter c.args.k c.args.i) (c.args.s.now) c.args.at)) c.in-Line.count c.in-Line.next = was_read (line_codes c.args.k c.args.i) (line_letter c.args.k c.args.i) 0 (after (c.args.s.now) c.args.at) ((line_at (line_letter c.args.k c.args.i) (c.args.s.now) c.args.at)) _ _ (sym c.in-Line.is ∙ answer) in
-    let zero_is : line_number (line_kind c.args.k c.args.i) 0 (after (c.args.s.now) c.args.at) (some (good).fs) ≡ 0 = rw (← (good).is) (good).zero in
-    let few : c.in-Line.count ≤ 192 = rw (good).counts (good_room (line_codes c.args.k c.args.i) (line_letter c.args.k c.args.i) 0 (after (c.args.s.now) c.args.at) (good).fs (zero_is)) in
-    omega (arith, few, c.requires.0, c.read_line-r.auto.rows)
+    let a = c.args in
+    omega (arith, few a.s.now a.at c.codes-c.result c.letter.result c.in-Line.count c.in-Line.next a.rows.now c.read_line.new.rows (sym c.in-Line.is ∙ c.read_line.ensures.answer 0) c.read_line.ensures.stored c.requires.0, c.requires.0, c.read_line.auto.rows)
+
+pub slice_bounds-pack_line-end-in-Line : goal.slice_bounds-pack_line-end-in-Line
+slice_bounds-pack_line-end-in-Line c =
+    let a = c.args in
+    let h = few a.s.now a.at c.codes-c.result c.letter.result c.in-Line.count c.in-Line.next a.rows.now c.read_line.new.rows (sym c.in-Line.is ∙ c.read_line.ensures.answer 0) c.read_line.ensures.stored c.requires.0 in
+    simp length-take (omega (arith, h, c.requires.0, c.read_line.auto.rows))
 
 pub pack_line-packed-requires : goal.pack_line-packed-requires
 pack_line-packed-requires c =
-    let answer : c.read_line-r.result ≡ read_by (line_number (line_kind c.args.k c.args.i) 0 (after (c.args.s.now) c.args.at) ((line_at (line_letter c.args.k c.args.i) (c.args.s.now) c.args.at))) (after (c.args.s.now) c.args.at) ((line_at (line_letter c.args.k c.args.i) (c.args.s.now) c.args.at)) = let e = c.line_codes-c.ensures in let f = c.line_letter-letter.ensures in c.read_line-r.ensures.answer 0
-    ∙ (λ j. read_by (line_number (kind_of (e j) (f j)) 0 (after (c.args.s.now) c.args.at) (line_at (f j) (c.args.s.now) c.args.at)) (after (c.args.s.now) c.args.at) (line_at (f j) (c.args.s.now) c.args.at)) in
-    let good : Good (line_codes c.args.k c.args.i) (line_letter c.args.k c.args.i) 0 (after (c.args.s.now) c.args.at) ((line_at (line_letter c.args.k c.args.i) (c.args.s.now) c.args.at)) c.in-Line.count c.in-Line.next = was_read (line_codes c.args.k c.args.i) (line_letter c.args.k c.args.i) 0 (after (c.args.s.now) c.args.at) ((line_at (line_letter c.args.k c.args.i) (c.args.s.now) c.args.at)) _ _ (sym c.in-Line.is ∙ answer) in
-    let zero_is : line_number (line_kind c.args.k c.args.i) 0 (after (c.args.s.now) c.args.at) (some (good).fs) ≡ 0 = rw (← (good).is) (good).zero in
-    let fits_count : Fits (line_codes c.args.k c.args.i) (length (good).fs) = good_fit (line_codes c.args.k c.args.i) (line_letter c.args.k c.args.i) 0 (after (c.args.s.now) c.args.at) (good).fs (zero_is) in
-    let few : c.in-Line.count ≤ 192 = rw (good).counts (good_room (line_codes c.args.k c.args.i) (line_letter c.args.k c.args.i) 0 (after (c.args.s.now) c.args.at) (good).fs (zero_is)) in
-    let rows_are : take (c.in-Line.count - 0) c.read_line-r.new.rows ≡ map row (good).fs = let o = good in
-    let z : c.in-Line.count - 0 ≡ length o.fs = omega (arith, o.counts) in
-    let f = c.line_letter-letter.ensures in rw z (rows_held (line_letter c.args.k c.args.i) (c.args.s.now) c.args.at o.fs o.is c.args.rows.now c.read_line-r.new.rows
-    (c.read_line-r.ensures.stored ∙ (λ j. stored_in c.args.rows.now (line_fields (f j) (line (drop c.args.at (c.args.s.now)))))) (omega (arith, few, o.counts, c.requires.0))) in
-    let values_are : row_values (take (c.in-Line.count - 0) c.read_line-r.new.rows) ≡ values (good).fs = ap row_values (rows_are) ∙ row_values_lem (good).fs in
-    let e = c.line_codes-c.ensures in (
-      subst (λ (m : ℕ). Fits c.line_codes-c.result m) (sym (ap length (rows_are) ∙ length-map (good).fs row))
-          (subst (λ (x : Codes). Fits x (length (good).fs)) (sym e) (fits_count)),
+    let a = c.args in let so = sym c.in-Line.is ∙ c.read_line.ensures.answer 0 in (
+      fit a.s.now a.at c.codes-c.result c.letter.result c.in-Line.count c.in-Line.next a.rows.now c.read_line.new.rows so c.read_line.ensures.stored c.requires.0,
       c.requires.1,
-      rw (values_are) (good_small (line_codes c.args.k c.args.i) (line_letter c.args.k c.args.i) 0 (after (c.args.s.now) c.args.at) (good).fs (zero_is)),
+      small a.s.now a.at c.codes-c.result c.letter.result c.in-Line.count c.in-Line.next a.rows.now c.read_line.new.rows so c.read_line.ensures.stored c.requires.0,
     )
 
-pub returns : goal.returns
-returns c =
-    let answer : c.read_line-r.result ≡ read_by (line_number (line_kind c.args.k c.args.i) 0 (after (c.args.s.now) c.args.at) ((line_at (line_letter c.args.k c.args.i) (c.args.s.now) c.args.at))) (after (c.args.s.now) c.args.at) ((line_at (line_letter c.args.k c.args.i) (c.args.s.now) c.args.at)) = let e = c.line_codes-c.ensures in let f = c.line_letter-letter.ensures in c.read_line-r.ensures.answer 0
-    ∙ (λ j. read_by (line_number (kind_of (e j) (f j)) 0 (after (c.args.s.now) c.args.at) (line_at (f j) (c.args.s.now) c.args.at)) (after (c.args.s.now) c.args.at) (line_at (f j) (c.args.s.now) c.args.at)) in
-    let good : Good (line_codes c.args.k c.args.i) (line_letter c.args.k c.args.i) 0 (after (c.args.s.now) c.args.at) ((line_at (line_letter c.args.k c.args.i) (c.args.s.now) c.args.at)) c.in-Line.count c.in-Line.next = was_read (line_codes c.args.k c.args.i) (line_letter c.args.k c.args.i) 0 (after (c.args.s.now) c.args.at) ((line_at (line_letter c.args.k c.args.i) (c.args.s.now) c.args.at)) _ _ (sym c.in-Line.is ∙ answer) in
-    let zero_is : line_number (line_kind c.args.k c.args.i) 0 (after (c.args.s.now) c.args.at) (some (good).fs) ≡ 0 = rw (← (good).is) (good).zero in
-    let few : c.in-Line.count ≤ 192 = rw (good).counts (good_room (line_codes c.args.k c.args.i) (line_letter c.args.k c.args.i) 0 (after (c.args.s.now) c.args.at) (good).fs (zero_is)) in
-    let rows_are : take (c.in-Line.count - 0) c.read_line-r.new.rows ≡ map row (good).fs = let o = good in
-    let z : c.in-Line.count - 0 ≡ length o.fs = omega (arith, o.counts) in
-    let f = c.line_letter-letter.ensures in rw z (rows_held (line_letter c.args.k c.args.i) (c.args.s.now) c.args.at o.fs o.is c.args.rows.now c.read_line-r.new.rows
-    (c.read_line-r.ensures.stored ∙ (λ j. stored_in c.args.rows.now (line_fields (f j) (line (drop c.args.at (c.args.s.now)))))) (omega (arith, few, o.counts, c.requires.0))) in
-    let values_are : row_values (take (c.in-Line.count - 0) c.read_line-r.new.rows) ≡ values (good).fs = ap row_values (rows_are) ∙ row_values_lem (good).fs in
-    let k = line_codes c.args.k c.args.i in
-    let e = c.line_codes-c.ensures in let p = c.pack_line-packed.ensures in let o = good in
-    let q : take c.pack_line-packed.result c.pack_line-packed.new.out ≡ packed_list k ((line_at (line_letter c.args.k c.args.i) (c.args.s.now) c.args.at))
-    = p.2 ∙ (λ j. packed_by (e j) (values_are j)) ∙ ap (λ (x : Option (List Field)). packed_list k x) (sym o.is) in
-    let n = packed_long 0 0 k ((line_at (line_letter c.args.k c.args.i) (c.args.s.now) c.args.at)) c.pack_line-packed.result c.pack_line-packed.new.out p.0 p.1 q in
-    record {
-      answer = list_packed _ (after (c.args.s.now) c.args.at) k ((line_at (line_letter c.args.k c.args.i) (c.args.s.now) c.args.at)) o.zero _ _ n o.goes;
-      full = p.0;
-      held = λ z. rw (← n) q;
-    }
+pub returns-in-Refused : goal.returns-in-Refused
+returns-in-Refused c =
+    let a = c.args in let x = line_at (line_letter a.k a.i) a.s.now a.at in
+    let so : Answered a.s.now a.at (line_codes a.k a.i) (line_letter a.k a.i) c.read_line.result = rw (← c.codes-c.ensures, ← c.letter.ensures) (c.read_line.ensures.answer 0) in
+    let t = was_turned (line_codes a.k a.i) (line_letter a.k a.i) 0 (after a.s.now a.at) x c.in-Refused.refusal (sym c.in-Refused.is ∙ so) in
+    record { answer = list_turned _ (after a.s.now a.at) (line_codes a.k a.i) x c.in-Refused.refusal t.0 t.1; full = c.requires.1; held = λ z. absurd (t.1 z) }
+
+pub returns-in-Line : goal.returns-in-Line
+returns-in-Line c =
+    let a = c.args in let k = line_codes a.k a.i in let l = line_letter a.k a.i in let x = line_at l a.s.now a.at in
+    let so : Answered a.s.now a.at k l c.read_line.result = rw (← c.codes-c.ensures, ← c.letter.ensures) (c.read_line.ensures.answer 0) in
+    let at : Answered a.s.now a.at k l (Line c.in-Line.count c.in-Line.next) = sym c.in-Line.is ∙ so in
+    let stored : c.read_line.new.rows ≡ stored_in a.rows.now (line_fields l (line (drop a.at a.s.now))) = rw (← c.letter.ensures) c.read_line.ensures.stored in
+    let o = was_read k l 0 (after a.s.now a.at) x c.in-Line.count c.in-Line.next at in
+    let p = c.pack_line-packed.ensures in
+    let q : take c.pack_line-packed.result c.pack_line-packed.new.out ≡ packed_list k x =
+    p.2 ∙ ap (λ (d : Codes). packed_by d (row_values (take c.in-Line.count c.read_line.new.rows))) c.codes-c.ensures
+    ∙ packed_is a.s.now a.at k l c.in-Line.count c.in-Line.next a.rows.now c.read_line.new.rows at stored c.requires.0 in
+    let n = packed_long 0 0 k x c.pack_line-packed.result c.pack_line-packed.new.out p.0 p.1 q in
+    record { answer = list_packed _ (after a.s.now a.at) k x o.zero _ _ n o.goes; full = p.0; held = λ z. rw (← n) q }

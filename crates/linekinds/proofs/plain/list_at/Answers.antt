@@ -6,8 +6,8 @@ use Rattle.linekinds.specs.declared.kind.Codes.{Codes}
 use Rattle.linekinds.proofs.PlainLines.{exprs_found, rules_found, input_found, directions_found, names_found}
 use Rattle.linekinds.proofs.plain.list_at.Goals as goal
 
-pub overflow_add-at : goal.overflow_add-at
-overflow_add-at c =
+pub overflow_add-p : goal.overflow_add-p
+overflow_add-p c =
     let letter : StandsAt c.args.s.now c.args.at c.args.letter = c.stands.ensures.0 c.if-not-stands.false in
     omega (arith, (letter).0)
 
@@ -16,40 +16,20 @@ returns-in-Exprs c =
     let letter : StandsAt c.args.s.now c.args.at c.args.letter = c.stands.ensures.0 c.if-not-stands.false in
     (c.entries_at.ensures.0, subst (λ (x : Codes). ListFound x c.args.letter c.args.s.now c.args.at c.entries_at.result c.entries_at.new.list) (sym c.in-Exprs.is) (exprs_found c.args.s.now c.args.at c.args.letter c.requires.1 (letter) c.args.list.now c.entries_at.result c.entries_at.new.list c.entries_at.ensures.1))
 
-pub overflow_add-at-in-Rules : goal.overflow_add-at-in-Rules
-overflow_add-at-in-Rules c =
-    let letter : StandsAt c.args.s.now c.args.at c.args.letter = c.stands.ensures.0 c.if-not-stands.false in
-    omega (arith, (letter).0)
-
 pub returns-in-Rules : goal.returns-in-Rules
 returns-in-Rules c =
     let letter : StandsAt c.args.s.now c.args.at c.args.letter = c.stands.ensures.0 c.if-not-stands.false in
     (c.rules_at.ensures.0, subst (λ (x : Codes). ListFound x c.args.letter c.args.s.now c.args.at c.rules_at.result c.rules_at.new.list) (sym c.in-Rules.is) (rules_found c.args.s.now c.args.at c.args.letter c.requires.1 (letter) c.args.list.now c.rules_at.result c.rules_at.new.list c.rules_at.ensures.1))
-
-pub overflow_add-at-in-Input : goal.overflow_add-at-in-Input
-overflow_add-at-in-Input c =
-    let letter : StandsAt c.args.s.now c.args.at c.args.letter = c.stands.ensures.0 c.if-not-stands.false in
-    omega (arith, (letter).0)
 
 pub returns-in-Input : goal.returns-in-Input
 returns-in-Input c =
     let letter : StandsAt c.args.s.now c.args.at c.args.letter = c.stands.ensures.0 c.if-not-stands.false in
     (c.input_at.ensures.0, subst (λ (x : Codes). ListFound x c.args.letter c.args.s.now c.args.at c.input_at.result c.input_at.new.list) (sym c.in-Input.is) (input_found c.args.s.now c.args.at c.args.letter c.requires.1 (letter) c.args.list.now c.input_at.result c.input_at.new.list (omega (arith, c.requires.0)) c.input_at.ensures.1))
 
-pub overflow_add-at-in-Directions : goal.overflow_add-at-in-Directions
-overflow_add-at-in-Directions c =
-    let letter : StandsAt c.args.s.now c.args.at c.args.letter = c.stands.ensures.0 c.if-not-stands.false in
-    omega (arith, (letter).0)
-
 pub returns-in-Directions : goal.returns-in-Directions
 returns-in-Directions c =
     let letter : StandsAt c.args.s.now c.args.at c.args.letter = c.stands.ensures.0 c.if-not-stands.false in
     (c.numbers_at.ensures.0, subst (λ (x : Codes). ListFound x c.args.letter c.args.s.now c.args.at c.numbers_at.result c.numbers_at.new.list) (sym c.in-Directions.is) (directions_found c.args.s.now c.args.at c.args.letter c.requires.1 (letter) c.args.list.now c.numbers_at.result c.numbers_at.new.list c.numbers_at.ensures.1))
-
-pub overflow_add-at-in-Names : goal.overflow_add-at-in-Names
-overflow_add-at-in-Names c =
-    let letter : StandsAt c.args.s.now c.args.at c.args.letter = c.stands.ensures.0 c.if-not-stands.false in
-    omega (arith, (letter).0)
 
 pub returns-in-Names : goal.returns-in-Names
 returns-in-Names c =

@@ -1,7 +1,7 @@
 -- `exprs_length` meets its contract: the length so far, with that of the expressions from `i` on, is the line's.
 use native.Mathlib.Omega.{arith}
 use mathlib.Core.List.{map}
-use Rattle.text.specs.Text.{number}
+use Rattle.text.specs.declared.field.Field.TheVariants.{Number as number}
 use Rattle.keys.specs.Expressions.{expressions}
 use Rattle.sheet.specs.KeyAnswers.{expr_numbers}
 use Rattle.lines.proofs.Pieces.{adding_first, adding_more, adding_done}

@@ -1,7 +1,7 @@
 -- `numbers_length` meets its contract: the length so far, with that of the fields from `i` on, is the line's.
 use native.Mathlib.Omega.{arith}
 use mathlib.Core.List.{map}
-use Rattle.text.specs.Text.{number}
+use Rattle.text.specs.declared.field.Field.TheVariants.{Number as number}
 use Rattle.lines.specs.Fields.{number_field}
 use Rattle.lines.proofs.Pieces.{adding_first, adding_more, adding_done}
 use Rattle.lines.proofs.Lines.{number_fields_lem, line_long}

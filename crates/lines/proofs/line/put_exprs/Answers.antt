@@ -1,6 +1,6 @@
 -- `put_exprs` meets its contract: the letter, the fields, the LF.
 use mathlib.Core.List.{[], ◌∷◌, map}
-use Rattle.text.specs.Text.{number}
+use Rattle.text.specs.declared.field.Field.TheVariants.{Number as number}
 use Rattle.text.specs.Write.{fields_text}
 use Rattle.keys.specs.Expressions.{expressions}
 use Rattle.sheet.specs.KeyAnswers.{expr_numbers, exprs_line}

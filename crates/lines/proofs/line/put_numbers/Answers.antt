@@ -1,6 +1,6 @@
 -- `put_numbers` meets its contract: the letter, the fields, the LF.
 use mathlib.Core.List.{[], ◌∷◌, map}
-use Rattle.text.specs.Text.{number}
+use Rattle.text.specs.declared.field.Field.TheVariants.{Number as number}
 use Rattle.text.specs.Write.{fields_text}
 use Rattle.sheet.specs.KeyAnswers.{numbers_line}
 use Rattle.lines.proofs.Pieces.{Due, due_all, due_room, due_then, due_none}

@@ -1,7 +1,7 @@
 -- `put_input` meets its contract: the letter, the mark, the expressions, the LF; where there is no mark, a line of nothing.
 use mathlib.Core.List.{[], ◌∷◌, map}
 use lib.ListN.{take, drop}
-use Rattle.text.specs.Text.{number}
+use Rattle.text.specs.declared.field.Field.TheVariants.{Number as number}
 use Rattle.text.specs.Write.{fields_text}
 use Rattle.keys.specs.Expressions.{expressions}
 use Rattle.linekinds.specs.declared.kind.Codes.TheVariants as C

@@ -13,10 +13,10 @@ pub held-own-requires : goal.held-own-requires
 held-own-requires c = let t = c.loop-i-test.true in (omega (arith, t, c.requires.0), omega (arith, t, c.requires.1), c.requires.2 c.loop-i.i t)
 
 pub put_held-p-requires : goal.put_held-p-requires
-put_held-p-requires c = rw (c.line_letter-letter.ensures, c.line_codes-c.ensures, c.held-own.ensures) (writing_room _ _ _ _ _ _ _ c.loop-i.invariant c.loop-i-test.true)
+put_held-p-requires c = rw (c.letter-letter.ensures, c.codes-c.ensures, c.held-own.ensures) (writing_room _ _ _ _ _ _ _ c.loop-i.invariant c.loop-i-test.true)
 
 pub loop-i-preserved : goal.loop-i-preserved
-loop-i-preserved c = writing_more _ _ _ _ _ _ _ c.loop-i.invariant c.loop-i-test.true _ _ (rw (c.line_letter-letter.ensures, c.line_codes-c.ensures, c.held-own.ensures) at c.put_held-p.ensures)
+loop-i-preserved c = writing_more _ _ _ _ _ _ _ c.loop-i.invariant c.loop-i-test.true _ _ (rw (c.letter-letter.ensures, c.codes-c.ensures, c.held-own.ensures) at c.put_held-p.ensures)
 
 pub shape_of-out : goal.shape_of-out
 shape_of-out c = c.loop-i.invariant.owed.room

@@ -1,7 +1,8 @@
 -- `lochkave::again::rewrite_join_sheet` meets its contract. What is held is written as the sheet stood (`Entries`).
-use mathlib.Core.Path.{refl, ap}
+use mathlib.Core.Path.{refl, ap, ◌∙◌}
 use native.Mathlib.Omega.{arith}
 use lib.ListN.{replicate}
+use Rattle.refusals.specs.Refusals.{refused_word}
 use Rattle.sheet.specs.KeySheets.{read_join_sheet}
 use Rattle.sheet.proofs.Bounded.{join_turned_few}
 use Rattle.lines.proofs.Room.{room_written, room_short}
@@ -24,7 +25,7 @@ pub returns-then-out-sheet-clause-result : goal.returns-then-out-sheet-clause-re
 returns-then-out-sheet-clause-result c =
     let was : Was (read_join_sheet c.args.sheet.now) = let q = c.read_join_sheet-r in was_read (read_join_sheet c.args.sheet.now) q.result q.ensures.answer c.in_default.is in
     let a = c.args in let w = was in
-    rw (join_same a.sheet.now w.x w.is) (room_short a.out.now a.sheet.now c.if-out-sheet.true).0
+    rw (join_same a.sheet.now w.x w.is) (c.word.ensures ∙ ap refused_word c.on_line.ensures ∙ (room_short a.out.now a.sheet.now c.if-out-sheet.true).0)
 
 pub returns-then-out-sheet-clause-bytes : goal.returns-then-out-sheet-clause-bytes
 returns-then-out-sheet-clause-bytes c =

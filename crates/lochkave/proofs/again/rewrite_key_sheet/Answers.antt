@@ -1,9 +1,10 @@
 -- `lochkave::again::rewrite_key_sheet` meets its contract. What is held is written as the sheet stood (`Entries`).
 use Prim.Native.Nat.{◌≤◌}
-use mathlib.Core.Path.{◌≡◌, refl, ap}
+use mathlib.Core.Path.{◌≡◌, refl, ap, ◌∙◌}
 use mathlib.Core.List.{[]}
 use native.Mathlib.Omega.{arith}
 use lib.ListN.{get_or, replicate}
+use Rattle.refusals.specs.Refusals.{refused_word}
 use Rattle.sheet.specs.KeySheets.{read_key_sheet}
 use Rattle.sheet.specs.Held.{child_count}
 use Rattle.sheet.proofs.Bounded.{key_turned_few}
@@ -28,7 +29,7 @@ pub returns-then-out-sheet-clause-result : goal.returns-then-out-sheet-clause-re
 returns-then-out-sheet-clause-result c =
     let was : Was (read_key_sheet c.args.sheet.now) = let q = c.read_key_sheet-r in was_read (read_key_sheet c.args.sheet.now) q.result q.ensures.answer c.in_default.is in
     let a = c.args in let w = was in
-    rw (key_same a.sheet.now w.x w.is) (room_short a.out.now a.sheet.now c.if-out-sheet.true).0
+    rw (key_same a.sheet.now w.x w.is) (c.word.ensures ∙ ap refused_word c.on_line.ensures ∙ (room_short a.out.now a.sheet.now c.if-out-sheet.true).0)
 
 pub returns-then-out-sheet-clause-bytes : goal.returns-then-out-sheet-clause-bytes
 returns-then-out-sheet-clause-bytes c =

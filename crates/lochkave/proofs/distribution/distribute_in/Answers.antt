@@ -1,14 +1,12 @@
 -- `distribute_in` meets its contract: a refusal, or the decision on the sheet that is held.
-use native.Mathlib.Omega.{arith}
+use Rattle.std.proofs.Common.{arith, [], sym}
 use Rattle.plansheet.specs.PlanSheets.{read_plan}
 use Rattle.plananswer.specs.PlanDecision.{plan_decision}
 use Rattle.lochkave.proofs.PlanBounded.{plan_turned_few}
 use Rattle.lochkave.proofs.Entries.{leaves_refused}
-use Rattle.lochkave.proofs.PlanEntries.{plan_was_turned, plan_was_held, plan_turned, plan_held, room_holds, room_held}
+use Rattle.lochkave.proofs.PlanEntries.{plan_was_turned, plan_was_held, plan_turned, plan_held, room_holds}
+use Rattle.lochkave.proofs.PlanLent.{lent_in, lent_within, lent_long, lent_sheet, lent_stands, lent_same}
 use Rattle.lochkave.proofs.distribution.distribute_in.Goals as goal
-
-pub read_plan-p-requires : goal.read_plan-p-requires
-read_plan-p-requires c = let p = c.requires in (p.wide, omega arith, p.treed, omega arith, omega arith, p.rowed, p.masked, p.indexed)
 
 pub refusal-requires : goal.refusal-requires
 refusal-requires c = let a = c.args in let q = c.read_plan-p in plan_turned_few a.sheet.now _ _ (plan_was_turned (read_plan a.sheet.now) q.result _ _ q.ensures.answer c.in-Refused.is)
@@ -17,20 +15,49 @@ pub returns-in-Refused : goal.returns-in-Refused
 returns-in-Refused c = let a = c.args in let q = c.read_plan-p in let both = leaves_refused (plan_decision a.sheet.now) a.out.now _ _ _
     (plan_turned a.sheet.now _ _ (plan_was_turned (read_plan a.sheet.now) q.result _ _ q.ensures.answer c.in-Refused.is)) c.refusal.ensures in record { result = both.0; bytes = both.1 }
 
-pub answer_held-requires-clause-held : goal.answer_held-requires-clause-held
-answer_held-requires-clause-held c = let a = c.args in let q = c.read_plan-p in let w = plan_was_held (read_plan a.sheet.now) q.result _ _ _ _ _ q.ensures.answer c.in-Held.is in
-    let r = c.requires in room_held a.sheet.now _ _ _ _ w _ _ _ _ _ _ q.ensures.held (omega (arith, q.auto.facts)) (omega (arith, r.masked, q.auto.masks))
+pub held_facts-f-requires : goal.held_facts-f-requires
+held_facts-f-requires c =
+    let a = c.args in
+    let q = c.read_plan-p in
+    let w = plan_was_held (read_plan a.sheet.now) q.result _ _ _ _ _ q.ensures.answer c.in-Held.is in
+    let h = room_holds a.sheet.now _ _ _ _ w _ _ _ _ _ _ q.ensures.held in
+    lent_in _ _ _ _ _ _ _ _ _ _ _ h (omega (arith, q.auto.facts)) (omega (arith, c.requires.masked, q.auto.masks))
 
-pub answer_held-requires-clause-rows_in_bounds : goal.answer_held-requires-clause-rows_in_bounds
-answer_held-requires-clause-rows_in_bounds c = let q = c.read_plan-p in let r = c.requires in let long = q.auto.rows in (omega (arith, r.between, long), omega (arith, r.answered, long), r.bounded)
+pub slice_bounds-answer_plan-end : goal.slice_bounds-answer_plan-end
+slice_bounds-answer_plan-end c =
+    let a = c.args in
+    let q = c.read_plan-p in
+    let w = plan_was_held (read_plan a.sheet.now) q.result _ _ _ _ _ q.ensures.answer c.in-Held.is in
+    let h = room_holds a.sheet.now _ _ _ _ w _ _ _ _ _ _ q.ensures.held in
+    lent_within _ _ _ _ _ _ _ _ _ _ _ h
 
-pub shape_of-fields-in-Held : goal.shape_of-fields-in-Held
-shape_of-fields-in-Held c = omega (arith, c.read_plan-p.auto.fields)
+pub slice_bounds-answer_plan-end-in-Held : goal.slice_bounds-answer_plan-end-in-Held
+slice_bounds-answer_plan-end-in-Held c =
+    let a = c.args in
+    let q = c.read_plan-p in
+    let w = plan_was_held (read_plan a.sheet.now) q.result _ _ _ _ _ q.ensures.answer c.in-Held.is in
+    let h = room_holds a.sheet.now _ _ _ _ w _ _ _ _ _ _ q.ensures.held in
+    sym (lent_long _ _ _ _ _ _ _ _ _ _ _ h)
 
-pub returns-in-Held-clause-result : goal.returns-in-Held-clause-result
-returns-in-Held-clause-result c = let a = c.args in let q = c.read_plan-p in let w = plan_was_held (read_plan a.sheet.now) q.result _ _ _ _ _ q.ensures.answer c.in-Held.is in
-    rw (plan_held a.sheet.now w.x w.is) (c.answer_held.ensures w.x (room_holds a.sheet.now _ _ _ _ w _ _ _ _ _ _ q.ensures.held)).0
+pub answer_plan-requires-clause-sheet : goal.answer_plan-requires-clause-sheet
+answer_plan-requires-clause-sheet c =
+    let a = c.args in
+    let q = c.read_plan-p in
+    let w = plan_was_held (read_plan a.sheet.now) q.result _ _ _ _ _ q.ensures.answer c.in-Held.is in
+    let h = room_holds a.sheet.now _ _ _ _ w _ _ _ _ _ _ q.ensures.held in
+    let f = c.held_facts-f in
+    rw f.ensures.children (lent_sheet _ _ _ _ _ _ _ _ _ _ _ h (omega (arith, q.auto.facts)))
 
-pub returns-in-Held-clause-bytes : goal.returns-in-Held-clause-bytes
-returns-in-Held-clause-bytes c = let a = c.args in let q = c.read_plan-p in let w = plan_was_held (read_plan a.sheet.now) q.result _ _ _ _ _ q.ensures.answer c.in-Held.is in
-    rw (plan_held a.sheet.now w.x w.is) (c.answer_held.ensures w.x (room_holds a.sheet.now _ _ _ _ w _ _ _ _ _ _ q.ensures.held)).1
+pub returns-in-Held : goal.returns-in-Held
+returns-in-Held c =
+    let a = c.args in
+    let q = c.read_plan-p in
+    let w = plan_was_held (read_plan a.sheet.now) q.result _ _ _ _ _ q.ensures.answer c.in-Held.is in
+    let h = room_holds a.sheet.now _ _ _ _ w _ _ _ _ _ _ q.ensures.held in
+    let f = c.held_facts-f in
+    let same = lent_same _ _ _ _ _ _ _ _ _ _ _ h f.result f.ensures.node f.ensures.children f.ensures.rows f.ensures.masks in
+    let given = c.answer_plan.ensures w.x.plan [] (lent_stands _ _ _ _ _ _ _ _ _ _ _ h) in
+    record {
+      result = rw (plan_held a.sheet.now w.x w.is, sym w.settings, sym same) given.0;
+      bytes = rw (plan_held a.sheet.now w.x w.is, sym w.settings, sym same) given.1;
+    }

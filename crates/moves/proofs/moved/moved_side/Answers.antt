@@ -1,38 +1,30 @@
--- `moves::moved::moved_side` meets its contract. The array filled so far, with what is left of the keys, is all the keys (`fill_turn`).
-use mathlib.Core.Path.{◌≡◌, refl, sym, ◌∙◌}
+-- The room filled so far, with what is left of the keys, is all the keys (`fill_turn`).
+use mathlib.Core.Path.{◌≡◌, sym, ◌∙◌}
+use mathlib.Core.List.{map}
 use native.Mathlib.Omega.{arith}
-use lib.ListN.{length-set}
-use Rattle.keys.specs.Values.{packed_keys}
-use Rattle.keys.proofs.Turns.{fill_turn, fill_end, key_length, key_entry}
+use lib.ListN.{length, length-set, length-map, get_or-map, take}
+use lib.Seq.{length-take-le}
+use Rattle.std.specs.List.{take-map}
+use Rattle.keys.specs.Values.{number_of}
+use Rattle.keys.proofs.Turns.{fill_turn, fill_end}
 use Rattle.moves.proofs.moved.moved_side.Goals as goal
+use Rattle.moves.proofs.moved.moved_side.Goals.{After-keys-key-items}
 
-pub loop-i-init : goal.loop-i-init
-loop-i-init c = (omega arith, c.requires.1, refl)
-
-pub offset_bounds-k-i : goal.offset_bounds-k-i
-offset_bounds-k-i c = let m = c.moved_keys-k.ensures.0 in omega (arith, c.loop-i-test.true, m.fits)
-
-pub bounds-k-i : goal.bounds-k-i
-bounds-k-i c = let m = c.moved_keys-k.ensures.0 in omega (arith, c.loop-i-test.true, m.full, m.fits)
-
-pub offset_bounds-out-i : goal.offset_bounds-out-i
-offset_bounds-out-i c = let m = c.moved_keys-k.ensures.0 in omega (arith, c.loop-i-test.true, m.fits)
+few : (c : After-keys-key-items) → length c.keys-key-items.result.now ≡ length c.args.at.now
+few c = let k = c.moved-moved in rw c.keys-key-items.ensures (length-take-le k.result.count k.result.items (omega (arith, k.result.full, k.result.within)) ∙ k.ensures.count)
 
 pub bounds-out-i : goal.bounds-out-i
-bounds-out-i c = let m = c.moved_keys-k.ensures.0 in omega (arith, c.loop-i-test.true, m.fits, c.loop-i.invariant.1)
-
-pub overflow_add-i : goal.overflow_add-i
-overflow_add-i c = let m = c.moved_keys-k.ensures.0 in omega (arith, c.loop-i-test.true, m.fits)
+bounds-out-i c = omega (arith, few (goal.at.bounds-out-i c).After-keys-key-items)
 
 pub loop-i-preserved : goal.loop-i-preserved
-loop-i-preserved c = let k = c.moved_keys-k.result in let m = c.moved_keys-k.ensures.0 in let v = c.loop-i.invariant in let t = c.loop-i-test.true in (
-  omega (arith, t),
-  simp length-set v.1,
-  fill_turn (packed_keys k) c.loop-i.out c.loop-i.i v.2 _ 0 (rw (key_length k.items k.count (omega (arith, m.full, m.fits))) t) (omega (arith, v.1))
-      (sym (key_entry k.items k.count c.loop-i.i t)),
+loop-i-preserved c = let ks = c.keys-key-items.result.now in let v = c.loop-i.invariant in (
+  simp length-set v.0,
+  fill_turn (map number_of ks) c.loop-i.out c.loop-i.i v.1 _ 0 (rw (length-map ks number_of) c.loop-i-test.true) (omega (arith, v.0, few (goal.at.loop-i-preserved c).After-keys-key-items))
+      (sym (get_or-map number_of ks c.loop-i.i (record { number = 0 }))),
 )
 
 pub returns : goal.returns
-returns c = let k = c.moved_keys-k.result in let m = c.moved_keys-k.ensures in let v = c.loop-i.invariant in let e : c.loop-i.i ≡ k.count = omega (arith, v.0, c.loop-i-test.false) in
-    let f = fill_end (packed_keys k) c.loop-i.out c.loop-i.i v.2 (rw (key_length k.items k.count (omega (arith, m.0.full, m.0.fits))) c.loop-i-test.false) in
-    (v.1, rw (← (e ∙ m.2)) (f ∙ m.1))
+returns c = let ks = c.keys-key-items.result.now in let k = c.moved-moved in let v = c.loop-i.invariant in
+    let e : length c.args.at.now ≡ c.loop-i.i = omega (arith, few (goal.at.returns c).After-keys-key-items, c.loop-i.auto.i-end) in
+    let same : map number_of ks ≡ take k.result.count (map number_of k.result.items) = rw c.keys-key-items.ensures (sym (take-map number_of k.result.count k.result.items)) in
+    (v.0, rw e (fill_end (map number_of ks) c.loop-i.out c.loop-i.i v.1 (rw (length-map ks number_of) c.loop-i-test.false) ∙ same ∙ k.ensures.keys))

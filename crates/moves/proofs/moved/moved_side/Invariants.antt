@@ -1,13 +1,9 @@
--- `moves::moved::moved_side` meets its contract. The array filled so far, with what is left of the keys, is all the keys (`fill_turn`).
+-- The room filled so far, with what is left of the keys, is all the keys.
 use mathlib.Core.Path.{◌≡◌}
-use mathlib.Core.List.{◌++◌}
-use Prim.Native.Nat.{◌-◌, ◌≤◌}
+use mathlib.Core.List.{◌++◌, map}
 use lib.ListN.{length, take, drop}
-use Rattle.keys.specs.Values.{packed_keys}
+use Rattle.keys.specs.Values.{number_of}
 use Rattle.moves.proofs.moved.moved_side.Given as goal
 
 abbrev pub invariant-loop-i : goal.invariant-loop-i
-invariant-loop-i l = (l.i ≤ l.n) × (length l.out ≡ 32) × (take l.i l.out ++ drop l.i (packed_keys l.k) ≡ packed_keys l.k)
-
-abbrev pub decreases-loop-i : goal.decreases-loop-i
-decreases-loop-i l = l.n - l.i
+invariant-loop-i l = (length l.out ≡ 32) × (take l.i l.out ++ drop l.i (map number_of l.key-items) ≡ map number_of l.key-items)

@@ -1,15 +1,12 @@
--- `moves::projection::names_from` meets its contract. The numbers so far, before those of the names that are left, are all (`names_turn`).
+-- The numbers so far, before those of the names that are left, are all.
 use mathlib.Core.Path.{◌≡◌}
 use mathlib.Core.List.{◌++◌}
-use Prim.Native.Nat.{◌+◌, ◌-◌, ◌*◌, ◌≤◌}
+use Prim.Native.Nat.{◌+◌, ◌*◌}
 use lib.ListN.{length, take, drop}
 use Rattle.keys.specs.Adjust.{names_from}
 use Rattle.sheet.specs.KeyAnswers.{projected_numbers}
 use Rattle.moves.proofs.projection.names_from.Given as goal
 
 abbrev pub invariant-loop-i : goal.invariant-loop-i
-invariant-loop-i l = (l.i ≤ length l.a) × (l.n ≡ l.at + l.i * 2) × (length l.out ≡ 128)
-    × (take l.n l.out ++ projected_numbers (names_from (l.first + l.i) (drop l.i l.a)) ≡ take l.at l.initial.out ++ projected_numbers (names_from l.first l.a))
-
-abbrev pub decreases-loop-i : goal.decreases-loop-i
-decreases-loop-i l = length l.a - l.i
+invariant-loop-i l = (length l.out ≡ 128)
+    × (take (l.at + 2 * l.i) l.out ++ projected_numbers (names_from (l.first + l.i) (drop l.i l.a)) ≡ take l.at l.initial.out ++ projected_numbers (names_from l.first l.a))

@@ -1,15 +1,12 @@
--- `moves::projection::placed_names` meets its contract. The numbers so far, before those of the names that are left, are all (`placed_turn`).
+-- The numbers so far, before those of the names that are left, are all.
 use mathlib.Core.Path.{◌≡◌}
 use mathlib.Core.List.{◌++◌}
-use Prim.Native.Nat.{◌+◌, ◌-◌, ◌≤◌}
+use Prim.Native.Nat.{◌*◌}
 use lib.ListN.{length, take, drop}
 use Rattle.keys.specs.Adjust.{placed_names}
 use Rattle.sheet.specs.KeyAnswers.{projected_numbers}
 use Rattle.moves.proofs.projection.placed_names.Given as goal
 
 abbrev pub invariant-loop-i : goal.invariant-loop-i
-invariant-loop-i l = (l.i ≤ length l.o) × (length l.out ≡ 128)
-    × (take (l.i + l.i) l.out ++ projected_numbers (placed_names (drop l.i l.o) (drop l.i l.places)) ≡ projected_numbers (placed_names l.o l.places))
-
-abbrev pub decreases-loop-i : goal.decreases-loop-i
-decreases-loop-i l = length l.o - l.i
+invariant-loop-i l = (length l.out ≡ 128)
+    × (take (2 * l.i) l.out ++ projected_numbers (placed_names (drop l.i l.o) (drop l.i l.places)) ≡ projected_numbers (placed_names l.o l.places))

@@ -1,17 +1,14 @@
 -- `numberlines::number::longer_to` meets its contract. Each further digit goes behind those so far (`next_digit`), and is not the text's last byte.
 use Prim.Native.Nat.{ℕ, ◌+◌, ◌-◌, ◌*◌}
-use mathlib.Core.Path.{ap}
+use mathlib.Core.Path.{sym, ap, ◌∙◌}
 use native.Mathlib.Omega.{arith}
 use Rattle.linekinds.specs.PlainText.{DigitAt}
 use Rattle.linekinds.proofs.PlainText.{next_digit}
-use Rattle.numberlines.proofs.Closed.{digit_next}
+use Rattle.numberlines.proofs.Closed.{digit_here, digit_next}
 use Rattle.numberlines.proofs.number.longer_to.Goals as goal
 
 pub loop-at-init : goal.loop-at-init
 loop-at-init c = (c.requires.1, c.requires.2, λ from t. t)
-
-pub digit-requires : goal.digit-requires
-digit-requires c = c.loop-at.invariant.0
 
 pub returns-then-n-eq0 : goal.returns-then-n-eq0
 returns-then-n-eq0 c = λ from t. tt
@@ -19,39 +16,34 @@ returns-then-n-eq0 c = λ from t. tt
 pub overflow_mul-n : goal.overflow_mul-n
 overflow_mul-n c = omega (arith, c.loop-at.invariant.1, c.requires.3)
 
-pub bounds-s-p : goal.bounds-s-p
-bounds-s-p c =
-    let more : DigitAt c.args.s.now c.loop-at.p = c.digit.ensures.0 c.loop-at-test.true in
-    omega (arith, (more).0)
-
 pub overflow_sub-n : goal.overflow_sub-n
 overflow_sub-n c =
-    let more : DigitAt c.args.s.now c.loop-at.p = c.digit.ensures.0 c.loop-at-test.true in
-    omega (arith, (more).1, c.widened.ensures)
+    let more : DigitAt c.args.s.now c.loop-at.p = digit_here _ _ c.loop-at.invariant.0 (sym c.is_ascii_digit.ensures.value ∙ c.loop-at-test.true) in
+    omega (arith, (more).1, c.from.ensures)
 
 pub overflow_add-n : goal.overflow_add-n
 overflow_add-n c =
-    let more : DigitAt c.args.s.now c.loop-at.p = c.digit.ensures.0 c.loop-at-test.true in
-    omega (arith, (more).2, c.widened.ensures, c.loop-at.invariant.1, c.requires.3)
+    let more : DigitAt c.args.s.now c.loop-at.p = digit_here _ _ c.loop-at.invariant.0 (sym c.is_ascii_digit.ensures.value ∙ c.loop-at-test.true) in
+    omega (arith, (more).2, c.from.ensures, c.loop-at.invariant.1, c.requires.3)
 
 pub returns-then-n-most : goal.returns-then-n-most
 returns-then-n-most c = λ from t. tt
 
 pub overflow_add-p : goal.overflow_add-p
 overflow_add-p c =
-    let more : DigitAt c.args.s.now c.loop-at.p = c.digit.ensures.0 c.loop-at-test.true in
+    let more : DigitAt c.args.s.now c.loop-at.p = digit_here _ _ c.loop-at.invariant.0 (sym c.is_ascii_digit.ensures.value ∙ c.loop-at-test.true) in
     omega (arith, (more).0)
 
 pub loop-at-smaller : goal.loop-at-smaller
 loop-at-smaller c =
-    let more : DigitAt c.args.s.now c.loop-at.p = c.digit.ensures.0 c.loop-at-test.true in
+    let more : DigitAt c.args.s.now c.loop-at.p = digit_here _ _ c.loop-at.invariant.0 (sym c.is_ascii_digit.ensures.value ∙ c.loop-at-test.true) in
     omega (arith, (more).0)
 
 pub loop-at-preserved : goal.loop-at-preserved
 loop-at-preserved c =
-    let more : DigitAt c.args.s.now c.loop-at.p = c.digit.ensures.0 c.loop-at-test.true in
+    let more : DigitAt c.args.s.now c.loop-at.p = digit_here _ _ c.loop-at.invariant.0 (sym c.is_ascii_digit.ensures.value ∙ c.loop-at-test.true) in
     let d = more in
-    (digit_next c.args.s.now c.loop-at.p c.requires.0 d, omega arith, λ from t. next_digit _ from c.loop-at.n _ _ (c.loop-at.invariant.2 from t) d (λ e. omega arith) (ap (λ (x : ℕ). c.loop-at.n * 10 + (x - 48)) c.widened.ensures))
+    (digit_next c.args.s.now c.loop-at.p c.requires.0 d, omega arith, λ from t. next_digit _ from c.loop-at.n _ _ (c.loop-at.invariant.2 from t) d (λ e. omega arith) (ap (λ (x : ℕ). c.loop-at.n * 10 + (x - 48)) c.from.ensures))
 
 pub bounds-s-p-2 : goal.bounds-s-p-2
 bounds-s-p-2 c = omega (arith, c.loop-at.invariant.0)

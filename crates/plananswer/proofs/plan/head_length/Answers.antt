@@ -4,7 +4,7 @@ use Rattle.plananswer.proofs.RowLines.{head_long}
 use Rattle.plananswer.proofs.plan.head_length.Goals as goal
 
 pub returns-clause-exact : goal.returns-clause-exact
-returns-clause-exact c = let a = c.args in omega (
+returns-clause-exact c = let a = c.args.head in omega (
   arith,
   head_long a.changed a.window a.interleave a.tracked,
   c.number_length.ensures.exact,

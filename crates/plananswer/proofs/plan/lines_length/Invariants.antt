@@ -1,13 +1,10 @@
--- `lines_length` meets its contract: the length so far, with that of the lines from row `i` on, is that of all lines.
-use Prim.Native.Nat.{◌-◌}
-use lib.ListN.{length}
-use Rattle.lines.proofs.Pieces.{Adding}
-use Rattle.plananswer.specs.RowTexts.{row_line}
-use Rattle.plananswer.proofs.RowLines.{line_piece}
+-- What was added, with the lines from the next row on, is as long as all lines; each has at most 191 bytes.
+use Rattle.std.proofs.Common.{◌≡◌, ◌+◌, ◌*◌, ◌≤◌, length, drop}
+use Rattle.plananswer.specs.RowTexts.{lines_of, row_line}
 use Rattle.plananswer.proofs.plan.lines_length.Given as goal
 
-abbrev pub invariant-loop-i : goal.invariant-loop-i
-invariant-loop-i l = Adding (line_piece row_line l.rows) (length l.rows) 0 191 l.n l.i
-
-abbrev pub decreases-loop-i : goal.decreases-loop-i
-decreases-loop-i l = length l.rows - l.i
+abbrev pub invariant-loop-row : goal.invariant-loop-row
+invariant-loop-row l = record {
+  whole : l.n + length (lines_of row_line (drop l.row-index l.rows)) ≡ length (lines_of row_line l.rows);
+  few : l.n ≤ l.row-index * 191;
+}

@@ -10,5 +10,5 @@ returns c = let a = c.args in omega (
   arith,
   c.head_length.ensures.exact,
   c.lines_length.ensures.exact,
-  length-append (head_line a.changed a.window a.interleave a.tracked) (lines_of row_line a.rows.now),
+  length-append (head_line a.head.changed a.head.window a.head.interleave a.head.tracked) (lines_of row_line a.rows.now),
 )

@@ -8,15 +8,15 @@ use Rattle.plananswer.proofs.plan.put_plan.Goals as goal
 pub put_head-p-requires : goal.put_head-p-requires
 unfolding rows_text
 put_head-p-requires c =
-    let start : Owed c.args.out.now c.args.at ((let a = c.args in head_line a.changed a.window a.interleave a.tracked) ++ (lines_of row_line c.args.rows.now)) c.args.out.now c.args.at ((let a = c.args in head_line a.changed a.window a.interleave a.tracked) ++ (lines_of row_line c.args.rows.now)) = owed_all c.args.out.now c.args.at ((let a = c.args in head_line a.changed a.window a.interleave a.tracked) ++ (lines_of row_line c.args.rows.now)) c.requires in
-    owed_room ((let a = c.args in head_line a.changed a.window a.interleave a.tracked)) ((lines_of row_line c.args.rows.now)) (start)
+    let start : Owed c.args.out.now c.args.at ((let a = c.args in head_line a.head.changed a.head.window a.head.interleave a.head.tracked) ++ (lines_of row_line c.args.rows.now)) c.args.out.now c.args.at ((let a = c.args in head_line a.head.changed a.head.window a.head.interleave a.head.tracked) ++ (lines_of row_line c.args.rows.now)) = owed_all c.args.out.now c.args.at ((let a = c.args in head_line a.head.changed a.head.window a.head.interleave a.head.tracked) ++ (lines_of row_line c.args.rows.now)) c.requires in
+    owed_room ((let a = c.args in head_line a.head.changed a.head.window a.head.interleave a.head.tracked)) ((lines_of row_line c.args.rows.now)) (start)
 
-pub put_lines-requires : goal.put_lines-requires
+pub put_rows-requires : goal.put_rows-requires
 unfolding rows_text
-put_lines-requires c =
-    let start : Owed c.args.out.now c.args.at ((let a = c.args in head_line a.changed a.window a.interleave a.tracked) ++ (lines_of row_line c.args.rows.now)) c.args.out.now c.args.at ((let a = c.args in head_line a.changed a.window a.interleave a.tracked) ++ (lines_of row_line c.args.rows.now)) = owed_all c.args.out.now c.args.at ((let a = c.args in head_line a.changed a.window a.interleave a.tracked) ++ (lines_of row_line c.args.rows.now)) c.requires in
+put_rows-requires c =
+    let start : Owed c.args.out.now c.args.at ((let a = c.args in head_line a.head.changed a.head.window a.head.interleave a.head.tracked) ++ (lines_of row_line c.args.rows.now)) c.args.out.now c.args.at ((let a = c.args in head_line a.head.changed a.head.window a.head.interleave a.head.tracked) ++ (lines_of row_line c.args.rows.now)) = owed_all c.args.out.now c.args.at ((let a = c.args in head_line a.head.changed a.head.window a.head.interleave a.head.tracked) ++ (lines_of row_line c.args.rows.now)) c.requires in
     (owed_then (start) c.put_head-p.ensures).enough
 
 pub returns : goal.returns
 unfolding rows_text
-returns c = wrote_then c.put_head-p.ensures c.put_lines.ensures
+returns c = wrote_then c.put_head-p.ensures c.put_rows.ensures

@@ -1,16 +1,15 @@
--- `write_plan` meets its contract, by the room for the text of the first n rows.
-use Prim.Native.Nat.{◌-◌}
-use mathlib.Core.Path.{◌≡◌}
-use native.Mathlib.Omega.{arith}
-use lib.ListN.{take}
+-- `write_plan` meets its contract, by the room for the answer's text.
+use Rattle.std.proofs.Common.{arith, ◌≡◌, ap, ◌∙◌}
+use Rattle.refusals.specs.Refusals.{refused_word}
 use Rattle.lines.proofs.Room.{room_written, room_short}
 use Rattle.plananswer.specs.RowTexts.{rows_text}
 use Rattle.plananswer.proofs.plan.write_plan.Goals as goal
 
 pub returns-then-out-plan_text_length : goal.returns-then-out-plan_text_length
-returns-then-out-plan_text_length c = let z : c.args.n - 0 ≡ c.args.n = omega arith in
-    room_short c.args.out.now ((let a = c.args in rows_text a.changed a.window a.interleave a.tracked (take a.n a.rows.now))) (omega (arith, c.if-out-plan_text_length.true, rw z at c.plan_text_length.ensures))
+returns-then-out-plan_text_length c = let a = c.args in
+    let short : c.word.result ≡ 51539607552 = c.word.ensures ∙ ap refused_word c.on_line.ensures in
+    rw short (room_short a.out.now (rows_text a.head.changed a.head.window a.head.interleave a.head.tracked a.rows.now) (omega (arith, c.if-out-plan_text_length.true, c.plan_text_length.ensures)))
 
 pub returns : goal.returns
-returns c = let z : c.args.n - 0 ≡ c.args.n = omega arith in
-    room_written c.args.out.now ((let a = c.args in rows_text a.changed a.window a.interleave a.tracked (take a.n a.rows.now))) (omega (arith, c.if-out-plan_text_length.false, rw z at c.plan_text_length.ensures)) _ _ (rw z at c.put_plan.ensures)
+returns c = let a = c.args in
+    room_written a.out.now (rows_text a.head.changed a.head.window a.head.interleave a.head.tracked a.rows.now) (omega (arith, c.if-out-plan_text_length.false, c.plan_text_length.ensures)) _ _ c.put_plan.ensures

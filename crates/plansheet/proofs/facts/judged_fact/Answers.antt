@@ -5,7 +5,8 @@ use mathlib.Core.Option.{Option}
 use Prim.Native.Nat.{ℕ, ◌-◌}
 use native.Mathlib.Omega.{arith}
 use lib.ListN.{length, set, take, length-map}
-use Rattle.text.specs.Text.{Field, line_at, after, row}
+use Rattle.text.specs.declared.field.Field.{Field}
+use Rattle.text.specs.Text.{line_at, after, row}
 use Rattle.text.specs.Bounds.{bound_row}
 use Rattle.linekinds.specs.KeyLines.{values}
 use Rattle.linekinds.specs.Lines.{fields_of}

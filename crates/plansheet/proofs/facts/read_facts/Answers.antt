@@ -5,7 +5,8 @@ use mathlib.Core.Option.{Option}
 use Prim.Native.Nat.{◌≤◌, ◌<◌}
 use native.Mathlib.Omega.{arith}
 use lib.ListN.{length, set}
-use Rattle.text.specs.Text.{Field, line_at, after}
+use Rattle.text.specs.declared.field.Field.{Field}
+use Rattle.text.specs.Text.{line_at, after}
 use Rattle.linekinds.specs.KeyLines.{values}
 use Rattle.linekinds.specs.Lines.{line_number, fields_of}
 use Rattle.linekinds.specs.Reading.{read_by}

@@ -13,8 +13,8 @@ returns-in_default-clause-stored c = c.line_at.ensures.stored
 
 pub returns-then-m-ne0-clause-answer : goal.returns-then-m-ne0-clause-answer
 returns-then-m-ne0-clause-answer c =
-    let read : Opened ((after c.args.s.now c.args.at)) ((line_at 89 c.args.s.now c.args.at)) c.in-Fields.count c.in-Fields.worst c.in-Fields.largest c.in-Fields.next = opened ((after c.args.s.now c.args.at)) ((line_at 89 c.args.s.now c.args.at)) _ _ _ _ (sym c.in-Fields.is ∙ c.line_at.ensures.answer) in
-    (λ seen. masks_turned c.args.n seen ((after c.args.s.now c.args.at)) ((line_at 89 c.args.s.now c.args.at)) _ _ _ _ (read) _ _ c.sets_of-sets.ensures c.masks_number-m.ensures c.if-m-ne0.true)
+    let read : Opened ((after c.args.s.now c.args.at)) ((line_at 89 c.args.s.now c.args.at)) c.in-Some.f = opened ((after c.args.s.now c.args.at)) ((line_at 89 c.args.s.now c.args.at)) _ (sym c.in-Some.is ∙ c.line_at.ensures.answer) in
+    (λ seen. masks_turned c.args.n seen ((after c.args.s.now c.args.at)) ((line_at 89 c.args.s.now c.args.at)) _ (read) _ _ c.sets_of-sets.ensures c.masks_number-m.ensures c.if-m-ne0.true)
 
 pub returns-then-m-ne0-clause-stored : goal.returns-then-m-ne0-clause-stored
 returns-then-m-ne0-clause-stored c =
@@ -22,8 +22,8 @@ returns-then-m-ne0-clause-stored c =
 
 pub returns-clause-answer : goal.returns-clause-answer
 returns-clause-answer c =
-    let read : Opened ((after c.args.s.now c.args.at)) ((line_at 89 c.args.s.now c.args.at)) c.in-Fields.count c.in-Fields.worst c.in-Fields.largest c.in-Fields.next = opened ((after c.args.s.now c.args.at)) ((line_at 89 c.args.s.now c.args.at)) _ _ _ _ (sym c.in-Fields.is ∙ c.line_at.ensures.answer) in
-    (λ seen. masks_read c.args.n seen ((after c.args.s.now c.args.at)) ((line_at 89 c.args.s.now c.args.at)) _ _ _ _ (read) _ _ c.sets_of-sets.ensures c.masks_number-m.ensures c.if-m-ne0.false)
+    let read : Opened ((after c.args.s.now c.args.at)) ((line_at 89 c.args.s.now c.args.at)) c.in-Some.f = opened ((after c.args.s.now c.args.at)) ((line_at 89 c.args.s.now c.args.at)) _ (sym c.in-Some.is ∙ c.line_at.ensures.answer) in
+    (λ seen. masks_read c.args.n seen ((after c.args.s.now c.args.at)) ((line_at 89 c.args.s.now c.args.at)) _ (read) _ _ c.sets_of-sets.ensures c.masks_number-m.ensures c.if-m-ne0.false)
 
 pub returns-clause-stored : goal.returns-clause-stored
 returns-clause-stored c =

@@ -21,8 +21,8 @@ returns-in_default-clause-stored c = let l = c.line_at in l.ensures.stored
 
 pub returns-then-m-ne0-clause-answer : goal.returns-then-m-ne0-clause-answer
 returns-then-m-ne0-clause-answer c =
-    let read : Opened ((after c.args.s.now c.args.at)) ((line_at c.args.letter c.args.s.now c.args.at)) c.in-Fields.count c.in-Fields.worst c.in-Fields.largest c.in-Fields.next = opened ((after c.args.s.now c.args.at)) ((line_at c.args.letter c.args.s.now c.args.at)) _ _ _ _ (sym c.in-Fields.is ∙ c.line_at.ensures.answer) in
-    (λ seen. plain_turned c.args.letter c.args.width c.args.codes.now seen ((after c.args.s.now c.args.at)) ((line_at c.args.letter c.args.s.now c.args.at)) _ _ _ _ (read) _ c.masks_number-m.ensures c.if-m-ne0.true)
+    let read : Opened ((after c.args.s.now c.args.at)) ((line_at c.args.letter c.args.s.now c.args.at)) c.in-Some.f = opened ((after c.args.s.now c.args.at)) ((line_at c.args.letter c.args.s.now c.args.at)) _ (sym c.in-Some.is ∙ c.line_at.ensures.answer) in
+    (λ seen. plain_turned c.args.letter c.args.width c.args.codes.now seen ((after c.args.s.now c.args.at)) ((line_at c.args.letter c.args.s.now c.args.at)) _ (read) _ c.masks_number-m.ensures c.if-m-ne0.true)
 
 pub returns-then-m-ne0-clause-stored : goal.returns-then-m-ne0-clause-stored
 returns-then-m-ne0-clause-stored c =
@@ -30,18 +30,18 @@ returns-then-m-ne0-clause-stored c =
 
 pub slice_bounds-over_any-end : goal.slice_bounds-over_any-end
 slice_bounds-over_any-end c =
-    let long : c.in-Fields.count ≡ c.args.width = masks_counted _ _ c.in-Fields.worst c.in-Fields.largest c.in-Fields.next (sym c.masks_number-m.ensures ∙ c.if-m-ne0.false) in
+    let long : c.in-Some.f.count ≡ c.args.width = masks_counted _ _ c.in-Some.f.worst c.in-Some.f.largest c.in-Some.f.next (sym c.masks_number-m.ensures ∙ c.if-m-ne0.false) in
     omega (arith, long, c.requires, c.line_at.auto.out)
 
 pub returns-then-over_any-clause-answer : goal.returns-then-over_any-clause-answer
 returns-then-over_any-clause-answer c =
-    let read : Opened ((after c.args.s.now c.args.at)) ((line_at c.args.letter c.args.s.now c.args.at)) c.in-Fields.count c.in-Fields.worst c.in-Fields.largest c.in-Fields.next = opened ((after c.args.s.now c.args.at)) ((line_at c.args.letter c.args.s.now c.args.at)) _ _ _ _ (sym c.in-Fields.is ∙ c.line_at.ensures.answer) in
-    let long : c.in-Fields.count ≡ c.args.width = masks_counted _ _ c.in-Fields.worst c.in-Fields.largest c.in-Fields.next (sym c.masks_number-m.ensures ∙ c.if-m-ne0.false) in
-    let rows_are : take (c.in-Fields.count - 0) c.line_at.new.out ≡ map row (read).fs = let o = read in
-    let z : c.in-Fields.count - 0 ≡ length o.fs = omega (arith, o.counts) in
+    let read : Opened ((after c.args.s.now c.args.at)) ((line_at c.args.letter c.args.s.now c.args.at)) c.in-Some.f = opened ((after c.args.s.now c.args.at)) ((line_at c.args.letter c.args.s.now c.args.at)) _ (sym c.in-Some.is ∙ c.line_at.ensures.answer) in
+    let long : c.in-Some.f.count ≡ c.args.width = masks_counted _ _ c.in-Some.f.worst c.in-Some.f.largest c.in-Some.f.next (sym c.masks_number-m.ensures ∙ c.if-m-ne0.false) in
+    let rows_are : take (c.in-Some.f.count - 0) c.line_at.new.out ≡ map row (read).fs = let o = read in
+    let z : c.in-Some.f.count - 0 ≡ length o.fs = omega (arith, o.counts) in
     rw z (rows_held c.args.letter c.args.s.now c.args.at o.fs o.is c.args.fields.now _ c.line_at.ensures.stored (omega (arith, long, o.counts, c.requires))) in
     let coded : c.over_any.result ≡ over_any c.args.codes.now (values (read).fs) = let k = c.args.codes.now in c.over_any.ensures ∙ ap (λ (rs : List (List ℕ)). over_any k (row_values rs)) (rows_are) ∙ ap (over_any k) (row_values_lem (read).fs) in
-    (λ seen. plain_coded c.args.letter c.args.width c.args.codes.now seen ((after c.args.s.now c.args.at)) ((line_at c.args.letter c.args.s.now c.args.at)) _ _ _ _ (read) _ c.masks_number-m.ensures c.if-m-ne0.false (sym (coded) ∙ c.if-over_any.true))
+    (λ seen. plain_coded c.args.letter c.args.width c.args.codes.now seen ((after c.args.s.now c.args.at)) ((line_at c.args.letter c.args.s.now c.args.at)) _ (read) _ c.masks_number-m.ensures c.if-m-ne0.false (sym (coded) ∙ c.if-over_any.true))
 
 pub returns-then-over_any-clause-stored : goal.returns-then-over_any-clause-stored
 returns-then-over_any-clause-stored c =
@@ -49,13 +49,13 @@ returns-then-over_any-clause-stored c =
 
 pub returns-clause-answer : goal.returns-clause-answer
 returns-clause-answer c =
-    let read : Opened ((after c.args.s.now c.args.at)) ((line_at c.args.letter c.args.s.now c.args.at)) c.in-Fields.count c.in-Fields.worst c.in-Fields.largest c.in-Fields.next = opened ((after c.args.s.now c.args.at)) ((line_at c.args.letter c.args.s.now c.args.at)) _ _ _ _ (sym c.in-Fields.is ∙ c.line_at.ensures.answer) in
-    let long : c.in-Fields.count ≡ c.args.width = masks_counted _ _ c.in-Fields.worst c.in-Fields.largest c.in-Fields.next (sym c.masks_number-m.ensures ∙ c.if-m-ne0.false) in
-    let rows_are : take (c.in-Fields.count - 0) c.line_at.new.out ≡ map row (read).fs = let o = read in
-    let z : c.in-Fields.count - 0 ≡ length o.fs = omega (arith, o.counts) in
+    let read : Opened ((after c.args.s.now c.args.at)) ((line_at c.args.letter c.args.s.now c.args.at)) c.in-Some.f = opened ((after c.args.s.now c.args.at)) ((line_at c.args.letter c.args.s.now c.args.at)) _ (sym c.in-Some.is ∙ c.line_at.ensures.answer) in
+    let long : c.in-Some.f.count ≡ c.args.width = masks_counted _ _ c.in-Some.f.worst c.in-Some.f.largest c.in-Some.f.next (sym c.masks_number-m.ensures ∙ c.if-m-ne0.false) in
+    let rows_are : take (c.in-Some.f.count - 0) c.line_at.new.out ≡ map row (read).fs = let o = read in
+    let z : c.in-Some.f.count - 0 ≡ length o.fs = omega (arith, o.counts) in
     rw z (rows_held c.args.letter c.args.s.now c.args.at o.fs o.is c.args.fields.now _ c.line_at.ensures.stored (omega (arith, long, o.counts, c.requires))) in
     let coded : c.over_any.result ≡ over_any c.args.codes.now (values (read).fs) = let k = c.args.codes.now in c.over_any.ensures ∙ ap (λ (rs : List (List ℕ)). over_any k (row_values rs)) (rows_are) ∙ ap (over_any k) (row_values_lem (read).fs) in
-    (λ seen. plain_read c.args.letter c.args.width c.args.codes.now seen ((after c.args.s.now c.args.at)) ((line_at c.args.letter c.args.s.now c.args.at)) _ _ _ _ (read) _ c.masks_number-m.ensures c.if-m-ne0.false (sym (coded) ∙ c.if-over_any.false))
+    (λ seen. plain_read c.args.letter c.args.width c.args.codes.now seen ((after c.args.s.now c.args.at)) ((line_at c.args.letter c.args.s.now c.args.at)) _ (read) _ c.masks_number-m.ensures c.if-m-ne0.false (sym (coded) ∙ c.if-over_any.false))
 
 pub returns-clause-stored : goal.returns-clause-stored
 returns-clause-stored c =

@@ -6,20 +6,20 @@ use Rattle.plansheet.proofs.PlanWhole.{settings_fine, settings_out, judge_seven,
 use Rattle.plansheet.proofs.plan.judge_plan.Goals as goal
 
 pub returns-in_default-clause-answer : goal.returns-in_default-clause-answer
-returns-in_default-clause-answer c = let e = settings_out ((settings_of c.args.head.now)) (sym c.in_default.is ∙ c.checked_settings-c.ensures) in
+returns-in_default-clause-answer c = let e = settings_out ((settings_of c.args.head.now)) (sym c.in_default.is ∙ c.checked_settings.ensures) in
     (λ t g l r. judge_seven ((settings_of c.args.head.now)) t g e)
 
 pub returns-in_default-clause-indexed : goal.returns-in_default-clause-indexed
 returns-in_default-clause-indexed c = (λ x z. absurd (not_held 7 0 x z))
 
 pub returns-then-not-plan_fits-clause-answer : goal.returns-then-not-plan_fits-clause-answer
-returns-then-not-plan_fits-clause-answer c = let e = settings_fine ((settings_of c.args.head.now)) _ (sym c.in-Fine.is ∙ c.checked_settings-c.ensures) in (λ t g l r. judge_eight ((settings_of c.args.head.now)) t g e.0 (sym (c.plan_fits.ensures.answer ((settings_of c.args.head.now)) t g (ap (λ (y : Settings). y.target) (sym e.1)) r) ∙ c.if-not-plan_fits.true))
+returns-then-not-plan_fits-clause-answer c = let e = settings_fine ((settings_of c.args.head.now)) _ (sym c.in-Some.is ∙ c.checked_settings.ensures) in (λ t g l r. judge_eight ((settings_of c.args.head.now)) t g e.0 (sym (c.plan_fits.ensures.answer ((settings_of c.args.head.now)) t g (ap (λ (y : Settings). y.target) (sym e.1)) r) ∙ c.if-not-plan_fits.true))
 
 pub returns-then-not-plan_fits-clause-indexed : goal.returns-then-not-plan_fits-clause-indexed
 returns-then-not-plan_fits-clause-indexed c = (λ x z. absurd (not_held 8 0 x z))
 
 pub returns-clause-answer : goal.returns-clause-answer
-returns-clause-answer c = let e = settings_fine ((settings_of c.args.head.now)) _ (sym c.in-Fine.is ∙ c.checked_settings-c.ensures) in
+returns-clause-answer c = let e = settings_fine ((settings_of c.args.head.now)) _ (sym c.in-Some.is ∙ c.checked_settings.ensures) in
     let y = c.if-not-plan_fits.false in (λ t g l r. judge_held ((settings_of c.args.head.now)) t g e.0 (sym (c.plan_fits.ensures.answer ((settings_of c.args.head.now)) t g (ap (λ (y : Settings). y.target) (sym e.1)) r) ∙ y) _ _ _ _ _ e.1 l r.place r.many r.counted)
 
 pub returns-clause-indexed : goal.returns-clause-indexed

@@ -1,20 +1,19 @@
--- `plansheet::shape::over_any` meets its contract. The fields from i on are over their largest exactly where all of them are (`Overs`).
-use mathlib.Core.Path.{refl, sym, ◌∙◌}
-use native.Mathlib.Omega.{arith}
-use Rattle.plansheet.proofs.Overs.{over_short, over_done, over_here, over_later}
+-- `shape::over_any` meets its contract: what is left is over its largest exactly where all of it is.
+use mathlib.Core.Path.{◌∙◌}
+use mathlib.Core.Logic.{⊎_elim}
+use borrow.Author.Tests.{lt-ltb, le-ltb}
+use Rattle.plansheet.specs.Shapes.{over_any}
+use Rattle.plansheet.proofs.Overs.{over_first, over_second}
 use Rattle.plansheet.proofs.shape.over_any.Goals as goal
 
-pub loop-i-init : goal.loop-i-init
-loop-i-init c = (omega arith, omega arith, refl)
+pub returns-then-most-field : goal.returns-then-most-field
+unfolding over_any
+returns-then-most-field c = rw (c.loop-most.invariant, c.in-Some.ensures.steps.0, c.in-Some.ensures.steps.1, lt-ltb _ _ c.if-most-field.true)
 
-pub returns-then-fields-i : goal.returns-then-fields-i
-returns-then-fields-i c = let a = c.args in sym (c.loop-i.invariant.2 ∙ over_short a.largest.now a.fields.now c.loop-i.i c.if-fields-i.true)
-
-pub returns-then-largest-i : goal.returns-then-largest-i
-returns-then-largest-i c = let a = c.args in sym (c.loop-i.invariant.2 ∙ over_here a.largest.now a.fields.now c.loop-i.i c.loop-i-test.true c.if-fields-i.false c.if-largest-i.true)
-
-pub loop-i-preserved : goal.loop-i-preserved
-loop-i-preserved c = let a = c.args in (omega arith, omega arith, c.loop-i.invariant.2 ∙ over_later a.largest.now a.fields.now c.loop-i.i c.loop-i-test.true c.if-fields-i.false c.if-largest-i.false)
+pub loop-most-preserved : goal.loop-most-preserved
+unfolding over_any
+loop-most-preserved c = c.loop-most.invariant ∙ rw (c.in-Some.ensures.steps.0, c.in-Some.ensures.steps.1, le-ltb _ _ c.if-most-field.false)
 
 pub returns : goal.returns
-returns c = let a = c.args in sym (c.loop-i.invariant.2 ∙ over_done a.largest.now a.fields.now c.loop-i.i c.loop-i-test.false)
+unfolding over_any
+returns c = rw c.loop-most.invariant (⊎_elim (λ h. over_first c.loop-most.most-iterator.a.rest.now c.loop-most.most-iterator.b.rest.now h.1.0) (λ h. over_second c.loop-most.most-iterator.a.rest.now c.loop-most.most-iterator.b.rest.now h.1.0) c.in-None.ensures.steps)

@@ -9,46 +9,42 @@ use Rattle.text.proofs.Answers.{Passed, passed, rows_held}
 use Rattle.linekinds.specs.Reading.{row_values}
 use Rattle.plansheet.specs.Shapes.{fixed_line}
 use Rattle.plansheet.specs.ReadRows.{shape_of, shape_number}
-use Rattle.plansheet.proofs.Shaped.{codes_number, passed_long, not_line, line_refused, line_turned, line_read_lem, shape_codes}
-use borrow.Enum.Refused.{opened}
+use Rattle.plansheet.proofs.Shaped.{codes_number, passed_long, line_refused, line_turned, line_read_lem, shape_codes}
 use Rattle.plansheet.proofs.shape.shaped_line.Goals as goal
 
-pub returns-in_default-clause-answer : goal.returns-in_default-clause-answer
-returns-in_default-clause-answer c = let n = c.judged_number in (λ seen. line_refused c.args.bounds.now c.requires.1 ((fixed_line (shape_of c.args.letter c.args.bounds.now c.args.sizes.now c.args.codes.now))) refl refl seen ((after (c.args.s.now) c.args.at)) ((line_at c.args.letter (c.args.s.now) c.args.at)) c.fixed_at-j.result c.fixed_at-j.ensures.answer n.result n.ensures (λ z. not_line c.fixed_at-j.result (opened c.in_default.in_default-own.keys2) (sym n.ensures ∙ z)))
-
-pub returns-in_default-clause-stored : goal.returns-in_default-clause-stored
-returns-in_default-clause-stored c = c.fixed_at-j.ensures.stored
+pub returns-in-Err-clause-answer : goal.returns-in-Err-clause-answer
+returns-in-Err-clause-answer c = λ seen. line_refused c.args.h.bounds.now c.args.h.bounded ((fixed_line (shape_of c.args.h.letter c.args.h.bounds.now c.args.h.sizes.now c.args.h.codes.now))) refl refl seen ((after (c.args.s.now) c.args.at)) ((line_at c.args.h.letter (c.args.s.now) c.args.at)) _ (sym c.in-Err.is ∙ c.fixed_at.ensures.answer) _ c.misfit_number.ensures
 
 pub slice_bounds-shape_number-end : goal.slice_bounds-shape_number-end
 slice_bounds-shape_number-end c =
-    let read : Passed c.args.bounds.now ((after (c.args.s.now) c.args.at)) ((line_at c.args.letter (c.args.s.now) c.args.at)) c.in-Line.count c.in-Line.next = passed _ ((after (c.args.s.now) c.args.at)) ((line_at c.args.letter (c.args.s.now) c.args.at)) _ _ (sym c.in-Line.is ∙ c.fixed_at-j.ensures.answer) in
-    let long : c.in-Line.count ≡ length c.args.bounds.now = (read).counts ∙ passed_long c.args.bounds.now c.requires.1 ((after (c.args.s.now) c.args.at)) ((line_at c.args.letter (c.args.s.now) c.args.at)) _ _ (read) in
-    omega (arith, long, c.requires.0, c.fixed_at-j.auto.out)
+    let read : Passed c.args.h.bounds.now ((after (c.args.s.now) c.args.at)) ((line_at c.args.h.letter (c.args.s.now) c.args.at)) c.in-Ok.j = passed _ ((after (c.args.s.now) c.args.at)) ((line_at c.args.h.letter (c.args.s.now) c.args.at)) _ (sym c.in-Ok.is ∙ c.fixed_at.ensures.answer) in
+    let long : c.in-Ok.j.count ≡ length c.args.h.bounds.now = (read).counts ∙ passed_long c.args.h.bounds.now c.args.h.bounded ((after (c.args.s.now) c.args.at)) ((line_at c.args.h.letter (c.args.s.now) c.args.at)) _ (read) in
+    omega (arith, long, c.requires, c.fixed_at.auto.out)
 
 pub returns-then-n-ne0-clause-answer : goal.returns-then-n-ne0-clause-answer
 returns-then-n-ne0-clause-answer c =
-    let read : Passed c.args.bounds.now ((after (c.args.s.now) c.args.at)) ((line_at c.args.letter (c.args.s.now) c.args.at)) c.in-Line.count c.in-Line.next = passed _ ((after (c.args.s.now) c.args.at)) ((line_at c.args.letter (c.args.s.now) c.args.at)) _ _ (sym c.in-Line.is ∙ c.fixed_at-j.ensures.answer) in
-    let long : c.in-Line.count ≡ length c.args.bounds.now = (read).counts ∙ passed_long c.args.bounds.now c.requires.1 ((after (c.args.s.now) c.args.at)) ((line_at c.args.letter (c.args.s.now) c.args.at)) _ _ (read) in
-    let rows_are : take (c.in-Line.count - 0) c.fixed_at-j.new.out ≡ map row (read).fs = let z : c.in-Line.count - 0 ≡ length (read).fs = omega (arith, (read).counts) in
-    rw z (rows_held c.args.letter (c.args.s.now) c.args.at (read).fs (read).is c.args.fields.now _ c.fixed_at-j.ensures.stored (omega (arith, long, (read).counts, c.requires.0))) in
-    let number : (seen : ℕ) → c.shape_number-n.result ≡ codes_number ((fixed_line (shape_of c.args.letter c.args.bounds.now c.args.sizes.now c.args.codes.now))) seen ((after (c.args.s.now) c.args.at)) (read).fs = λ seen. c.shape_number-n.ensures ∙ (λ i. shape_number c.args.sizes.now c.args.codes.now ((read).goes i) (row_values (rows_are i)))
-    ∙ shape_codes c.args.letter c.args.bounds.now c.args.sizes.now c.args.codes.now seen ((after (c.args.s.now) c.args.at)) (read).fs in
-    (λ seen. line_turned c.args.bounds.now c.requires.1 ((fixed_line (shape_of c.args.letter c.args.bounds.now c.args.sizes.now c.args.codes.now))) refl refl seen ((after (c.args.s.now) c.args.at)) ((line_at c.args.letter (c.args.s.now) c.args.at)) _ _ (read) c.shape_number-n.result (number seen) c.if-n-ne0.true)
+    let read : Passed c.args.h.bounds.now ((after (c.args.s.now) c.args.at)) ((line_at c.args.h.letter (c.args.s.now) c.args.at)) c.in-Ok.j = passed _ ((after (c.args.s.now) c.args.at)) ((line_at c.args.h.letter (c.args.s.now) c.args.at)) _ (sym c.in-Ok.is ∙ c.fixed_at.ensures.answer) in
+    let long : c.in-Ok.j.count ≡ length c.args.h.bounds.now = (read).counts ∙ passed_long c.args.h.bounds.now c.args.h.bounded ((after (c.args.s.now) c.args.at)) ((line_at c.args.h.letter (c.args.s.now) c.args.at)) _ (read) in
+    let rows_are : take (c.in-Ok.j.count - 0) c.fixed_at.new.out ≡ map row (read).fs = let z : c.in-Ok.j.count - 0 ≡ length (read).fs = omega (arith, (read).counts) in
+    rw z (rows_held c.args.h.letter (c.args.s.now) c.args.at (read).fs (read).is c.args.fields.now _ c.fixed_at.ensures.stored (omega (arith, long, (read).counts, c.requires))) in
+    let number : (seen : ℕ) → c.shape_number-n.result ≡ codes_number ((fixed_line (shape_of c.args.h.letter c.args.h.bounds.now c.args.h.sizes.now c.args.h.codes.now))) seen ((after (c.args.s.now) c.args.at)) (read).fs = λ seen. c.shape_number-n.ensures ∙ (λ i. shape_number c.args.h.sizes.now c.args.h.codes.now ((read).goes i) (row_values (rows_are i)))
+    ∙ shape_codes c.args.h.letter c.args.h.bounds.now c.args.h.sizes.now c.args.h.codes.now seen ((after (c.args.s.now) c.args.at)) (read).fs in
+    (λ seen. line_turned c.args.h.bounds.now c.args.h.bounded ((fixed_line (shape_of c.args.h.letter c.args.h.bounds.now c.args.h.sizes.now c.args.h.codes.now))) refl refl seen ((after (c.args.s.now) c.args.at)) ((line_at c.args.h.letter (c.args.s.now) c.args.at)) _ (read) c.shape_number-n.result (number seen) c.if-n-ne0.true)
 
 pub returns-then-n-ne0-clause-stored : goal.returns-then-n-ne0-clause-stored
 returns-then-n-ne0-clause-stored c =
-    c.fixed_at-j.ensures.stored
+    c.fixed_at.ensures.stored
 
 pub returns-clause-answer : goal.returns-clause-answer
 returns-clause-answer c =
-    let read : Passed c.args.bounds.now ((after (c.args.s.now) c.args.at)) ((line_at c.args.letter (c.args.s.now) c.args.at)) c.in-Line.count c.in-Line.next = passed _ ((after (c.args.s.now) c.args.at)) ((line_at c.args.letter (c.args.s.now) c.args.at)) _ _ (sym c.in-Line.is ∙ c.fixed_at-j.ensures.answer) in
-    let long : c.in-Line.count ≡ length c.args.bounds.now = (read).counts ∙ passed_long c.args.bounds.now c.requires.1 ((after (c.args.s.now) c.args.at)) ((line_at c.args.letter (c.args.s.now) c.args.at)) _ _ (read) in
-    let rows_are : take (c.in-Line.count - 0) c.fixed_at-j.new.out ≡ map row (read).fs = let z : c.in-Line.count - 0 ≡ length (read).fs = omega (arith, (read).counts) in
-    rw z (rows_held c.args.letter (c.args.s.now) c.args.at (read).fs (read).is c.args.fields.now _ c.fixed_at-j.ensures.stored (omega (arith, long, (read).counts, c.requires.0))) in
-    let number : (seen : ℕ) → c.shape_number-n.result ≡ codes_number ((fixed_line (shape_of c.args.letter c.args.bounds.now c.args.sizes.now c.args.codes.now))) seen ((after (c.args.s.now) c.args.at)) (read).fs = λ seen. c.shape_number-n.ensures ∙ (λ i. shape_number c.args.sizes.now c.args.codes.now ((read).goes i) (row_values (rows_are i)))
-    ∙ shape_codes c.args.letter c.args.bounds.now c.args.sizes.now c.args.codes.now seen ((after (c.args.s.now) c.args.at)) (read).fs in
-    (λ seen. line_read_lem c.args.bounds.now c.requires.1 ((fixed_line (shape_of c.args.letter c.args.bounds.now c.args.sizes.now c.args.codes.now))) refl refl seen ((after (c.args.s.now) c.args.at)) ((line_at c.args.letter (c.args.s.now) c.args.at)) _ _ (read) c.shape_number-n.result (number seen) c.if-n-ne0.false)
+    let read : Passed c.args.h.bounds.now ((after (c.args.s.now) c.args.at)) ((line_at c.args.h.letter (c.args.s.now) c.args.at)) c.in-Ok.j = passed _ ((after (c.args.s.now) c.args.at)) ((line_at c.args.h.letter (c.args.s.now) c.args.at)) _ (sym c.in-Ok.is ∙ c.fixed_at.ensures.answer) in
+    let long : c.in-Ok.j.count ≡ length c.args.h.bounds.now = (read).counts ∙ passed_long c.args.h.bounds.now c.args.h.bounded ((after (c.args.s.now) c.args.at)) ((line_at c.args.h.letter (c.args.s.now) c.args.at)) _ (read) in
+    let rows_are : take (c.in-Ok.j.count - 0) c.fixed_at.new.out ≡ map row (read).fs = let z : c.in-Ok.j.count - 0 ≡ length (read).fs = omega (arith, (read).counts) in
+    rw z (rows_held c.args.h.letter (c.args.s.now) c.args.at (read).fs (read).is c.args.fields.now _ c.fixed_at.ensures.stored (omega (arith, long, (read).counts, c.requires))) in
+    let number : (seen : ℕ) → c.shape_number-n.result ≡ codes_number ((fixed_line (shape_of c.args.h.letter c.args.h.bounds.now c.args.h.sizes.now c.args.h.codes.now))) seen ((after (c.args.s.now) c.args.at)) (read).fs = λ seen. c.shape_number-n.ensures ∙ (λ i. shape_number c.args.h.sizes.now c.args.h.codes.now ((read).goes i) (row_values (rows_are i)))
+    ∙ shape_codes c.args.h.letter c.args.h.bounds.now c.args.h.sizes.now c.args.h.codes.now seen ((after (c.args.s.now) c.args.at)) (read).fs in
+    (λ seen. line_read_lem c.args.h.bounds.now c.args.h.bounded ((fixed_line (shape_of c.args.h.letter c.args.h.bounds.now c.args.h.sizes.now c.args.h.codes.now))) refl refl seen ((after (c.args.s.now) c.args.at)) ((line_at c.args.h.letter (c.args.s.now) c.args.at)) _ (read) c.shape_number-n.result (number seen) c.if-n-ne0.false)
 
 pub returns-clause-stored : goal.returns-clause-stored
 returns-clause-stored c =
-    c.fixed_at-j.ensures.stored
+    c.fixed_at.ensures.stored

@@ -5,7 +5,8 @@ use mathlib.Core.Option.{Option}
 use Prim.Native.Nat.{ℕ, ◌+◌, ◌-◌}
 use native.Mathlib.Omega.{arith}
 use lib.ListN.{length, get_or, set, take, length-map}
-use Rattle.text.specs.Text.{Field, line_at, after, row}
+use Rattle.text.specs.declared.field.Field.{Field}
+use Rattle.text.specs.Text.{line_at, after, row}
 use Rattle.linekinds.specs.Lines.{fields_of}
 use Rattle.linekinds.specs.ListLines.{number_of}
 use Rattle.plansheet.specs.Shapes.{tree_line}
@@ -22,47 +23,47 @@ use Rattle.plansheet.proofs.tree.judged_row.Goals as goal
 
 pub returns-in_default-clause-answer : goal.returns-in_default-clause-answer
 returns-in_default-clause-answer c = let e = ap L.Refused (c.number_of.ensures ∙ ap number_of c.in_default.is) ∙ sym c.in_default.is ∙ c.tree_line-r.ensures.answer in
-    row_refused (number_at ((tree_line (shape_of c.args.letter c.args.bounds.now c.args.sizes.now c.args.codes.now) c.args.rules.now c.args.most)) c.args.seen (c.args.s.now) c.args.at) ((after (c.args.s.now) c.args.at)) ((line_at c.args.letter (c.args.s.now) c.args.at)) _ e
+    row_refused (number_at ((tree_line (shape_of c.args.h.line.letter c.args.h.line.bounds.now c.args.h.line.sizes.now c.args.h.line.codes.now) c.args.h.rules.now c.args.h.most)) c.args.seen (c.args.s.now) c.args.at) ((after (c.args.s.now) c.args.at)) ((line_at c.args.h.line.letter (c.args.s.now) c.args.at)) _ e
 
 pub returns-in_default-clause-stored : goal.returns-in_default-clause-stored
 returns-in_default-clause-stored c = let e = ap L.Refused (c.number_of.ensures ∙ ap number_of c.in_default.is) ∙ sym c.in_default.is ∙ c.tree_line-r.ensures.answer in
-    let q = turned ((tree_line (shape_of c.args.letter c.args.bounds.now c.args.sizes.now c.args.codes.now) c.args.rules.now c.args.most)) c.args.seen ((after (c.args.s.now) c.args.at)) ((line_at c.args.letter (c.args.s.now) c.args.at)) _ e in
+    let q = turned ((tree_line (shape_of c.args.h.line.letter c.args.h.line.bounds.now c.args.h.line.sizes.now c.args.h.line.codes.now) c.args.h.rules.now c.args.h.most)) c.args.seen ((after (c.args.s.now) c.args.at)) ((line_at c.args.h.line.letter (c.args.s.now) c.args.at)) _ e in
     λ z. absurd (q.1 (sym q.0 ∙ z))
 
 pub slice_bounds-operator_row-end : goal.slice_bounds-operator_row-end
 slice_bounds-operator_row-end c =
-    let took : Taken ((tree_line (shape_of c.args.letter c.args.bounds.now c.args.sizes.now c.args.codes.now) c.args.rules.now c.args.most)) c.args.seen ((after (c.args.s.now) c.args.at)) ((line_at c.args.letter (c.args.s.now) c.args.at)) c.in-Line.count c.in-Line.next = taken ((tree_line (shape_of c.args.letter c.args.bounds.now c.args.sizes.now c.args.codes.now) c.args.rules.now c.args.most)) c.args.seen ((after (c.args.s.now) c.args.at)) ((line_at c.args.letter (c.args.s.now) c.args.at)) _ _ (sym c.in-Line.is ∙ c.tree_line-r.ensures.answer) in
-    let long : c.in-Line.count ≡ length c.args.bounds.now = (took).counts ∙ fine_long c.args.bounds.now ((tree_line (shape_of c.args.letter c.args.bounds.now c.args.sizes.now c.args.codes.now) c.args.rules.now c.args.most)) refl refl c.args.seen _ (took).fs (took).zero in
-    omega (arith, long, c.requires.1, c.tree_line-r.auto.fields)
+    let took : Taken ((tree_line (shape_of c.args.h.line.letter c.args.h.line.bounds.now c.args.h.line.sizes.now c.args.h.line.codes.now) c.args.h.rules.now c.args.h.most)) c.args.seen ((after (c.args.s.now) c.args.at)) ((line_at c.args.h.line.letter (c.args.s.now) c.args.at)) c.in-Line.count c.in-Line.next = taken ((tree_line (shape_of c.args.h.line.letter c.args.h.line.bounds.now c.args.h.line.sizes.now c.args.h.line.codes.now) c.args.h.rules.now c.args.h.most)) c.args.seen ((after (c.args.s.now) c.args.at)) ((line_at c.args.h.line.letter (c.args.s.now) c.args.at)) _ _ (sym c.in-Line.is ∙ c.tree_line-r.ensures.answer) in
+    let long : c.in-Line.count ≡ length c.args.h.line.bounds.now = (took).counts ∙ fine_long c.args.h.line.bounds.now ((tree_line (shape_of c.args.h.line.letter c.args.h.line.bounds.now c.args.h.line.sizes.now c.args.h.line.codes.now) c.args.h.rules.now c.args.h.most)) refl refl c.args.seen _ (took).fs (took).zero in
+    omega (arith, long, c.requires, c.tree_line-r.auto.fields)
 
 pub overflow_add-seen : goal.overflow_add-seen
 overflow_add-seen c =
-    let took : Taken ((tree_line (shape_of c.args.letter c.args.bounds.now c.args.sizes.now c.args.codes.now) c.args.rules.now c.args.most)) c.args.seen ((after (c.args.s.now) c.args.at)) ((line_at c.args.letter (c.args.s.now) c.args.at)) c.in-Line.count c.in-Line.next = taken ((tree_line (shape_of c.args.letter c.args.bounds.now c.args.sizes.now c.args.codes.now) c.args.rules.now c.args.most)) c.args.seen ((after (c.args.s.now) c.args.at)) ((line_at c.args.letter (c.args.s.now) c.args.at)) _ _ (sym c.in-Line.is ∙ c.tree_line-r.ensures.answer) in
-    omega (arith, tree_small (shape_of c.args.letter c.args.bounds.now c.args.sizes.now c.args.codes.now) c.args.rules.now c.args.most c.args.seen _ (took).fs (took).zero, c.requires.3)
+    let took : Taken ((tree_line (shape_of c.args.h.line.letter c.args.h.line.bounds.now c.args.h.line.sizes.now c.args.h.line.codes.now) c.args.h.rules.now c.args.h.most)) c.args.seen ((after (c.args.s.now) c.args.at)) ((line_at c.args.h.line.letter (c.args.s.now) c.args.at)) c.in-Line.count c.in-Line.next = taken ((tree_line (shape_of c.args.h.line.letter c.args.h.line.bounds.now c.args.h.line.sizes.now c.args.h.line.codes.now) c.args.h.rules.now c.args.h.most)) c.args.seen ((after (c.args.s.now) c.args.at)) ((line_at c.args.h.line.letter (c.args.s.now) c.args.at)) _ _ (sym c.in-Line.is ∙ c.tree_line-r.ensures.answer) in
+    omega (arith, tree_small (shape_of c.args.h.line.letter c.args.h.line.bounds.now c.args.h.line.sizes.now c.args.h.line.codes.now) c.args.h.rules.now c.args.h.most c.args.seen _ (took).fs (took).zero, c.args.h.few)
 
 pub operator_row-row-requires : goal.operator_row-row-requires
 operator_row-row-requires c =
-    let took : Taken ((tree_line (shape_of c.args.letter c.args.bounds.now c.args.sizes.now c.args.codes.now) c.args.rules.now c.args.most)) c.args.seen ((after (c.args.s.now) c.args.at)) ((line_at c.args.letter (c.args.s.now) c.args.at)) c.in-Line.count c.in-Line.next = taken ((tree_line (shape_of c.args.letter c.args.bounds.now c.args.sizes.now c.args.codes.now) c.args.rules.now c.args.most)) c.args.seen ((after (c.args.s.now) c.args.at)) ((line_at c.args.letter (c.args.s.now) c.args.at)) _ _ (sym c.in-Line.is ∙ c.tree_line-r.ensures.answer) in
-    let rows_are : take (c.in-Line.count - 0) c.tree_line-r.new.fields ≡ map row (took).fs = fine_rows c.args.bounds.now ((tree_line (shape_of c.args.letter c.args.bounds.now c.args.sizes.now c.args.codes.now) c.args.rules.now c.args.most)) refl refl c.args.seen _ (took).fs (took).zero c.args.letter (c.args.s.now) c.args.at (took).is c.args.fields.now _ c.tree_line-r.ensures.stored
-    c.requires.1 _ (took).counts in
-    let long : c.in-Line.count ≡ length c.args.bounds.now = (took).counts ∙ fine_long c.args.bounds.now ((tree_line (shape_of c.args.letter c.args.bounds.now c.args.sizes.now c.args.codes.now) c.args.rules.now c.args.most)) refl refl c.args.seen _ (took).fs (took).zero in
-    rw (ap length (rows_are) ∙ length-map (took).fs row) (omega (arith, long, (took).counts, c.requires.0))
+    let took : Taken ((tree_line (shape_of c.args.h.line.letter c.args.h.line.bounds.now c.args.h.line.sizes.now c.args.h.line.codes.now) c.args.h.rules.now c.args.h.most)) c.args.seen ((after (c.args.s.now) c.args.at)) ((line_at c.args.h.line.letter (c.args.s.now) c.args.at)) c.in-Line.count c.in-Line.next = taken ((tree_line (shape_of c.args.h.line.letter c.args.h.line.bounds.now c.args.h.line.sizes.now c.args.h.line.codes.now) c.args.h.rules.now c.args.h.most)) c.args.seen ((after (c.args.s.now) c.args.at)) ((line_at c.args.h.line.letter (c.args.s.now) c.args.at)) _ _ (sym c.in-Line.is ∙ c.tree_line-r.ensures.answer) in
+    let rows_are : take (c.in-Line.count - 0) c.tree_line-r.new.fields ≡ map row (took).fs = fine_rows c.args.h.line.bounds.now ((tree_line (shape_of c.args.h.line.letter c.args.h.line.bounds.now c.args.h.line.sizes.now c.args.h.line.codes.now) c.args.h.rules.now c.args.h.most)) refl refl c.args.seen _ (took).fs (took).zero c.args.h.line.letter (c.args.s.now) c.args.at (took).is c.args.fields.now _ c.tree_line-r.ensures.stored
+    c.requires _ (took).counts in
+    let long : c.in-Line.count ≡ length c.args.h.line.bounds.now = (took).counts ∙ fine_long c.args.h.line.bounds.now ((tree_line (shape_of c.args.h.line.letter c.args.h.line.bounds.now c.args.h.line.sizes.now c.args.h.line.codes.now) c.args.h.rules.now c.args.h.most)) refl refl c.args.seen _ (took).fs (took).zero in
+    rw (ap length (rows_are) ∙ length-map (took).fs row) (omega (arith, long, (took).counts, c.args.h.eight))
 
 pub returns-clause-answer : goal.returns-clause-answer
 returns-clause-answer c =
-    let took : Taken ((tree_line (shape_of c.args.letter c.args.bounds.now c.args.sizes.now c.args.codes.now) c.args.rules.now c.args.most)) c.args.seen ((after (c.args.s.now) c.args.at)) ((line_at c.args.letter (c.args.s.now) c.args.at)) c.in-Line.count c.in-Line.next = taken ((tree_line (shape_of c.args.letter c.args.bounds.now c.args.sizes.now c.args.codes.now) c.args.rules.now c.args.most)) c.args.seen ((after (c.args.s.now) c.args.at)) ((line_at c.args.letter (c.args.s.now) c.args.at)) _ _ (sym c.in-Line.is ∙ c.tree_line-r.ensures.answer) in
-    let rows_are : take (c.in-Line.count - 0) c.tree_line-r.new.fields ≡ map row (took).fs = fine_rows c.args.bounds.now ((tree_line (shape_of c.args.letter c.args.bounds.now c.args.sizes.now c.args.codes.now) c.args.rules.now c.args.most)) refl refl c.args.seen _ (took).fs (took).zero c.args.letter (c.args.s.now) c.args.at (took).is c.args.fields.now _ c.tree_line-r.ensures.stored
-    c.requires.1 _ (took).counts in
-    let row_is : c.operator_row-row.result ≡ operator_row (c.args.seen + 1) (fields_of ((line_at c.args.letter (c.args.s.now) c.args.at))) = c.operator_row-row.ensures ∙ ap (fields_row (c.args.seen + 1)) (rows_are) ∙ fields_row_lem (c.args.seen + 1) (took).fs
+    let took : Taken ((tree_line (shape_of c.args.h.line.letter c.args.h.line.bounds.now c.args.h.line.sizes.now c.args.h.line.codes.now) c.args.h.rules.now c.args.h.most)) c.args.seen ((after (c.args.s.now) c.args.at)) ((line_at c.args.h.line.letter (c.args.s.now) c.args.at)) c.in-Line.count c.in-Line.next = taken ((tree_line (shape_of c.args.h.line.letter c.args.h.line.bounds.now c.args.h.line.sizes.now c.args.h.line.codes.now) c.args.h.rules.now c.args.h.most)) c.args.seen ((after (c.args.s.now) c.args.at)) ((line_at c.args.h.line.letter (c.args.s.now) c.args.at)) _ _ (sym c.in-Line.is ∙ c.tree_line-r.ensures.answer) in
+    let rows_are : take (c.in-Line.count - 0) c.tree_line-r.new.fields ≡ map row (took).fs = fine_rows c.args.h.line.bounds.now ((tree_line (shape_of c.args.h.line.letter c.args.h.line.bounds.now c.args.h.line.sizes.now c.args.h.line.codes.now) c.args.h.rules.now c.args.h.most)) refl refl c.args.seen _ (took).fs (took).zero c.args.h.line.letter (c.args.s.now) c.args.at (took).is c.args.fields.now _ c.tree_line-r.ensures.stored
+    c.requires _ (took).counts in
+    let row_is : c.operator_row-row.result ≡ operator_row (c.args.seen + 1) (fields_of ((line_at c.args.h.line.letter (c.args.s.now) c.args.at))) = c.operator_row-row.ensures ∙ ap (fields_row (c.args.seen + 1)) (rows_are) ∙ fields_row_lem (c.args.seen + 1) (took).fs
     ∙ ap (λ (x : Option (List Field)). operator_row (c.args.seen + 1) (fields_of x)) (sym (took).is) in
     let i = row_is in ap (λ (n : ℕ). R.Row n c.in-Line.next) (ap (λ (x : List ℕ). get_or x 10 0) i)
-    ∙ row_read (number_at ((tree_line (shape_of c.args.letter c.args.bounds.now c.args.sizes.now c.args.codes.now) c.args.rules.now c.args.most)) c.args.seen (c.args.s.now) c.args.at) ((after (c.args.s.now) c.args.at)) ((line_at c.args.letter (c.args.s.now) c.args.at)) _ _ (sym c.in-Line.is ∙ c.tree_line-r.ensures.answer)
+    ∙ row_read (number_at ((tree_line (shape_of c.args.h.line.letter c.args.h.line.bounds.now c.args.h.line.sizes.now c.args.h.line.codes.now) c.args.h.rules.now c.args.h.most)) c.args.seen (c.args.s.now) c.args.at) ((after (c.args.s.now) c.args.at)) ((line_at c.args.h.line.letter (c.args.s.now) c.args.at)) _ _ (sym c.in-Line.is ∙ c.tree_line-r.ensures.answer)
 
 pub returns-clause-stored : goal.returns-clause-stored
 returns-clause-stored c =
-    let took : Taken ((tree_line (shape_of c.args.letter c.args.bounds.now c.args.sizes.now c.args.codes.now) c.args.rules.now c.args.most)) c.args.seen ((after (c.args.s.now) c.args.at)) ((line_at c.args.letter (c.args.s.now) c.args.at)) c.in-Line.count c.in-Line.next = taken ((tree_line (shape_of c.args.letter c.args.bounds.now c.args.sizes.now c.args.codes.now) c.args.rules.now c.args.most)) c.args.seen ((after (c.args.s.now) c.args.at)) ((line_at c.args.letter (c.args.s.now) c.args.at)) _ _ (sym c.in-Line.is ∙ c.tree_line-r.ensures.answer) in
-    let rows_are : take (c.in-Line.count - 0) c.tree_line-r.new.fields ≡ map row (took).fs = fine_rows c.args.bounds.now ((tree_line (shape_of c.args.letter c.args.bounds.now c.args.sizes.now c.args.codes.now) c.args.rules.now c.args.most)) refl refl c.args.seen _ (took).fs (took).zero c.args.letter (c.args.s.now) c.args.at (took).is c.args.fields.now _ c.tree_line-r.ensures.stored
-    c.requires.1 _ (took).counts in
-    let row_is : c.operator_row-row.result ≡ operator_row (c.args.seen + 1) (fields_of ((line_at c.args.letter (c.args.s.now) c.args.at))) = c.operator_row-row.ensures ∙ ap (fields_row (c.args.seen + 1)) (rows_are) ∙ fields_row_lem (c.args.seen + 1) (took).fs
+    let took : Taken ((tree_line (shape_of c.args.h.line.letter c.args.h.line.bounds.now c.args.h.line.sizes.now c.args.h.line.codes.now) c.args.h.rules.now c.args.h.most)) c.args.seen ((after (c.args.s.now) c.args.at)) ((line_at c.args.h.line.letter (c.args.s.now) c.args.at)) c.in-Line.count c.in-Line.next = taken ((tree_line (shape_of c.args.h.line.letter c.args.h.line.bounds.now c.args.h.line.sizes.now c.args.h.line.codes.now) c.args.h.rules.now c.args.h.most)) c.args.seen ((after (c.args.s.now) c.args.at)) ((line_at c.args.h.line.letter (c.args.s.now) c.args.at)) _ _ (sym c.in-Line.is ∙ c.tree_line-r.ensures.answer) in
+    let rows_are : take (c.in-Line.count - 0) c.tree_line-r.new.fields ≡ map row (took).fs = fine_rows c.args.h.line.bounds.now ((tree_line (shape_of c.args.h.line.letter c.args.h.line.bounds.now c.args.h.line.sizes.now c.args.h.line.codes.now) c.args.h.rules.now c.args.h.most)) refl refl c.args.seen _ (took).fs (took).zero c.args.h.line.letter (c.args.s.now) c.args.at (took).is c.args.fields.now _ c.tree_line-r.ensures.stored
+    c.requires _ (took).counts in
+    let row_is : c.operator_row-row.result ≡ operator_row (c.args.seen + 1) (fields_of ((line_at c.args.h.line.letter (c.args.s.now) c.args.at))) = c.operator_row-row.ensures ∙ ap (fields_row (c.args.seen + 1)) (rows_are) ∙ fields_row_lem (c.args.seen + 1) (took).fs
     ∙ ap (λ (x : Option (List Field)). operator_row (c.args.seen + 1) (fields_of x)) (sym (took).is) in
     let i = row_is in λ z. c.put_row.ensures ∙ ap (set c.args.rows.now c.args.seen) i

@@ -6,7 +6,8 @@ use Prim.Native.Nat.{ℕ, ◌+◌, ◌-◌, ◌≤◌, ◌<◌}
 use native.Mathlib.Omega.{arith}
 use borrow.Author.Tests.{eq-eqb, ne_eqb}
 use lib.ListN.{length, set}
-use Rattle.text.specs.Text.{Field, line_at, after}
+use Rattle.text.specs.declared.field.Field.{Field}
+use Rattle.text.specs.Text.{line_at, after}
 use Rattle.linekinds.specs.Lines.{line_number, fields_of}
 use Rattle.linekinds.specs.Reading.{read_by}
 use Rattle.plansheet.specs.Shapes.{tree_line, children_at}
@@ -26,15 +27,15 @@ pub record Room (n most p next s children : ℕ) : Type 0 where
   pub within : next ≤ s
 
 pub loop-owed-init : goal.loop-owed-init
-loop-owed-init c = (head_first (operator_rows 1) _ operators_made ((tree_line (shape_of c.args.letter c.args.bounds.now c.args.sizes.now c.args.codes.now) c.args.rules.now c.args.most)) _ _ _ _ _ c.requires.most_bound.1 c.requires.most_bound.2, omega arith, omega arith, refl)
+loop-owed-init c = (head_first (operator_rows 1) _ operators_made ((tree_line (shape_of c.args.h.line.letter c.args.h.line.bounds.now c.args.h.line.sizes.now c.args.h.line.codes.now) c.args.h.rules.now c.args.h.most)) _ _ _ _ _ c.requires.at_bound.0 c.requires.at_bound.1, omega arith, omega arith, refl)
 
 pub tree_row-r-requires-clause-in_bounds : goal.tree_row-r-requires-clause-in_bounds
 tree_row-r-requires-clause-in_bounds c =
-    (c.requires.in_bounds.0, omega (arith, c.requires.in_bounds.1, c.loop-owed.invariant.3), c.requires.in_bounds.2, c.requires.most_bound.0)
+    omega (arith, c.requires.in_bounds, c.loop-owed.invariant.3)
 
 pub tree_row-r-requires-clause-plain_shape : goal.tree_row-r-requires-clause-plain_shape
 tree_row-r-requires-clause-plain_shape c =
-    let rows_long : length c.loop-owed.rows ≡ length c.args.rows.now = head_long (operator_rows 1) _ operators_made ((tree_line (shape_of c.args.letter c.args.bounds.now c.args.sizes.now c.args.codes.now) c.args.rules.now c.args.most)) _ _ _ _ _ _ _ _ c.loop-owed.invariant.0 in
+    let rows_long : length c.loop-owed.rows ≡ length c.args.rows.now = head_long (operator_rows 1) _ operators_made ((tree_line (shape_of c.args.h.line.letter c.args.h.line.bounds.now c.args.h.line.sizes.now c.args.h.line.codes.now) c.args.h.rules.now c.args.h.most)) _ _ _ _ _ _ _ _ c.loop-owed.invariant.0 in
     let q = c.quick_rows-quick.ensures in (q.0, q.1, omega (arith, q.2, rows_long))
 
 pub shape_of-fields-in-Refused : goal.shape_of-fields-in-Refused
@@ -42,68 +43,68 @@ shape_of-fields-in-Refused c = omega (arith, c.loop-owed.invariant.3, c.tree_row
 
 pub shape_of-rows-in-Refused : goal.shape_of-rows-in-Refused
 shape_of-rows-in-Refused c =
-    let rows_long : length c.loop-owed.rows ≡ length c.args.rows.now = head_long (operator_rows 1) _ operators_made ((tree_line (shape_of c.args.letter c.args.bounds.now c.args.sizes.now c.args.codes.now) c.args.rules.now c.args.most)) _ _ _ _ _ _ _ _ c.loop-owed.invariant.0 in
+    let rows_long : length c.loop-owed.rows ≡ length c.args.rows.now = head_long (operator_rows 1) _ operators_made ((tree_line (shape_of c.args.h.line.letter c.args.h.line.bounds.now c.args.h.line.sizes.now c.args.h.line.codes.now) c.args.h.rules.now c.args.h.most)) _ _ _ _ _ _ _ _ c.loop-owed.invariant.0 in
     omega (arith, rows_long, c.tree_row-r.auto.rows)
 
 pub returns-in-Refused : goal.returns-in-Refused
 returns-in-Refused c =
-    let rows_long : length c.loop-owed.rows ≡ length c.args.rows.now = head_long (operator_rows 1) _ operators_made ((tree_line (shape_of c.args.letter c.args.bounds.now c.args.sizes.now c.args.codes.now) c.args.rules.now c.args.most)) _ _ _ _ _ _ _ _ c.loop-owed.invariant.0 in
-    let both = head_refused (operator_rows 1) _ operators_made ((tree_line (shape_of c.args.letter c.args.bounds.now c.args.sizes.now c.args.codes.now) c.args.rules.now c.args.most)) _ _ _ _ _ _ _ _ c.loop-owed.invariant.0 (ne_eqb _ _ c.loop-owed-test.true) _
-    (refused_again (line_number ((tree_line (shape_of c.args.letter c.args.bounds.now c.args.sizes.now c.args.codes.now) c.args.rules.now c.args.most)) c.loop-owed.n ((after c.args.s.now c.loop-owed.p)) ((line_at c.args.letter c.args.s.now c.loop-owed.p))) ((after c.args.s.now c.loop-owed.p)) ((line_at c.args.letter c.args.s.now c.loop-owed.p)) _ (sym c.in-Refused.is ∙ c.tree_row-r.ensures.answer))
+    let rows_long : length c.loop-owed.rows ≡ length c.args.rows.now = head_long (operator_rows 1) _ operators_made ((tree_line (shape_of c.args.h.line.letter c.args.h.line.bounds.now c.args.h.line.sizes.now c.args.h.line.codes.now) c.args.h.rules.now c.args.h.most)) _ _ _ _ _ _ _ _ c.loop-owed.invariant.0 in
+    let both = head_refused (operator_rows 1) _ operators_made ((tree_line (shape_of c.args.h.line.letter c.args.h.line.bounds.now c.args.h.line.sizes.now c.args.h.line.codes.now) c.args.h.rules.now c.args.h.most)) _ _ _ _ _ _ _ _ c.loop-owed.invariant.0 (ne_eqb _ _ c.loop-owed-test.true) _
+    (refused_again (line_number ((tree_line (shape_of c.args.h.line.letter c.args.h.line.bounds.now c.args.h.line.sizes.now c.args.h.line.codes.now) c.args.h.rules.now c.args.h.most)) c.loop-owed.n ((after c.args.s.now c.loop-owed.p)) ((line_at c.args.h.line.letter c.args.s.now c.loop-owed.p))) ((after c.args.s.now c.loop-owed.p)) ((line_at c.args.h.line.letter c.args.s.now c.loop-owed.p)) _ (sym c.in-Refused.is ∙ c.tree_row-r.ensures.answer))
     _ (omega (arith, rows_long, c.tree_row-r.auto.rows)) in record { answer = both.0; left = both.1 }
 
 pub overflow_add-owed : goal.overflow_add-owed
 overflow_add-owed c =
-    let read : (L.Line (length (fields_of ((line_at c.args.letter c.args.s.now c.loop-owed.p)))) c.in-Row.next ≡ read_by (line_number ((tree_line (shape_of c.args.letter c.args.bounds.now c.args.sizes.now c.args.codes.now) c.args.rules.now c.args.most)) c.loop-owed.n ((after c.args.s.now c.loop-owed.p)) ((line_at c.args.letter c.args.s.now c.loop-owed.p))) ((after c.args.s.now c.loop-owed.p)) ((line_at c.args.letter c.args.s.now c.loop-owed.p))) × (c.in-Row.children ≡ children_at (fields_of ((line_at c.args.letter c.args.s.now c.loop-owed.p)))) = line_again (line_number ((tree_line (shape_of c.args.letter c.args.bounds.now c.args.sizes.now c.args.codes.now) c.args.rules.now c.args.most)) c.loop-owed.n ((after c.args.s.now c.loop-owed.p)) ((line_at c.args.letter c.args.s.now c.loop-owed.p))) ((after c.args.s.now c.loop-owed.p)) ((line_at c.args.letter c.args.s.now c.loop-owed.p)) _ _ (sym c.in-Row.is ∙ c.tree_row-r.ensures.answer) in
-    let took : Taken ((tree_line (shape_of c.args.letter c.args.bounds.now c.args.sizes.now c.args.codes.now) c.args.rules.now c.args.most)) c.loop-owed.n ((after c.args.s.now c.loop-owed.p)) ((line_at c.args.letter c.args.s.now c.loop-owed.p)) (length (fields_of ((line_at c.args.letter c.args.s.now c.loop-owed.p)))) c.in-Row.next = taken ((tree_line (shape_of c.args.letter c.args.bounds.now c.args.sizes.now c.args.codes.now) c.args.rules.now c.args.most)) c.loop-owed.n ((after c.args.s.now c.loop-owed.p)) ((line_at c.args.letter c.args.s.now c.loop-owed.p)) _ _ (read).0 in
+    let read : (L.Line (length (fields_of ((line_at c.args.h.line.letter c.args.s.now c.loop-owed.p)))) c.in-Row.next ≡ read_by (line_number ((tree_line (shape_of c.args.h.line.letter c.args.h.line.bounds.now c.args.h.line.sizes.now c.args.h.line.codes.now) c.args.h.rules.now c.args.h.most)) c.loop-owed.n ((after c.args.s.now c.loop-owed.p)) ((line_at c.args.h.line.letter c.args.s.now c.loop-owed.p))) ((after c.args.s.now c.loop-owed.p)) ((line_at c.args.h.line.letter c.args.s.now c.loop-owed.p))) × (c.in-Row.children ≡ children_at (fields_of ((line_at c.args.h.line.letter c.args.s.now c.loop-owed.p)))) = line_again (line_number ((tree_line (shape_of c.args.h.line.letter c.args.h.line.bounds.now c.args.h.line.sizes.now c.args.h.line.codes.now) c.args.h.rules.now c.args.h.most)) c.loop-owed.n ((after c.args.s.now c.loop-owed.p)) ((line_at c.args.h.line.letter c.args.s.now c.loop-owed.p))) ((after c.args.s.now c.loop-owed.p)) ((line_at c.args.h.line.letter c.args.s.now c.loop-owed.p)) _ _ (sym c.in-Row.is ∙ c.tree_row-r.ensures.answer) in
+    let took : Taken ((tree_line (shape_of c.args.h.line.letter c.args.h.line.bounds.now c.args.h.line.sizes.now c.args.h.line.codes.now) c.args.h.rules.now c.args.h.most)) c.loop-owed.n ((after c.args.s.now c.loop-owed.p)) ((line_at c.args.h.line.letter c.args.s.now c.loop-owed.p)) (length (fields_of ((line_at c.args.h.line.letter c.args.s.now c.loop-owed.p)))) c.in-Row.next = taken ((tree_line (shape_of c.args.h.line.letter c.args.h.line.bounds.now c.args.h.line.sizes.now c.args.h.line.codes.now) c.args.h.rules.now c.args.h.most)) c.loop-owed.n ((after c.args.s.now c.loop-owed.p)) ((line_at c.args.h.line.letter c.args.s.now c.loop-owed.p)) _ _ (read).0 in
     let children_are : c.in-Row.children ≡ children_at (took).fs = (read).1 ∙ ap (λ (x : Option (List Field)). children_at (fields_of x)) (took).is in
-    let room : let l = c.loop-owed in Room l.n c.args.most l.p c.in-Row.next (length c.args.s.now) c.in-Row.children = let l = c.loop-owed in let a = tree_small (shape_of c.args.letter c.args.bounds.now c.args.sizes.now c.args.codes.now) c.args.rules.now c.args.most l.n _ (took).fs (took).zero in
-    let b = head_next (operator_rows 1) _ operators_made ((tree_line (shape_of c.args.letter c.args.bounds.now c.args.sizes.now c.args.codes.now) c.args.rules.now c.args.most)) _ _ _ _ _ _ _ _ l.invariant.0 _ _ (took) in
+    let room : let l = c.loop-owed in Room l.n c.args.h.most l.p c.in-Row.next (length c.args.s.now) c.in-Row.children = let l = c.loop-owed in let a = tree_small (shape_of c.args.h.line.letter c.args.h.line.bounds.now c.args.h.line.sizes.now c.args.h.line.codes.now) c.args.h.rules.now c.args.h.most l.n _ (took).fs (took).zero in
+    let b = head_next (operator_rows 1) _ operators_made ((tree_line (shape_of c.args.h.line.letter c.args.h.line.bounds.now c.args.h.line.sizes.now c.args.h.line.codes.now) c.args.h.rules.now c.args.h.most)) _ _ _ _ _ _ _ _ l.invariant.0 _ _ (took) in
     record { few = a.0; small = omega (arith, a.1, children_are); on = b.0; within = b.1 } in
-    omega (arith, room, c.requires.most_bound, c.loop-owed.invariant.2)
+    omega (arith, room, c.args.h.few, c.requires.at_bound, c.loop-owed.invariant.2)
 
 pub overflow_add-n : goal.overflow_add-n
 overflow_add-n c =
-    let read : (L.Line (length (fields_of ((line_at c.args.letter c.args.s.now c.loop-owed.p)))) c.in-Row.next ≡ read_by (line_number ((tree_line (shape_of c.args.letter c.args.bounds.now c.args.sizes.now c.args.codes.now) c.args.rules.now c.args.most)) c.loop-owed.n ((after c.args.s.now c.loop-owed.p)) ((line_at c.args.letter c.args.s.now c.loop-owed.p))) ((after c.args.s.now c.loop-owed.p)) ((line_at c.args.letter c.args.s.now c.loop-owed.p))) × (c.in-Row.children ≡ children_at (fields_of ((line_at c.args.letter c.args.s.now c.loop-owed.p)))) = line_again (line_number ((tree_line (shape_of c.args.letter c.args.bounds.now c.args.sizes.now c.args.codes.now) c.args.rules.now c.args.most)) c.loop-owed.n ((after c.args.s.now c.loop-owed.p)) ((line_at c.args.letter c.args.s.now c.loop-owed.p))) ((after c.args.s.now c.loop-owed.p)) ((line_at c.args.letter c.args.s.now c.loop-owed.p)) _ _ (sym c.in-Row.is ∙ c.tree_row-r.ensures.answer) in
-    let took : Taken ((tree_line (shape_of c.args.letter c.args.bounds.now c.args.sizes.now c.args.codes.now) c.args.rules.now c.args.most)) c.loop-owed.n ((after c.args.s.now c.loop-owed.p)) ((line_at c.args.letter c.args.s.now c.loop-owed.p)) (length (fields_of ((line_at c.args.letter c.args.s.now c.loop-owed.p)))) c.in-Row.next = taken ((tree_line (shape_of c.args.letter c.args.bounds.now c.args.sizes.now c.args.codes.now) c.args.rules.now c.args.most)) c.loop-owed.n ((after c.args.s.now c.loop-owed.p)) ((line_at c.args.letter c.args.s.now c.loop-owed.p)) _ _ (read).0 in
+    let read : (L.Line (length (fields_of ((line_at c.args.h.line.letter c.args.s.now c.loop-owed.p)))) c.in-Row.next ≡ read_by (line_number ((tree_line (shape_of c.args.h.line.letter c.args.h.line.bounds.now c.args.h.line.sizes.now c.args.h.line.codes.now) c.args.h.rules.now c.args.h.most)) c.loop-owed.n ((after c.args.s.now c.loop-owed.p)) ((line_at c.args.h.line.letter c.args.s.now c.loop-owed.p))) ((after c.args.s.now c.loop-owed.p)) ((line_at c.args.h.line.letter c.args.s.now c.loop-owed.p))) × (c.in-Row.children ≡ children_at (fields_of ((line_at c.args.h.line.letter c.args.s.now c.loop-owed.p)))) = line_again (line_number ((tree_line (shape_of c.args.h.line.letter c.args.h.line.bounds.now c.args.h.line.sizes.now c.args.h.line.codes.now) c.args.h.rules.now c.args.h.most)) c.loop-owed.n ((after c.args.s.now c.loop-owed.p)) ((line_at c.args.h.line.letter c.args.s.now c.loop-owed.p))) ((after c.args.s.now c.loop-owed.p)) ((line_at c.args.h.line.letter c.args.s.now c.loop-owed.p)) _ _ (sym c.in-Row.is ∙ c.tree_row-r.ensures.answer) in
+    let took : Taken ((tree_line (shape_of c.args.h.line.letter c.args.h.line.bounds.now c.args.h.line.sizes.now c.args.h.line.codes.now) c.args.h.rules.now c.args.h.most)) c.loop-owed.n ((after c.args.s.now c.loop-owed.p)) ((line_at c.args.h.line.letter c.args.s.now c.loop-owed.p)) (length (fields_of ((line_at c.args.h.line.letter c.args.s.now c.loop-owed.p)))) c.in-Row.next = taken ((tree_line (shape_of c.args.h.line.letter c.args.h.line.bounds.now c.args.h.line.sizes.now c.args.h.line.codes.now) c.args.h.rules.now c.args.h.most)) c.loop-owed.n ((after c.args.s.now c.loop-owed.p)) ((line_at c.args.h.line.letter c.args.s.now c.loop-owed.p)) _ _ (read).0 in
     let children_are : c.in-Row.children ≡ children_at (took).fs = (read).1 ∙ ap (λ (x : Option (List Field)). children_at (fields_of x)) (took).is in
-    let room : let l = c.loop-owed in Room l.n c.args.most l.p c.in-Row.next (length c.args.s.now) c.in-Row.children = let l = c.loop-owed in let a = tree_small (shape_of c.args.letter c.args.bounds.now c.args.sizes.now c.args.codes.now) c.args.rules.now c.args.most l.n _ (took).fs (took).zero in
-    let b = head_next (operator_rows 1) _ operators_made ((tree_line (shape_of c.args.letter c.args.bounds.now c.args.sizes.now c.args.codes.now) c.args.rules.now c.args.most)) _ _ _ _ _ _ _ _ l.invariant.0 _ _ (took) in
+    let room : let l = c.loop-owed in Room l.n c.args.h.most l.p c.in-Row.next (length c.args.s.now) c.in-Row.children = let l = c.loop-owed in let a = tree_small (shape_of c.args.h.line.letter c.args.h.line.bounds.now c.args.h.line.sizes.now c.args.h.line.codes.now) c.args.h.rules.now c.args.h.most l.n _ (took).fs (took).zero in
+    let b = head_next (operator_rows 1) _ operators_made ((tree_line (shape_of c.args.h.line.letter c.args.h.line.bounds.now c.args.h.line.sizes.now c.args.h.line.codes.now) c.args.h.rules.now c.args.h.most)) _ _ _ _ _ _ _ _ l.invariant.0 _ _ (took) in
     record { few = a.0; small = omega (arith, a.1, children_are); on = b.0; within = b.1 } in
-    omega (arith, room, c.requires.most_bound)
+    omega (arith, room, c.args.h.few, c.requires.at_bound)
 
 pub overflow_add-l : goal.overflow_add-l
 overflow_add-l c =
-    let read : (L.Line (length (fields_of ((line_at c.args.letter c.args.s.now c.loop-owed.p)))) c.in-Row.next ≡ read_by (line_number ((tree_line (shape_of c.args.letter c.args.bounds.now c.args.sizes.now c.args.codes.now) c.args.rules.now c.args.most)) c.loop-owed.n ((after c.args.s.now c.loop-owed.p)) ((line_at c.args.letter c.args.s.now c.loop-owed.p))) ((after c.args.s.now c.loop-owed.p)) ((line_at c.args.letter c.args.s.now c.loop-owed.p))) × (c.in-Row.children ≡ children_at (fields_of ((line_at c.args.letter c.args.s.now c.loop-owed.p)))) = line_again (line_number ((tree_line (shape_of c.args.letter c.args.bounds.now c.args.sizes.now c.args.codes.now) c.args.rules.now c.args.most)) c.loop-owed.n ((after c.args.s.now c.loop-owed.p)) ((line_at c.args.letter c.args.s.now c.loop-owed.p))) ((after c.args.s.now c.loop-owed.p)) ((line_at c.args.letter c.args.s.now c.loop-owed.p)) _ _ (sym c.in-Row.is ∙ c.tree_row-r.ensures.answer) in
-    let took : Taken ((tree_line (shape_of c.args.letter c.args.bounds.now c.args.sizes.now c.args.codes.now) c.args.rules.now c.args.most)) c.loop-owed.n ((after c.args.s.now c.loop-owed.p)) ((line_at c.args.letter c.args.s.now c.loop-owed.p)) (length (fields_of ((line_at c.args.letter c.args.s.now c.loop-owed.p)))) c.in-Row.next = taken ((tree_line (shape_of c.args.letter c.args.bounds.now c.args.sizes.now c.args.codes.now) c.args.rules.now c.args.most)) c.loop-owed.n ((after c.args.s.now c.loop-owed.p)) ((line_at c.args.letter c.args.s.now c.loop-owed.p)) _ _ (read).0 in
+    let read : (L.Line (length (fields_of ((line_at c.args.h.line.letter c.args.s.now c.loop-owed.p)))) c.in-Row.next ≡ read_by (line_number ((tree_line (shape_of c.args.h.line.letter c.args.h.line.bounds.now c.args.h.line.sizes.now c.args.h.line.codes.now) c.args.h.rules.now c.args.h.most)) c.loop-owed.n ((after c.args.s.now c.loop-owed.p)) ((line_at c.args.h.line.letter c.args.s.now c.loop-owed.p))) ((after c.args.s.now c.loop-owed.p)) ((line_at c.args.h.line.letter c.args.s.now c.loop-owed.p))) × (c.in-Row.children ≡ children_at (fields_of ((line_at c.args.h.line.letter c.args.s.now c.loop-owed.p)))) = line_again (line_number ((tree_line (shape_of c.args.h.line.letter c.args.h.line.bounds.now c.args.h.line.sizes.now c.args.h.line.codes.now) c.args.h.rules.now c.args.h.most)) c.loop-owed.n ((after c.args.s.now c.loop-owed.p)) ((line_at c.args.h.line.letter c.args.s.now c.loop-owed.p))) ((after c.args.s.now c.loop-owed.p)) ((line_at c.args.h.line.letter c.args.s.now c.loop-owed.p)) _ _ (sym c.in-Row.is ∙ c.tree_row-r.ensures.answer) in
+    let took : Taken ((tree_line (shape_of c.args.h.line.letter c.args.h.line.bounds.now c.args.h.line.sizes.now c.args.h.line.codes.now) c.args.h.rules.now c.args.h.most)) c.loop-owed.n ((after c.args.s.now c.loop-owed.p)) ((line_at c.args.h.line.letter c.args.s.now c.loop-owed.p)) (length (fields_of ((line_at c.args.h.line.letter c.args.s.now c.loop-owed.p)))) c.in-Row.next = taken ((tree_line (shape_of c.args.h.line.letter c.args.h.line.bounds.now c.args.h.line.sizes.now c.args.h.line.codes.now) c.args.h.rules.now c.args.h.most)) c.loop-owed.n ((after c.args.s.now c.loop-owed.p)) ((line_at c.args.h.line.letter c.args.s.now c.loop-owed.p)) _ _ (read).0 in
     let children_are : c.in-Row.children ≡ children_at (took).fs = (read).1 ∙ ap (λ (x : Option (List Field)). children_at (fields_of x)) (took).is in
-    let room : let l = c.loop-owed in Room l.n c.args.most l.p c.in-Row.next (length c.args.s.now) c.in-Row.children = let l = c.loop-owed in let a = tree_small (shape_of c.args.letter c.args.bounds.now c.args.sizes.now c.args.codes.now) c.args.rules.now c.args.most l.n _ (took).fs (took).zero in
-    let b = head_next (operator_rows 1) _ operators_made ((tree_line (shape_of c.args.letter c.args.bounds.now c.args.sizes.now c.args.codes.now) c.args.rules.now c.args.most)) _ _ _ _ _ _ _ _ l.invariant.0 _ _ (took) in
+    let room : let l = c.loop-owed in Room l.n c.args.h.most l.p c.in-Row.next (length c.args.s.now) c.in-Row.children = let l = c.loop-owed in let a = tree_small (shape_of c.args.h.line.letter c.args.h.line.bounds.now c.args.h.line.sizes.now c.args.h.line.codes.now) c.args.h.rules.now c.args.h.most l.n _ (took).fs (took).zero in
+    let b = head_next (operator_rows 1) _ operators_made ((tree_line (shape_of c.args.h.line.letter c.args.h.line.bounds.now c.args.h.line.sizes.now c.args.h.line.codes.now) c.args.h.rules.now c.args.h.most)) _ _ _ _ _ _ _ _ l.invariant.0 _ _ (took) in
     record { few = a.0; small = omega (arith, a.1, children_are); on = b.0; within = b.1 } in
     omega (arith, room, c.loop-owed.invariant.0.lines)
 
 pub loop-owed-smaller : goal.loop-owed-smaller
 loop-owed-smaller c =
-    let read : (L.Line (length (fields_of ((line_at c.args.letter c.args.s.now c.loop-owed.p)))) c.in-Row.next ≡ read_by (line_number ((tree_line (shape_of c.args.letter c.args.bounds.now c.args.sizes.now c.args.codes.now) c.args.rules.now c.args.most)) c.loop-owed.n ((after c.args.s.now c.loop-owed.p)) ((line_at c.args.letter c.args.s.now c.loop-owed.p))) ((after c.args.s.now c.loop-owed.p)) ((line_at c.args.letter c.args.s.now c.loop-owed.p))) × (c.in-Row.children ≡ children_at (fields_of ((line_at c.args.letter c.args.s.now c.loop-owed.p)))) = line_again (line_number ((tree_line (shape_of c.args.letter c.args.bounds.now c.args.sizes.now c.args.codes.now) c.args.rules.now c.args.most)) c.loop-owed.n ((after c.args.s.now c.loop-owed.p)) ((line_at c.args.letter c.args.s.now c.loop-owed.p))) ((after c.args.s.now c.loop-owed.p)) ((line_at c.args.letter c.args.s.now c.loop-owed.p)) _ _ (sym c.in-Row.is ∙ c.tree_row-r.ensures.answer) in
-    let took : Taken ((tree_line (shape_of c.args.letter c.args.bounds.now c.args.sizes.now c.args.codes.now) c.args.rules.now c.args.most)) c.loop-owed.n ((after c.args.s.now c.loop-owed.p)) ((line_at c.args.letter c.args.s.now c.loop-owed.p)) (length (fields_of ((line_at c.args.letter c.args.s.now c.loop-owed.p)))) c.in-Row.next = taken ((tree_line (shape_of c.args.letter c.args.bounds.now c.args.sizes.now c.args.codes.now) c.args.rules.now c.args.most)) c.loop-owed.n ((after c.args.s.now c.loop-owed.p)) ((line_at c.args.letter c.args.s.now c.loop-owed.p)) _ _ (read).0 in
+    let read : (L.Line (length (fields_of ((line_at c.args.h.line.letter c.args.s.now c.loop-owed.p)))) c.in-Row.next ≡ read_by (line_number ((tree_line (shape_of c.args.h.line.letter c.args.h.line.bounds.now c.args.h.line.sizes.now c.args.h.line.codes.now) c.args.h.rules.now c.args.h.most)) c.loop-owed.n ((after c.args.s.now c.loop-owed.p)) ((line_at c.args.h.line.letter c.args.s.now c.loop-owed.p))) ((after c.args.s.now c.loop-owed.p)) ((line_at c.args.h.line.letter c.args.s.now c.loop-owed.p))) × (c.in-Row.children ≡ children_at (fields_of ((line_at c.args.h.line.letter c.args.s.now c.loop-owed.p)))) = line_again (line_number ((tree_line (shape_of c.args.h.line.letter c.args.h.line.bounds.now c.args.h.line.sizes.now c.args.h.line.codes.now) c.args.h.rules.now c.args.h.most)) c.loop-owed.n ((after c.args.s.now c.loop-owed.p)) ((line_at c.args.h.line.letter c.args.s.now c.loop-owed.p))) ((after c.args.s.now c.loop-owed.p)) ((line_at c.args.h.line.letter c.args.s.now c.loop-owed.p)) _ _ (sym c.in-Row.is ∙ c.tree_row-r.ensures.answer) in
+    let took : Taken ((tree_line (shape_of c.args.h.line.letter c.args.h.line.bounds.now c.args.h.line.sizes.now c.args.h.line.codes.now) c.args.h.rules.now c.args.h.most)) c.loop-owed.n ((after c.args.s.now c.loop-owed.p)) ((line_at c.args.h.line.letter c.args.s.now c.loop-owed.p)) (length (fields_of ((line_at c.args.h.line.letter c.args.s.now c.loop-owed.p)))) c.in-Row.next = taken ((tree_line (shape_of c.args.h.line.letter c.args.h.line.bounds.now c.args.h.line.sizes.now c.args.h.line.codes.now) c.args.h.rules.now c.args.h.most)) c.loop-owed.n ((after c.args.s.now c.loop-owed.p)) ((line_at c.args.h.line.letter c.args.s.now c.loop-owed.p)) _ _ (read).0 in
     let children_are : c.in-Row.children ≡ children_at (took).fs = (read).1 ∙ ap (λ (x : Option (List Field)). children_at (fields_of x)) (took).is in
-    let room : let l = c.loop-owed in Room l.n c.args.most l.p c.in-Row.next (length c.args.s.now) c.in-Row.children = let l = c.loop-owed in let a = tree_small (shape_of c.args.letter c.args.bounds.now c.args.sizes.now c.args.codes.now) c.args.rules.now c.args.most l.n _ (took).fs (took).zero in
-    let b = head_next (operator_rows 1) _ operators_made ((tree_line (shape_of c.args.letter c.args.bounds.now c.args.sizes.now c.args.codes.now) c.args.rules.now c.args.most)) _ _ _ _ _ _ _ _ l.invariant.0 _ _ (took) in
+    let room : let l = c.loop-owed in Room l.n c.args.h.most l.p c.in-Row.next (length c.args.s.now) c.in-Row.children = let l = c.loop-owed in let a = tree_small (shape_of c.args.h.line.letter c.args.h.line.bounds.now c.args.h.line.sizes.now c.args.h.line.codes.now) c.args.h.rules.now c.args.h.most l.n _ (took).fs (took).zero in
+    let b = head_next (operator_rows 1) _ operators_made ((tree_line (shape_of c.args.h.line.letter c.args.h.line.bounds.now c.args.h.line.sizes.now c.args.h.line.codes.now) c.args.h.rules.now c.args.h.most)) _ _ _ _ _ _ _ _ l.invariant.0 _ _ (took) in
     record { few = a.0; small = omega (arith, a.1, children_are); on = b.0; within = b.1 } in
     omega (arith, room)
 
 pub loop-owed-preserved : goal.loop-owed-preserved
 loop-owed-preserved c =
-    let read : (L.Line (length (fields_of ((line_at c.args.letter c.args.s.now c.loop-owed.p)))) c.in-Row.next ≡ read_by (line_number ((tree_line (shape_of c.args.letter c.args.bounds.now c.args.sizes.now c.args.codes.now) c.args.rules.now c.args.most)) c.loop-owed.n ((after c.args.s.now c.loop-owed.p)) ((line_at c.args.letter c.args.s.now c.loop-owed.p))) ((after c.args.s.now c.loop-owed.p)) ((line_at c.args.letter c.args.s.now c.loop-owed.p))) × (c.in-Row.children ≡ children_at (fields_of ((line_at c.args.letter c.args.s.now c.loop-owed.p)))) = line_again (line_number ((tree_line (shape_of c.args.letter c.args.bounds.now c.args.sizes.now c.args.codes.now) c.args.rules.now c.args.most)) c.loop-owed.n ((after c.args.s.now c.loop-owed.p)) ((line_at c.args.letter c.args.s.now c.loop-owed.p))) ((after c.args.s.now c.loop-owed.p)) ((line_at c.args.letter c.args.s.now c.loop-owed.p)) _ _ (sym c.in-Row.is ∙ c.tree_row-r.ensures.answer) in
-    let took : Taken ((tree_line (shape_of c.args.letter c.args.bounds.now c.args.sizes.now c.args.codes.now) c.args.rules.now c.args.most)) c.loop-owed.n ((after c.args.s.now c.loop-owed.p)) ((line_at c.args.letter c.args.s.now c.loop-owed.p)) (length (fields_of ((line_at c.args.letter c.args.s.now c.loop-owed.p)))) c.in-Row.next = taken ((tree_line (shape_of c.args.letter c.args.bounds.now c.args.sizes.now c.args.codes.now) c.args.rules.now c.args.most)) c.loop-owed.n ((after c.args.s.now c.loop-owed.p)) ((line_at c.args.letter c.args.s.now c.loop-owed.p)) _ _ (read).0 in
-    let stored : let l = c.loop-owed in c.tree_row-r.new.rows ≡ set l.rows l.n (operator_row (l.n + 1) (took).fs) = c.tree_row-r.ensures.stored (ap (line_number ((tree_line (shape_of c.args.letter c.args.bounds.now c.args.sizes.now c.args.codes.now) c.args.rules.now c.args.most)) c.loop-owed.n ((after c.args.s.now c.loop-owed.p))) (took).is ∙ (took).zero)
+    let read : (L.Line (length (fields_of ((line_at c.args.h.line.letter c.args.s.now c.loop-owed.p)))) c.in-Row.next ≡ read_by (line_number ((tree_line (shape_of c.args.h.line.letter c.args.h.line.bounds.now c.args.h.line.sizes.now c.args.h.line.codes.now) c.args.h.rules.now c.args.h.most)) c.loop-owed.n ((after c.args.s.now c.loop-owed.p)) ((line_at c.args.h.line.letter c.args.s.now c.loop-owed.p))) ((after c.args.s.now c.loop-owed.p)) ((line_at c.args.h.line.letter c.args.s.now c.loop-owed.p))) × (c.in-Row.children ≡ children_at (fields_of ((line_at c.args.h.line.letter c.args.s.now c.loop-owed.p)))) = line_again (line_number ((tree_line (shape_of c.args.h.line.letter c.args.h.line.bounds.now c.args.h.line.sizes.now c.args.h.line.codes.now) c.args.h.rules.now c.args.h.most)) c.loop-owed.n ((after c.args.s.now c.loop-owed.p)) ((line_at c.args.h.line.letter c.args.s.now c.loop-owed.p))) ((after c.args.s.now c.loop-owed.p)) ((line_at c.args.h.line.letter c.args.s.now c.loop-owed.p)) _ _ (sym c.in-Row.is ∙ c.tree_row-r.ensures.answer) in
+    let took : Taken ((tree_line (shape_of c.args.h.line.letter c.args.h.line.bounds.now c.args.h.line.sizes.now c.args.h.line.codes.now) c.args.h.rules.now c.args.h.most)) c.loop-owed.n ((after c.args.s.now c.loop-owed.p)) ((line_at c.args.h.line.letter c.args.s.now c.loop-owed.p)) (length (fields_of ((line_at c.args.h.line.letter c.args.s.now c.loop-owed.p)))) c.in-Row.next = taken ((tree_line (shape_of c.args.h.line.letter c.args.h.line.bounds.now c.args.h.line.sizes.now c.args.h.line.codes.now) c.args.h.rules.now c.args.h.most)) c.loop-owed.n ((after c.args.s.now c.loop-owed.p)) ((line_at c.args.h.line.letter c.args.s.now c.loop-owed.p)) _ _ (read).0 in
+    let stored : let l = c.loop-owed in c.tree_row-r.new.rows ≡ set l.rows l.n (operator_row (l.n + 1) (took).fs) = c.tree_row-r.ensures.stored (ap (line_number ((tree_line (shape_of c.args.h.line.letter c.args.h.line.bounds.now c.args.h.line.sizes.now c.args.h.line.codes.now) c.args.h.rules.now c.args.h.most)) c.loop-owed.n ((after c.args.s.now c.loop-owed.p))) (took).is ∙ (took).zero)
     ∙ ap (λ (x : Option (List Field)). set c.loop-owed.rows c.loop-owed.n (operator_row (c.loop-owed.n + 1) (fields_of x))) (took).is in
     let children_are : c.in-Row.children ≡ children_at (took).fs = (read).1 ∙ ap (λ (x : Option (List Field)). children_at (fields_of x)) (took).is in
-    let room : let l = c.loop-owed in Room l.n c.args.most l.p c.in-Row.next (length c.args.s.now) c.in-Row.children = let l = c.loop-owed in let a = tree_small (shape_of c.args.letter c.args.bounds.now c.args.sizes.now c.args.codes.now) c.args.rules.now c.args.most l.n _ (took).fs (took).zero in
-    let b = head_next (operator_rows 1) _ operators_made ((tree_line (shape_of c.args.letter c.args.bounds.now c.args.sizes.now c.args.codes.now) c.args.rules.now c.args.most)) _ _ _ _ _ _ _ _ l.invariant.0 _ _ (took) in
+    let room : let l = c.loop-owed in Room l.n c.args.h.most l.p c.in-Row.next (length c.args.s.now) c.in-Row.children = let l = c.loop-owed in let a = tree_small (shape_of c.args.h.line.letter c.args.h.line.bounds.now c.args.h.line.sizes.now c.args.h.line.codes.now) c.args.h.rules.now c.args.h.most l.n _ (took).fs (took).zero in
+    let b = head_next (operator_rows 1) _ operators_made ((tree_line (shape_of c.args.h.line.letter c.args.h.line.bounds.now c.args.h.line.sizes.now c.args.h.line.codes.now) c.args.h.rules.now c.args.h.most)) _ _ _ _ _ _ _ _ l.invariant.0 _ _ (took) in
     record { few = a.0; small = omega (arith, a.1, children_are); on = b.0; within = b.1 } in
     let l = c.loop-owed in (
-      head_more (operator_rows 1) _ operators_made ((tree_line (shape_of c.args.letter c.args.bounds.now c.args.sizes.now c.args.codes.now) c.args.rules.now c.args.most)) _ _ _ _ _ _ _ _ l.invariant.0 _ _ (took) (ne_eqb _ _ c.loop-owed-test.true) _ (stored) _ (ap (λ (n : ℕ). l.owed - 1 + n) (children_are)),
+      head_more (operator_rows 1) _ operators_made ((tree_line (shape_of c.args.h.line.letter c.args.h.line.bounds.now c.args.h.line.sizes.now c.args.h.line.codes.now) c.args.h.rules.now c.args.h.most)) _ _ _ _ _ _ _ _ l.invariant.0 _ _ (took) (ne_eqb _ _ c.loop-owed-test.true) _ (stored) _ (ap (λ (n : ℕ). l.owed - 1 + n) (children_are)),
       omega (arith, room),
       omega (arith, room, l.invariant.2),
       omega (arith, l.invariant.3, c.tree_row-r.auto.fields),
@@ -114,8 +115,8 @@ shape_of-fields c = c.loop-owed.invariant.3
 
 pub shape_of-rows : goal.shape_of-rows
 shape_of-rows c =
-    let rows_long : length c.loop-owed.rows ≡ length c.args.rows.now = head_long (operator_rows 1) _ operators_made ((tree_line (shape_of c.args.letter c.args.bounds.now c.args.sizes.now c.args.codes.now) c.args.rules.now c.args.most)) _ _ _ _ _ _ _ _ c.loop-owed.invariant.0 in
+    let rows_long : length c.loop-owed.rows ≡ length c.args.rows.now = head_long (operator_rows 1) _ operators_made ((tree_line (shape_of c.args.h.line.letter c.args.h.line.bounds.now c.args.h.line.sizes.now c.args.h.line.codes.now) c.args.h.rules.now c.args.h.most)) _ _ _ _ _ _ _ _ c.loop-owed.invariant.0 in
     rows_long
 
 pub returns : goal.returns
-returns c = let both = head_done (operator_rows 1) _ operators_made ((tree_line (shape_of c.args.letter c.args.bounds.now c.args.sizes.now c.args.codes.now) c.args.rules.now c.args.most)) _ _ _ _ _ _ _ _ c.loop-owed.invariant.0 (eq-eqb _ _ c.loop-owed-test.false) in record { answer = both.0; left = both.1 }
+returns c = let both = head_done (operator_rows 1) _ operators_made ((tree_line (shape_of c.args.h.line.letter c.args.h.line.bounds.now c.args.h.line.sizes.now c.args.h.line.codes.now) c.args.h.rules.now c.args.h.most)) _ _ _ _ _ _ _ _ c.loop-owed.invariant.0 (eq-eqb _ _ c.loop-owed-test.false) in record { answer = both.0; left = both.1 }

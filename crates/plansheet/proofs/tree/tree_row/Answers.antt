@@ -13,31 +13,31 @@ use Rattle.plansheet.proofs.tree.tree_row.Goals.{then-seen-quick+in_default, els
 
 pub operator_read-r-requires : goal.operator_read-r-requires
 operator_read-r-requires c =
-    let shape : let a = c.args in PlainShape a.letter a.bounds.now a.sizes.now a.codes.now = c.requires.plain_shape.0 (omega (arith, c.if-seen-quick.true)) in
-    let p = shape in (p.other, omega (arith, p.coded.seven), omega (arith, c.if-seen-quick.true, c.requires.in_bounds.3, c.requires.plain_shape))
+    let shape : let a = c.args in PlainShape a.h.line.letter a.h.line.bounds.now a.h.line.sizes.now a.h.line.codes.now = c.requires.plain_shape.0 (omega (arith, c.if-seen-quick.true)) in
+    let p = shape in (p.other, omega (arith, p.coded.seven), omega (arith, c.if-seen-quick.true, c.args.h.few, c.requires.plain_shape))
 
 pub bounds-rows-seen-in-Line : goal.bounds-rows-seen-in-Line
 bounds-rows-seen-in-Line c = simp length-set (omega (arith, c.if-seen-quick.true, c.requires.plain_shape))
 
 pub overflow_add-result : goal.overflow_add-result
 overflow_add-result c =
-    let held : let a = c.args in OperatorHeld a.letter a.s.now a.at a.seen a.codes.now a.rules.now c.in-Line.end c.operator_read-r.new.row = let a = c.args in subst (λ (x : Plain). OperatorRead a.letter a.s.now a.at a.seen a.codes.now a.rules.now x c.operator_read-r.new.row) c.in-Line.is c.operator_read-r.ensures in
+    let held : let a = c.args in OperatorHeld a.h.line.letter a.s.now a.at a.seen a.h.line.codes.now a.h.rules.now c.in-Line.end c.operator_read-r.new.row = let a = c.args in subst (λ (x : Plain). OperatorRead a.h.line.letter a.s.now a.at a.seen a.h.line.codes.now a.h.rules.now x c.operator_read-r.new.row) c.in-Line.is c.operator_read-r.ensures in
     omega (arith, (held).line.line.early)
 
 pub returns-in-Line-clause-answer : goal.returns-in-Line-clause-answer
 returns-in-Line-clause-answer c =
-    let held : let a = c.args in OperatorHeld a.letter a.s.now a.at a.seen a.codes.now a.rules.now c.in-Line.end c.operator_read-r.new.row = let a = c.args in subst (λ (x : Plain). OperatorRead a.letter a.s.now a.at a.seen a.codes.now a.rules.now x c.operator_read-r.new.row) c.in-Line.is c.operator_read-r.ensures in
-    let shape : let a = c.args in PlainShape a.letter a.bounds.now a.sizes.now a.codes.now = c.requires.plain_shape.0 (omega (arith, c.if-seen-quick.true)) in
+    let held : let a = c.args in OperatorHeld a.h.line.letter a.s.now a.at a.seen a.h.line.codes.now a.h.rules.now c.in-Line.end c.operator_read-r.new.row = let a = c.args in subst (λ (x : Plain). OperatorRead a.h.line.letter a.s.now a.at a.seen a.h.line.codes.now a.h.rules.now x c.operator_read-r.new.row) c.in-Line.is c.operator_read-r.ensures in
+    let shape : let a = c.args in PlainShape a.h.line.letter a.h.line.bounds.now a.h.line.sizes.now a.h.line.codes.now = c.requires.plain_shape.0 (omega (arith, c.if-seen-quick.true)) in
     let a = c.args in let d = held in
-    let f : a.seen < a.most = omega (arith, c.if-seen-quick.true, c.requires.plain_shape) in quick_row a.letter a.bounds.now a.sizes.now a.codes.now a.rules.now a.most a.seen a.s.now a.at (shape) c.requires.in_bounds.2 f _ _ d _
+    let f : a.seen < a.h.most = omega (arith, c.if-seen-quick.true, c.requires.plain_shape) in quick_row a.h.line.letter a.h.line.bounds.now a.h.line.sizes.now a.h.line.codes.now a.h.rules.now a.h.most a.seen a.s.now a.at (shape) c.args.h.line.bounded f _ _ d _
     (ap (λ (r : List ℕ). get_or r 10 0) (get_or-set_same a.rows.now a.seen c.operator_read-r.new.row [] (omega (arith, c.if-seen-quick.true, c.requires.plain_shape))))
 
 pub returns-in-Line-clause-stored : goal.returns-in-Line-clause-stored
 returns-in-Line-clause-stored c =
-    let held : let a = c.args in OperatorHeld a.letter a.s.now a.at a.seen a.codes.now a.rules.now c.in-Line.end c.operator_read-r.new.row = let a = c.args in subst (λ (x : Plain). OperatorRead a.letter a.s.now a.at a.seen a.codes.now a.rules.now x c.operator_read-r.new.row) c.in-Line.is c.operator_read-r.ensures in
-    let shape : let a = c.args in PlainShape a.letter a.bounds.now a.sizes.now a.codes.now = c.requires.plain_shape.0 (omega (arith, c.if-seen-quick.true)) in
+    let held : let a = c.args in OperatorHeld a.h.line.letter a.s.now a.at a.seen a.h.line.codes.now a.h.rules.now c.in-Line.end c.operator_read-r.new.row = let a = c.args in subst (λ (x : Plain). OperatorRead a.h.line.letter a.s.now a.at a.seen a.h.line.codes.now a.h.rules.now x c.operator_read-r.new.row) c.in-Line.is c.operator_read-r.ensures in
+    let shape : let a = c.args in PlainShape a.h.line.letter a.h.line.bounds.now a.h.line.sizes.now a.h.line.codes.now = c.requires.plain_shape.0 (omega (arith, c.if-seen-quick.true)) in
     let a = c.args in let d = held in
-    let f : a.seen < a.most = omega (arith, c.if-seen-quick.true, c.requires.plain_shape) in λ z. ap (set a.rows.now a.seen) (quick_held a.letter a.bounds.now a.sizes.now a.codes.now a.rules.now a.most a.seen a.s.now a.at (shape) c.requires.in_bounds.2 f _ _ d)
+    let f : a.seen < a.h.most = omega (arith, c.if-seen-quick.true, c.requires.plain_shape) in λ z. ap (set a.rows.now a.seen) (quick_held a.h.line.letter a.h.line.bounds.now a.h.line.sizes.now a.h.line.codes.now a.h.rules.now a.h.most a.seen a.s.now a.at (shape) c.args.h.line.bounded f _ _ d)
 
 -- what a later row covers is the same, whichever branch was taken
 pub returns-clause-stored : goal.returns-clause-stored

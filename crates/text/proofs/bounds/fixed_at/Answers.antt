@@ -12,19 +12,19 @@ pub returns-in_default-clause-stored : goal.returns-in_default-clause-stored
 returns-in_default-clause-stored c = let r = c.line_at.ensures in r.stored
 
 pub returns-then-count-bounds-clause-answer : goal.returns-then-count-bounds-clause-answer
-returns-then-count-bounds-clause-answer c = let a = c.args in let r = c.line_at.ensures in other_count a.bounds.now a.letter a.s.now a.at _ _ _ _ (sym c.in-Fields.is ∙ r.answer) (λ e. omega arith)
+returns-then-count-bounds-clause-answer c = let a = c.args in let r = c.line_at.ensures in other_count a.bounds.now a.letter a.s.now a.at _ (sym c.in-Some.is ∙ r.answer) (λ e. omega arith)
 
 pub returns-then-count-bounds-clause-stored : goal.returns-then-count-bounds-clause-stored
 returns-then-count-bounds-clause-stored c = let r = c.line_at.ensures in r.stored
 
 pub returns-then-not-rows_fit-clause-answer : goal.returns-then-not-rows_fit-clause-answer
-returns-then-not-rows_fit-clause-answer c = let a = c.args in let r = c.line_at.ensures in unfit a.bounds.now a.letter a.s.now a.at _ _ _ _ (sym c.in-Fields.is ∙ r.answer) _ _ r.stored (omega arith) _ c.rows_fit.ensures c.if-not-rows_fit.true
+returns-then-not-rows_fit-clause-answer c = let a = c.args in let r = c.line_at.ensures in unfit a.bounds.now a.letter a.s.now a.at _ (sym c.in-Some.is ∙ r.answer) _ _ r.stored (omega arith) _ c.rows_fit.ensures c.if-not-rows_fit.true
 
 pub returns-then-not-rows_fit-clause-stored : goal.returns-then-not-rows_fit-clause-stored
 returns-then-not-rows_fit-clause-stored c = let r = c.line_at.ensures in r.stored
 
 pub returns-clause-answer : goal.returns-clause-answer
-returns-clause-answer c = let a = c.args in let r = c.line_at.ensures in fit a.bounds.now a.letter a.s.now a.at _ _ _ _ (sym c.in-Fields.is ∙ r.answer) _ _ r.stored (omega arith) _ c.rows_fit.ensures c.if-not-rows_fit.false
+returns-clause-answer c = let a = c.args in let r = c.line_at.ensures in fit a.bounds.now a.letter a.s.now a.at _ (sym c.in-Some.is ∙ r.answer) _ _ r.stored (omega arith) _ c.rows_fit.ensures c.if-not-rows_fit.false
 
 pub returns-clause-stored : goal.returns-clause-stored
 returns-clause-stored c = let r = c.line_at.ensures in r.stored

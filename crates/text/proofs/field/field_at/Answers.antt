@@ -8,25 +8,25 @@ returns-then-s-at c = begin_end c.args.s.now c.args.at (omega arith) _ c.empty_t
 
 pub returns-then-b-eq44 : goal.returns-then-b-eq44
 returns-then-b-eq44 c =
-    let lead : Lead c.args.s.now c.args.at c.widened-b.result = record { inside = omega arith; is = c.widened-b.ensures } in
+    let lead : Lead c.args.s.now c.args.at c.from-b.result = record { inside = omega arith; is = c.from-b.ensures } in
     lead_comma (lead) (omega arith) _ c.empty_to-then-b-eq44.ensures
 
 pub returns-then-b-eq10 : goal.returns-then-b-eq10
 returns-then-b-eq10 c =
-    let lead : Lead c.args.s.now c.args.at c.widened-b.result = record { inside = omega arith; is = c.widened-b.ensures } in
+    let lead : Lead c.args.s.now c.args.at c.from-b.result = record { inside = omega arith; is = c.from-b.ensures } in
     lead_lf (lead) (omega arith) _ c.empty_to-then-b-eq10.ensures
 
 pub returns-then-b-lt48 : goal.returns-then-b-lt48
 returns-then-b-lt48 c =
-    let lead : Lead c.args.s.now c.args.at c.widened-b.result = record { inside = omega arith; is = c.widened-b.ensures } in
+    let lead : Lead c.args.s.now c.args.at c.from-b.result = record { inside = omega arith; is = c.from-b.ensures } in
     lead_low (lead) (λ e. omega arith) (λ e. omega arith) (omega arith) _ c.malformed_at.ensures
 
 pub returns-then-b-gt57 : goal.returns-then-b-gt57
 returns-then-b-gt57 c =
-    let lead : Lead c.args.s.now c.args.at c.widened-b.result = record { inside = omega arith; is = c.widened-b.ensures } in
+    let lead : Lead c.args.s.now c.args.at c.from-b.result = record { inside = omega arith; is = c.from-b.ensures } in
     lead_high (lead) (omega arith) _ c.malformed_at-then-b-gt57.ensures
 
 pub returns : goal.returns
 returns c =
-    let lead : Lead c.args.s.now c.args.at c.widened-b.result = record { inside = omega arith; is = c.widened-b.ensures } in
+    let lead : Lead c.args.s.now c.args.at c.from-b.result = record { inside = omega arith; is = c.from-b.ensures } in
     lead_digit (lead) (omega arith) (omega arith) _ _ (omega arith) c.more_digits.ensures

@@ -1,0 +1,43 @@
+// The numbers and lists of an I sheet that a decision reads.
+ghost use Rattle.std.specs.Prelude.{◌≡◌, ◌≤◌, length};
+
+// H or N: a mark and the keys after it, with the rewriting that they are tried under.
+#[derive(Clone, Copy)]
+pub struct Input<'a> {
+    pub list: &'a [u64],
+    pub rewriting: &'a [[u64; 2]],
+    ghost few: { length list.now ≤ 33 },
+}
+
+#[derive(Clone, Copy)]
+pub struct Inputs<'a> {
+    pub op: u64,
+    pub mode: u64,
+    pub left: &'a [u64],
+    pub right: &'a [u64],
+    pub left_input: Input<'a>,
+    pub right_input: Input<'a>,
+    ghost few: { length left.now ≤ 32 },
+    ghost even: { length right.now ≡ length left.now },
+}
+
+impl<'a> Input<'a> {
+    ghost use Rattle.keys.specs.Kept.{hashed};
+    ghost use Rattle.keys.specs.InputValues.{input_of, PartOf, mark_length};
+
+    pub fn is_hashed(self) -> bool
+        ensures { result ≡ hashed (input_of self.entry.list.now) }
+    {
+        matches!(self.list, [1, ..])
+    }
+
+    // The list without its mark.
+    pub fn keys(self) -> &'a [u64]
+        ensures { PartOf self.entry.list (mark_length self.entry.list.now) (length self.entry.list.now) result }
+    {
+        if self.list.is_empty() {
+            return self.list;
+        }
+        &self.list[1..]
+    }
+}

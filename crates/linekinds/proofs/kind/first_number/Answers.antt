@@ -1,9 +1,0 @@
--- `linekinds::kind::first_number` meets its contract. By whether the first is 0.
-use borrow.Author.Tests.{eq-eqb, ne_eqb}
-use Rattle.linekinds.proofs.kind.first_number.Goals as goal
-
-pub returns-then-first-ne0 : goal.returns-then-first-ne0
-returns-then-first-ne0 c = rw (ne_eqb c.args.first 0 c.if-first-ne0.true)
-
-pub returns : goal.returns
-returns c = rw (eq-eqb c.args.first 0 c.if-first-ne0.false)

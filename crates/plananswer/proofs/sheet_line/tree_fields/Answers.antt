@@ -1,7 +1,0 @@
--- `tree_fields` meets its contract: the limit's field goes by its mark.
-use lib.ListN.{get_or}
-use Rattle.plananswer.proofs.RowLines.{limit_same}
-use Rattle.plananswer.proofs.sheet_line.tree_fields.Goals as goal
-
-pub returns : goal.returns
-returns c = rw (c.limit_state-state.ensures (get_or c.args.x 5 0), limit_same (get_or c.args.x 4 0) (get_or c.args.x 5 0))
