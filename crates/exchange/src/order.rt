@@ -4,7 +4,7 @@ ghost use Rattle.exchange.specs.Settings.{is_set};
 ghost use Rattle.exchange.specs.Order.{kept_entries};
 ghost use Rattle.exchange.specs.Handling.{enables_streaming, required_replaced, sorted_entries, free_replaced, streams as streams_by, required_handling, free_handling, handling_of};
 
-use crate::kind;
+use crate::{kind, need};
 
 // Whether order-preserving operators give way, the entries of the sort above (0: none), and whether the child's mark is cleared.
 #[derive(Clone, Copy)]
@@ -63,7 +63,7 @@ fn add_sort_above_with_check(
 fn free_replaced(need: u64, maintains: bool, streaming: bool, output: bool) -> bool
     ensures { result ≡ free_replaced need maintains streaming output }
 {
-    if need == 1 || need == 2 {
+    if need == need::SINGLE || need == need::KEYED {
         return !maintains && !streaming;
     }
     !maintains || output
