@@ -48,6 +48,7 @@ fn rewrite_one(w: &[[u64; 2]], x: u64) -> u64
     x
 }
 
+// Fills a room as `permute` does: over a closure the promise would be index by index, no plainer than the two lines.
 fn rewrite_keys(w: &[[u64; 2]], keys: &[u64], out: &mut [u64; 32])
     requires { length keys.now ≤ 32 }
     ensures { take (length keys.now) out.new ≡ rewrite eqb (number_rules w.now) keys.now }
