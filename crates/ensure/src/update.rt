@@ -5,14 +5,14 @@ ghost use Rattle.exchange.specs.Runs.{Stands, Becomes, BecomeAll, Says, SaysAll,
 ghost use Rattle.exchange.specs.Children.{any_unspecified, update_each, update_children};
 ghost use Rattle.exchange.specs.Update.{is_unspecified, marks_below, marks_child};
 
-use exchange::kind;
 use exchange::row::{self, Node, Row};
+use exchange::{kind, need};
 
 // Whether an operator is tracked and nothing is required of it.
 fn unspecified(n: Node) -> bool
     ensures { result ≡ is_unspecified (operator_of n) }
 {
-    n.tracked == 1 && n.need == 0
+    n.tracked == 1 && n.need == need::UNSPECIFIED
 }
 
 // Whether any of the `left` trees from `at` on is tracked, with nothing required of it.

@@ -52,23 +52,3 @@ module _ (rows : List (List ℕ)) (child : ℕ) (f : Form) where
 
   pub row_some : (p : ℕ) → some p ≡ row_for rows child (form_number f) → row_of (map fact_row rows) child f ≡ some (fact_row (get_or rows p []))
   row_some p e = row_found rows child f ∙ ap (row_at rows) (sym e)
-
--- ---- children by their numbers, from place i on
-
-module _ (needs counts : List ℕ) (facts : List (List ℕ)) (same : length counts ≡ length needs) (also : length facts ≡ length needs) (i : ℕ) where
-  abbrev pub asked_left : List Asked
-  asked_left = asked_by (i + 1) (drop i needs) (drop i counts) (drop i facts)
-
-  pub asked_turn : i < length needs
-      → asked_left
-      ≡ record { number = i + 1; need = get_or needs i 0; count = get_or counts i 0; facts = get_or facts i [] }
-      ∷ asked_by (i + 1 + 1) (drop (i + 1) needs) (drop (i + 1) counts) (drop (i + 1) facts)
-  unfolding asked_by
-  asked_turn h =
-      let b : i < length counts = omega arith in
-      let d : i < length facts = omega arith in
-      rw (drop-cons needs i 0 h, drop-cons counts i 0 b, drop-cons facts i [] d, add-one (i + 1), add-one i)
-
-  pub asked_end : length needs ≤ i → asked_left ≡ []
-  unfolding asked_by
-  asked_end h = rw (drop_of_length-le needs {i = i} h)

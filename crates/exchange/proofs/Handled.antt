@@ -16,55 +16,7 @@ use Rattle.exchange.specs.Operators.{track_root}
 use Rattle.exchange.specs.States.{ChildState}
 use Rattle.exchange.specs.Replace.{replace_order_preserving_variants}
 use Rattle.exchange.specs.Order.{kept_entries, add_sort_above, output_fetch, handle_order}
-use Rattle.exchange.specs.Handling.{required_replaced, sorted_entries, known_of, required_handling, free_handling, handling_of, given_up, sorted_by, handled_by}
-
-module _ (met desirable streaming tracked : Bool) where
-  pub streams : streaming ≡ true → false ≡ required_replaced met desirable streaming tracked
-  streams e = rw e (go met desirable)
-    where
-      go : (a b : Bool) → false ≡ required_replaced a b true tracked
-      go true true = refl
-      go true false = refl
-      go false b = refl
-
-  pub untracked : tracked ≡ false → false ≡ required_replaced met desirable streaming tracked
-  untracked e = rw e (go met desirable streaming)
-    where
-      go : (a b c : Bool) → false ≡ required_replaced a b c false
-      go true true c = refl
-      go true false true = refl
-      go true false false = refl
-      go false b true = refl
-      go false b false = refl
-
-  module _ (a : streaming ≡ false) (b : tracked ≡ true) where
-    pub unmet : met ≡ false → true ≡ required_replaced met desirable streaming tracked
-    unmet e = rw (a, b, e)
-
-    pub by_desire : met ≡ true → not desirable ≡ required_replaced met desirable streaming tracked
-    by_desire e = rw (a, b, e) (go desirable)
-      where
-        go : (d : Bool) → not d ≡ required_replaced true d false true
-        go true = refl
-        go false = refl
-
-module _ (replaced met aftermet : Bool) (entries constants : ℕ) where
-  abbrev M : ℕ
-  M = sorted_entries replaced met aftermet entries constants
-
-  pub sorted_kept : replaced ≡ false → 0 ≡ M
-  sorted_kept e = rw e
-
-  module _ (a : replaced ≡ true) where
-    pub sorted_unmet : met ≡ false → 0 ≡ M
-    sorted_unmet e = rw (a, e)
-
-    module _ (b : met ≡ true) where
-      pub sorted_met : aftermet ≡ true → 0 ≡ M
-      sorted_met e = rw (a, b, e)
-
-      pub sorted_by_lem : aftermet ≡ false → kept_entries entries constants ≡ M
-      sorted_by_lem e = rw (a, b, e)
+use Rattle.exchange.specs.Handling.{known_of, required_handling, free_handling, handling_of, given_up, sorted_by, handled_by}
 
 -- ---- kept entries
 

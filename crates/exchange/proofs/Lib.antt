@@ -26,7 +26,6 @@ pub mod LimitsOfAnswers
 pub mod Beneath
 pub mod Tests
 pub mod FactRows
-pub mod NewOperators
 pub mod BuiltRows
 pub mod Headed
 pub mod ExampleOrders

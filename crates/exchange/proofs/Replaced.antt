@@ -43,20 +43,6 @@ put_two d d₁ d₂ h to k m n o p e a b s t =
     let lower : d₂ ≡ set d₁ (to + 1) (row_of p k) = t ∙ ap (λ (x : Node). set d₁ (to + 1) (packed x k)) b ∙ ap (λ (r : List ℕ). set d₁ (to + 1) r) (row_packed p k) in
     rw e (omega arith, then d d₁ d₂ to (to + 1) (row_of o 1 ∷ []) (row_of p k ∷ []) refl upper lower)
 
--- an operator that may be an exchange
-module _ (n : Node) (legal : node_of (operator_of n) ≡ n) where
-  pub relaxed_not : exchanges n.kind ≡ false → n ≡ node_of (relaxed_or (operator_of n))
-  relaxed_not e = rw e (sym legal)
-
-  pub relaxed_loose : exchanges n.kind ≡ true → (n.keeps ≡ 1 → ⊥) → n ≡ node_of (relaxed_or (operator_of n))
-  relaxed_loose e h = rw (e, ne_eqb _ _ h) (sym legal)
-
-  pub relaxed_kept : exchanges n.kind ≡ true → n.keeps ≡ 1
-      → record { id = n.id; kind = n.kind; count = n.count; keeps = 0; limited = n.limited; limit = n.limit; order = 0; mask = n.mask; tracked = n.tracked; need = n.need }
-      ≡ node_of (relaxed_or (operator_of n))
-  relaxed_kept e h =
-      rw (e, eq-eqb _ _ h) (λ i. record { id = n.id; kind = n.kind; count = n.count; keeps = 0; limited = ap (λ (m : Node). m.limited) (sym legal) i; limit = ap (λ (m : Node). m.limit) (sym legal) i; order = 0; mask = n.mask; tracked = n.tracked; need = n.need })
-
 heads_long : (o : Operator) (k : ℕ) → length (heads o k) ≤ 2
 heads_long o k = go (is_sort_preserving_merge o) (has_limit o)
   where

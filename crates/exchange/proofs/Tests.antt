@@ -19,9 +19,6 @@ besides a b r e f = rw e f
 pub chosen : {A : Type 0} (a : Bool) (x y r : A) → a ≡ true → r ≡ x → r ≡ cond a x y
 chosen a x y r e f = rw e f
 
-pub otherwise : {A : Type 0} (a : Bool) (x y r : A) → a ≡ false → r ≡ y → r ≡ cond a x y
-otherwise a x y r e f = rw e f
-
 -- what a call answered, and `!` before it
 pub refused : (r a : Bool) → r ≡ a → not r ≡ true → a ≡ false
 refused r a e h = sym e ∙ not-true r h

@@ -61,19 +61,14 @@ pub enum Fact {
 }
 
 // The index's place for a child and a form.
+#[tactic(auto, unfolding(crate::specs::Found::slot))]
 fn slot(child: u64, form: u64) -> usize
     ensures { result ≡ slot_at child form }
 {
-    if child < 1 {
-        return NOWHERE;
+    if 1 <= child && child <= 8 && form <= 15 {
+        return ((child - 1) * 16 + form) as usize;
     }
-    if 8 < child {
-        return NOWHERE;
-    }
-    if 15 < form {
-        return NOWHERE;
-    }
-    ((child - 1) * 16 + form) as usize
+    NOWHERE
 }
 
 // The index of the rows, filled from the last of them to the first, so that the first of a child and form counts.

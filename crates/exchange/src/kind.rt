@@ -36,14 +36,5 @@ pub const INTERLEAVE: u64 = 14;
 pub fn exchanges(kind: u64) -> bool
     ensures { result ≡ exchange_kind kind }
 {
-    if kind == REPARTITION {
-        return true;
-    }
-    if kind == REPARTITION_UNKNOWN {
-        return true;
-    }
-    if kind == KEYED {
-        return true;
-    }
-    kind == ROUND_ROBIN
+    kind == REPARTITION || kind == REPARTITION_UNKNOWN || kind == KEYED || kind == ROUND_ROBIN
 }

@@ -2,7 +2,7 @@
 ghost use Rattle.std.specs.Prelude.{◌≡◌, cond, ◌&&◌, ltb};
 ghost use Rattle.exchange.specs.Ensure.{interleaved as interleaved_of};
 ghost use Rattle.exchange.specs.FactRows.{fact_row};
-ghost use Rattle.exchange.specs.NewRows.{new_of, LimitFor};
+ghost use Rattle.exchange.specs.NewRows.{new_of, limit_for};
 ghost use Rattle.exchange.specs.Operators.{has_order, mark as mark_of, track as track_to, new_operator, new_merge, new_exchange, required_sort};
 ghost use Rattle.exchange.specs.Rows.{node_of, operator_of};
 ghost use Rattle.exchange.specs.Step.{split_operator};
@@ -12,24 +12,32 @@ use crate::kind;
 use crate::row::Node;
 
 // New merges and exchanges are tracked.
-const NEW_MARK: u64 = 1;
+pub const NEW_MARK: u64 = 1;
 
-// What is said of a new operator. An absent limit has `limited` 0.
+// What is said of a new operator.
 #[derive(Clone, Copy)]
 pub struct New {
     pub kind: u64,
     pub count: u64,
     pub keeps: u64,
-    pub limited: u64,
-    pub limit: u64,
+    pub limit: Option<u64>,
     pub order: u64,
     pub mask: u64,
     pub tracked: u64,
 }
 
-// Every new operator: id 0, and the need of what it stands on.
+// The limit of a node.
+pub fn limit_of(n: Node) -> Option<u64>
+    ensures { result ≡ limit_for n }
+{
+    if n.limited == 0 {
+        return None;
+    }
+    Some(n.limit)
+}
+
+// Every new operator: id 0, and the need of what it stands on. An absent limit has mark 0 and number 0.
 pub fn new_operator(n: New, under: Node) -> Node
-    requires { LimitFor n }
     ensures { result ≡ node_of (new_operator (new_of n) (operator_of under)) }
 {
     Node {
@@ -37,8 +45,8 @@ pub fn new_operator(n: New, under: Node) -> Node
         kind: n.kind,
         count: n.count,
         keeps: n.keeps,
-        limited: n.limited,
-        limit: n.limit,
+        limited: u64::from(n.limit.is_some()),
+        limit: n.limit.unwrap_or(0),
         order: n.order,
         mask: n.mask,
         tracked: n.tracked,
@@ -63,8 +71,7 @@ pub fn new_merge(x: FactRow, under: Node) -> Node
         kind: merge_kind(under),
         count: x[COUNT],
         keeps: 0,
-        limited: 0,
-        limit: 0,
+        limit: None,
         order: x[ORDER],
         mask: 0,
         tracked: NEW_MARK,
@@ -76,38 +83,22 @@ pub fn new_merge(x: FactRow, under: Node) -> Node
 fn keeps_order(under: Node) -> u64
     ensures { result ≡ mark_of (has_order (operator_of under) && ltb 1 under.count) }
 {
-    if under.order == 0 {
-        return 0;
-    }
-    if 1 < under.count {
-        return 1;
-    }
-    0
+    u64::from(under.order != 0 && 1 < under.count)
 }
 
 pub fn new_exchange(kind: u64, x: FactRow, under: Node) -> Node
     ensures { result ≡ node_of (new_exchange kind (fact_row x) (operator_of under)) }
 {
     let n = New {
-        kind: kind,
+        kind,
         count: x[COUNT],
         keeps: keeps_order(under),
-        limited: 0,
-        limit: 0,
+        limit: None,
         order: x[ORDER],
         mask: 0,
         tracked: NEW_MARK,
     };
     new_operator(n, under)
-}
-
-fn at_least_one(count: u64) -> u64
-    ensures { result ≡ cond (ltb 1 count) count 1 }
-{
-    if 1 < count {
-        return count;
-    }
-    1
 }
 
 // A sort by the entries that were kept, with the limit of `limiting`.
@@ -117,10 +108,9 @@ pub fn required_sort(limiting: Node, entries: u64, under: Node) -> Node
 {
     let n = New {
         kind: kind::SORT,
-        count: at_least_one(under.count),
+        count: under.count.max(1),
         keeps: 0,
-        limited: limiting.limited,
-        limit: limiting.limit,
+        limit: limit_of(limiting),
         order: 0,
         mask: entries,
         tracked: 0,
@@ -134,16 +124,9 @@ pub fn split_operator(x: FactRow, n: Node) -> Node
     ensures { result ≡ node_of (split_operator (fact_row x) (operator_of n)) }
 {
     Node {
-        id: n.id,
-        kind: n.kind,
         count: x[COUNT],
-        keeps: n.keeps,
-        limited: n.limited,
-        limit: n.limit,
         order: x[ORDER],
-        mask: n.mask,
-        tracked: n.tracked,
-        need: n.need,
+        ..n
     }
 }
 
@@ -152,18 +135,7 @@ pub fn track(m: u64, n: Node) -> Node
     requires { node_of (operator_of n) ≡ n }
     ensures { result ≡ node_of (track_to m (operator_of n)) }
 {
-    Node {
-        id: n.id,
-        kind: n.kind,
-        count: n.count,
-        keeps: n.keeps,
-        limited: n.limited,
-        limit: n.limit,
-        order: n.order,
-        mask: n.mask,
-        tracked: m,
-        need: n.need,
-    }
+    Node { tracked: m, ..n }
 }
 
 // A union dealt in turn: its order is lost.
@@ -172,15 +144,8 @@ pub fn interleaved(n: Node) -> Node
     ensures { result ≡ node_of (interleaved_of (operator_of n)) }
 {
     Node {
-        id: n.id,
         kind: kind::INTERLEAVE,
-        count: n.count,
-        keeps: n.keeps,
-        limited: n.limited,
-        limit: n.limit,
         order: 0,
-        mask: n.mask,
-        tracked: n.tracked,
-        need: n.need,
+        ..n
     }
 }

@@ -1,8 +1,10 @@
 // The order handling of a child, by what is known of it.
-ghost use Rattle.std.specs.Prelude.{◌≡◌, not, ◌&&◌, ◌||◌, ◌≤◌};
+ghost use Rattle.std.specs.Prelude.{◌≡◌, ◌||◌, ◌≤◌};
 ghost use Rattle.exchange.specs.Settings.{is_set};
 ghost use Rattle.exchange.specs.Order.{kept_entries};
 ghost use Rattle.exchange.specs.Handling.{enables_streaming, required_replaced, sorted_entries, free_replaced, streams as streams_by, required_handling, free_handling, handling_of};
+
+use crate::{kind, need};
 
 // Whether order-preserving operators give way, the entries of the sort above (0: none), and whether the child's mark is cleared.
 #[derive(Clone, Copy)]
@@ -31,31 +33,13 @@ fn kept_entries(n: u64, constants: u64) -> u64
 fn preserving_order_enables_streaming(children: u64, maintains: u64, ford: u64, fplain: u64) -> bool
     ensures { result ≡ enables_streaming children maintains ford fplain }
 {
-    if children != 1 {
-        return false;
-    }
-    if maintains != 1 {
-        return false;
-    }
-    if ford == 1 {
-        return false;
-    }
-    fplain == 1
+    children == 1 && maintains == 1 && ford != 1 && fplain == 1
 }
 
 fn required_replaced(met: bool, desirable: bool, streaming: bool, tracked: bool) -> bool
     ensures { result ≡ required_replaced met desirable streaming tracked }
 {
-    if streaming {
-        return false;
-    }
-    if !tracked {
-        return false;
-    }
-    if !met {
-        return true;
-    }
-    !desirable
+    (!met || !desirable) && !streaming && tracked
 }
 
 // The entries of the sort that restores a held order where it was given up; none where the order still holds.
@@ -69,41 +53,20 @@ fn add_sort_above_with_check(
     requires { entries ≤ 8 }
     ensures { result ≡ sorted_entries replaced met aftermet entries constants }
 {
-    if !replaced {
-        return 0;
+    if replaced && met && !aftermet {
+        return kept_entries(entries, constants);
     }
-    if !met {
-        return 0;
-    }
-    if aftermet {
-        return 0;
-    }
-    kept_entries(entries, constants)
-}
-
-fn neither(a: bool, b: bool) -> bool
-    ensures { result ≡ (not a && not b) }
-{
-    if a {
-        return false;
-    }
-    !b
+    0
 }
 
 // No order is required: by the need, single or keyed, or unspecified.
 fn free_replaced(need: u64, maintains: bool, streaming: bool, output: bool) -> bool
     ensures { result ≡ free_replaced need maintains streaming output }
 {
-    if need == 1 {
-        return neither(maintains, streaming);
+    if need == need::SINGLE || need == need::KEYED {
+        return !maintains && !streaming;
     }
-    if need == 2 {
-        return neither(maintains, streaming);
-    }
-    if !maintains {
-        return true;
-    }
-    output
+    !maintains || output
 }
 
 // What is known of a child, and of the worked node over it.
@@ -128,20 +91,14 @@ pub struct Known {
 fn streams(k: Known) -> bool
     ensures { result ≡ streams_by k }
 {
-    if k.tracked != 1 {
-        return false;
-    }
-    preserving_order_enables_streaming(k.children, k.maintains, k.ford, k.fplain)
+    k.tracked == 1 && preserving_order_enables_streaming(k.children, k.maintains, k.ford, k.fplain)
 }
 
 // Either of the two marks is set.
 fn desirable(friendly: u64, sort: u64) -> bool
     ensures { result ≡ (is_set friendly || is_set sort) }
 {
-    if friendly == 1 {
-        return true;
-    }
-    sort == 1
+    friendly == 1 || sort == 1
 }
 
 fn order_required(k: Known) -> Handling
@@ -157,8 +114,8 @@ fn order_required(k: Known) -> Handling
     );
     let entries = add_sort_above_with_check(replaced, met, k.aftermet == 1, k.entries, k.constants);
     Handling {
-        replaced: replaced,
-        entries: entries,
+        replaced,
+        entries,
         cleared: true,
     }
 }
@@ -166,15 +123,21 @@ fn order_required(k: Known) -> Handling
 fn order_not_required(k: Known) -> Handling
     ensures { result ≡ free_handling k }
 {
-    let replaced = free_replaced(k.need, k.maintains == 1, streams(k), k.kind == 10);
+    let replaced = free_replaced(
+        k.need,
+        k.maintains == 1,
+        streams(k),
+        k.kind == kind::OUTPUT_REQUIREMENT,
+    );
     Handling {
-        replaced: replaced,
+        replaced,
         entries: 0,
         cleared: false,
     }
 }
 
 // The order handling of a child: whether an order is required of it decides.
+#[tactic(auto, unfolding(crate::specs::Handling::handling_of))]
 pub fn handle_order(k: Known) -> Handling
     requires { k.entries ≤ 8 }
     ensures { result ≡ handling_of k }

@@ -15,16 +15,11 @@ pub fn coalesced(n: Node) -> Node
     ensures { result ≡ node_of (coalesced_of (operator_of n)) }
 {
     Node {
-        id: n.id,
         kind: kind::COALESCE,
-        count: n.count,
-        keeps: n.keeps,
         limited: 0,
         limit: 0,
         order: 0,
-        mask: n.mask,
-        tracked: n.tracked,
-        need: n.need,
+        ..n
     }
 }
 
@@ -37,8 +32,7 @@ pub fn sorted(merge: Node) -> Node
         kind: kind::SORT,
         count: merge.count,
         keeps: 0,
-        limited: merge.limited,
-        limit: merge.limit,
+        limit: operator::limit_of(merge),
         order: merge.order,
         mask: 0,
         tracked: 0,
@@ -51,22 +45,12 @@ pub fn relaxed(n: Node) -> Node
     requires { node_of (operator_of n) ≡ n }
     ensures { result ≡ node_of (relaxed_or (operator_of n)) }
 {
-    if kind::exchanges(n.kind) {
-        if n.keeps == 1 {
-            return Node {
-                id: n.id,
-                kind: n.kind,
-                count: n.count,
-                keeps: 0,
-                limited: n.limited,
-                limit: n.limit,
-                order: 0,
-                mask: n.mask,
-                tracked: n.tracked,
-                need: n.need,
-            };
-        }
-        return n;
+    if kind::exchanges(n.kind) && n.keeps == 1 {
+        return Node {
+            keeps: 0,
+            order: 0,
+            ..n
+        };
     }
     n
 }
@@ -110,7 +94,7 @@ fn replace_children(src: &[Row], at: usize, left: u64, dst: &mut [Row], to: usiz
     ensures { MapsAll replace_tracked src.now at left dst.old to dst.new result }
 {
     if left == 0 {
-        return Step { at: at, to: to };
+        return Step { at, to };
     }
     if src[at][row::TRACKED] != 1 {
         let s = row::copy_tree(src, at, dst, to);

@@ -29,9 +29,10 @@ pub const CHILDREN: usize = 10;
 
 pub const WIDTH: usize = 11;
 
+// Kinds, marks and needs stay numbers: rows are lent by C and hold any bits.
 pub type Row = [u64; WIDTH];
 
-// An operator. An absent limit has `limited` 0 and `limit` 0.
+// An operator. An absent limit has `limited` 0 and `limit` 0. Kinds, marks and needs stay numbers: nodes are lent by C and hold any bits.
 #[repr(C)]
 #[derive(Clone, Copy)]
 pub struct Node {
@@ -109,7 +110,7 @@ pub fn set_mark(rows: &mut [Row], at: usize, m: u64)
     rows[at][TRACKED] = m;
 }
 
-// The place past the tree at `at`.
+// The place past the tree at `at`. The rows of a preorder say how many are still to come, so no item form serves.
 pub fn past_tree(rows: &[Row], at: usize) -> usize
     requires { Stands rows.now at }
     ensures { (t : Plan) (rest : List (List ℕ)) → drop at rows.now ≡ flatten t ++ rest → result ≡ at + length (flatten t) }
@@ -123,7 +124,7 @@ pub fn past_tree(rows: &[Row], at: usize) -> usize
     a
 }
 
-// The `count` trees from `at` on, as they stand.
+// The `count` trees from `at` on, as they stand. The rows of a preorder say how many are still to come, so no item form serves.
 pub fn copy_trees(src: &[Row], at: usize, count: u64, dst: &mut [Row], to: usize) -> Step
     requires { Readys (λ ts. ts) src.now at count (length dst.old) to }
     ensures { MapsAll (λ ts. ts) src.now at count dst.old to dst.new result }

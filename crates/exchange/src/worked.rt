@@ -13,13 +13,7 @@ use crate::row::{self, Node, Row};
 fn removable(n: Node) -> bool
     ensures { result ≡ is_removed (operator_of n) }
 {
-    if n.limited != 0 {
-        return false;
-    }
-    if n.kind < kind::MERGE {
-        return false;
-    }
-    n.kind <= kind::REPARTITION_UNKNOWN
+    n.limited == 0 && kind::MERGE <= n.kind && n.kind <= kind::REPARTITION_UNKNOWN
 }
 
 // Whether the operator at `at` is taken off, so that its child comes next.
@@ -27,13 +21,10 @@ fn taken_off(rows: &[Row], at: usize) -> bool
     requires { at < length rows.now }
     ensures { result ≡ (not (eqb (children_at rows.now at) 0) && is_removed (operator_of (node_at rows.now at))) }
 {
-    if row::children_at(rows, at) == 0 {
-        return false;
-    }
-    removable(row::node_at(rows, at))
+    row::children_at(rows, at) != 0 && removable(row::node_at(rows, at))
 }
 
-// The place of the worked node of the tree at `at`.
+// The place of the worked node of the tree at `at`. How far down it stands is known only on the way, so the loop stays a `while`.
 pub fn remove_dist_changing_operators(rows: &[Row], at: usize) -> usize
     requires { Stands rows.now at }
     ensures { (t : Plan) (rest : List (List ℕ)) → drop at rows.now ≡ flatten t ++ rest → result ≡ at + length (removed t) }

@@ -11,6 +11,7 @@ ghost use Rattle.exchange.specs.Turns.{row_already, turn_givable, turn_form, any
 use crate::step::pass;
 use exchange::fact::{ATHASH, ChildForm, EXACT, Fact, FactRows};
 use exchange::form::{form_of, relationship_of, split_of, top_of};
+use exchange::need;
 use exchange::relationship::{Turn, Unenforced};
 use exchange::status::Asked;
 
@@ -52,7 +53,10 @@ fn is_givable(x: Turn, xs: FactRows) -> bool
         child: x.number,
         form: x.form,
     };
-    x.bit == 1 && relationship_of(x.form) != 1 && x.need == 2 && !already_target_hash(xs, at)
+    x.bit == 1
+        && relationship_of(x.form) != 1
+        && x.need == need::KEYED
+        && !already_target_hash(xs, at)
 }
 
 // The child's form after its turn.
@@ -115,7 +119,7 @@ fn round(mask: u64, asks: &[Asked], forms: &mut [u64], xs: FactRows) -> Option<(
     Some(())
 }
 
-// The set of children that were given one, as its own mask.
+// The set of children that were given one, as its own mask. From the last to the first, so that each bit is proved to fit.
 fn given_set(forms: &[u64]) -> u64
     requires { (length forms.now ≤ 8) × ((k : ℕ) → k < length forms.now → get_or forms.now k 0 ≤ 15) }
     ensures { result ≡ set_of forms.now }

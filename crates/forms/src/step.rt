@@ -15,6 +15,7 @@ use exchange::fact::{COUNT, ChildForm, Fact, FactRows};
 use exchange::form::{
     PLAIN, SPLIT, TOP_KEYED, TOP_MERGE, TOP_ROUND_ROBIN, form_of, relationship_of, split_of,
 };
+use exchange::need;
 use exchange::partitioning::{Standing, Worked};
 use exchange::settings::Settings;
 use exchange::status::{Asked, SPLITS};
@@ -81,14 +82,13 @@ fn satisfy_distribution(
 ) -> Option<u64>
     ensures { result ≡ formed (satisfy_distribution s (worked_for w) (node_for w) (map fact_row xs.entry.rows.now) (status_of s aligned (child_for a)) (state_for a c)) }
 {
-    if a.need == 1 {
+    if a.need == need::SINGLE {
         return add_merge_on_top(a, c, xs);
     }
-    if a.need != 2 {
+    if a.need != need::KEYED {
         return satisfy_unspecified(s, w, a, c, xs);
     }
-    let facts = a.facts;
-    let t = get_repartition_requirement_status(s, aligned, a.need, a.count, facts);
+    let t = get_repartition_requirement_status(s, aligned, a.need, a.count, a.facts);
     if !t.necessary {
         return Some(c.at.form);
     }
@@ -110,13 +110,7 @@ fn satisfy_unspecified(s: Settings, w: Worked, a: Asked, c: Standing, xs: FactRo
 fn splits_at_source(s: Settings, a: Asked) -> bool
     ensures { result ≡ (is_set s.split && (rows_gain s (child_facts a.facts) && is_set (child_facts a.facts).splits)) }
 {
-    if s.split != 1 {
-        return false;
-    }
-    if !rows_gain(s, a) {
-        return false;
-    }
-    a.facts[SPLITS] == 1
+    s.split == 1 && rows_gain(s, a) && a.facts[SPLITS] == 1
 }
 
 // A child that is split at its source, from there on.

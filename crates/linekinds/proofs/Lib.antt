@@ -1,5 +1,4 @@
 pub mod Defined
-pub mod Judges
 pub mod LineNumbers
 pub mod ReadLines
 pub mod Packing

@@ -10,11 +10,11 @@ fn pack_exprs(rows: &[[u64; 2]], from: usize, out: &mut [u64; 64]) -> usize
     ensures { (length out.new ≡ 64) × (result ≤ 64) × (take result out.new ≡ take from out.old ++ packs (drop from (row_values rows.now))) }
 {
     let mut n = from;
-    let mut i = from;
-    while rows.len() - i >= 3 {
-        out[n] = keys::expr::pack(rows[i][1], rows[i + 1][1], rows[i + 2][1]);
+    let mut rest = &rows[from..];
+    while let [kind, name, index, later @ ..] = rest {
+        out[n] = keys::expr::pack(kind[1], name[1], index[1]);
         n += 1;
-        i += 3;
+        rest = later;
     }
     n
 }
@@ -23,12 +23,10 @@ fn copy_numbers(rows: &[[u64; 2]], out: &mut [u64; 64]) -> usize
     requires { (length rows.now ≤ 64) × (length out.old ≡ 64) }
     ensures { (length out.new ≡ 64) × (result ≤ 64) × (take result out.new ≡ row_values rows.now) }
 {
-    let mut i: usize = 0;
-    while i < rows.len() {
-        out[i] = rows[i][1];
-        i += 1;
+    for (i, row) in rows.iter().enumerate() {
+        out[i] = row[1];
     }
-    i
+    rows.len()
 }
 
 fn pack_input(rows: &[[u64; 2]], out: &mut [u64; 64]) -> usize

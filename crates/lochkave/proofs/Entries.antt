@@ -21,8 +21,12 @@ use Rattle.sheet.proofs.AnswersFit.{Fits}
 use Rattle.sheet.proofs.KeyAccepted.{key_written_again, join_written_again}
 use Rattle.lochkave.specs.Entry.{key_again, join_again}
 use Rattle.sheet.specs.ListFits.{sheet_by}
-use Rattle.sheet.specs.declared.sheets.Sheet.{Sheet}
-use Rattle.sheet.specs.declared.sheets.Sheet.TheVariants.{Held, Refused}
+use Rattle.sheet.specs.SheetLines.{refused_on}
+use Rattle.sheet.proofs.Bounded.{Numbered}
+use Rattle.refusals.proofs.Judging.{number_again}
+use Rattle.refusals.specs.declared.Refused.{Refused}
+use Rattle.refusals.specs.Refusals.{refused_word}
+use Rattle.std.specs.Prelude.{Result, Ok, Err}
 
 -- ---- rooms of zeros
 
@@ -33,18 +37,39 @@ full_zeros (suc n) x h (suc i) e = full_zeros n x h i (omega arith)
 
 -- ---- what reading answered
 
+-- a number that is a refusal's, and a line that any sheet may have
+abbrev pub Worded : ℕ → ℕ → Type 0
+Worded n l = (n ≤ 8) × (l ≤ 65537) × (n ≡ 0 → ⊥)
+
+pub worded : (n l : ℕ) → Numbered n l → Worded n l
+worded n l h = (omega (arith, h.0), omega (arith, h.1), h.2)
+
 module _ {A : Type 0} where
-  pub was_turned : (r : Reading A) (q : Sheet) (n l : ℕ) → q ≡ sheet_by r → q ≡ Refused n l → r ≡ turned n l
-  was_turned (sheet x) q n l e f = let z : ◌≡◌ {A = ℕ} 0 1 = cc in absurd (omega arith)
-  was_turned (turned m k) q n l e f = let a : m ≡ n = cc in let b : k ≡ l = cc in rw (a, b)
+  -- the refusal that was answered, by its number and line
+  pub record WasTurned (r : Reading A) (f : Refused) : Type 0 where
+    pub number : ℕ
+    pub line : ℕ
+    pub is : r ≡ turned number line
+    pub same : f ≡ refused_on number line
+
+  pub was_turned : (r : Reading A) (q : Result (Unit {0}) Refused) (f : Refused) → q ≡ sheet_by r → q ≡ Err f → WasTurned r f
+  was_turned (sheet x) q f e g = let z : ◌≡◌ {A = ℕ} 0 1 = cc in absurd (omega arith)
+  was_turned (turned n l) q f e g = record { number = n; line = l; is = refl; same = cc }
+
+  module _ {r : Reading A} {f : Refused} (t : WasTurned r f) (few : Worded t.number t.line) where
+    pub turned_line : f.line ≤ 65537
+    turned_line = omega (arith, ap (λ (g : Refused). g.line) t.same, few.1)
+
+    pub turned_word : (n : ℕ) → n ≡ refused_word f → n ≡ t.number * 4294967296 + t.line
+    turned_word n e = e ∙ ap refused_word t.same ∙ ap (λ (m : ℕ). m * 4294967296 + t.line) (number_again t.number few.2 (omega (arith, few.0)))
 
   pub record Was (r : Reading A) : Type 0 where
     pub x : A
     pub is : r ≡ sheet x
 
-  pub was_read : (r : Reading A) (q : Sheet) → q ≡ sheet_by r → q ≡ Held → Was r
-  was_read (sheet y) q e f = record { x = y; is = refl }
-  was_read (turned m k) q e f = let z : ◌≡◌ {A = ℕ} 0 1 = cc in absurd (omega arith)
+  pub was_read : (r : Reading A) (q : Result (Unit {0}) Refused) (u : Unit {0}) → q ≡ sheet_by r → q ≡ Ok u → Was r
+  was_read (sheet y) q u e f = record { x = y; is = refl }
+  was_read (turned n l) q u e f = let z : ◌≡◌ {A = ℕ} 0 1 = cc in absurd (omega arith)
 
 -- ---- an outcome, and what it gives
 
@@ -54,26 +79,6 @@ Leaves o out n out' = (n ≡ answer (within (length out) o)) × (out' ≡ after 
 
 pub leaves_refused : (o : Outcome) (out : List ℕ) (n l r : ℕ) → o ≡ refused n l → r ≡ n * 4294967296 + l → Leaves o out r out
 leaves_refused o out n l r e f = rw e (f, refl)
-
--- ---- by the first byte
-
-pub no_byte : (s : List ℕ) → length s ≡ 0 → 0 ≡ get_or s 0 0
-no_byte [] h = refl
-no_byte (x ∷ xs) h = absurd (omega arith)
-
-module _ (s out : List ℕ) where
-  module _ (k i d : Outcome) where
-    abbrev By : Outcome
-    By = cond (eqb (get_or s 0 0) 75) k (cond (eqb (get_or s 0 0) 73) i d)
-
-    pub first_key : (b n : ℕ) (out' : List ℕ) → b ≡ get_or s 0 0 → b ≡ 75 → Leaves k out n out' → Leaves By out n out'
-    first_key b n out' f e h = let g : get_or s 0 0 ≡ 75 = sym f ∙ e in rw g h
-
-    pub first_join : (b n : ℕ) (out' : List ℕ) → b ≡ get_or s 0 0 → b ≡ 73 → Leaves i out n out' → Leaves By out n out'
-    first_join b n out' f e h = let g : get_or s 0 0 ≡ 73 = sym f ∙ e in rw g h
-
-    pub first_plan_lem : (b n : ℕ) (out' : List ℕ) → b ≡ get_or s 0 0 → (b ≡ 75 → ⊥) → (b ≡ 73 → ⊥) → Leaves d out n out' → Leaves By out n out'
-    first_plan_lem b n out' f x y h = rw (← f, ne_eqb b 75 x, ne_eqb b 73 y) h
 
 -- ---- K and I sheets
 

@@ -1,4 +1,4 @@
--- A refusal of a D sheet has a number of at most 8 and a line of at most 65,537, so both go into one number of 64 bits.
+-- A refusal of a D sheet has a number from 1 to 8 and a line of at most 65,537, so its word is made of both.
 -- Assumes nothing.
 use Prim.Native.Nat.{ℕ, suc, ◌+◌, ◌≤◌}
 use mathlib.Core.Path.{◌≡◌, refl, subst}
@@ -7,7 +7,7 @@ use mathlib.Core.Option.{Option, none, some}
 use mathlib.Core.List.{List, [], ◌∷◌}
 use native.Mathlib.Omega.{arith}
 use lib.Dec.{eqb, ltb}
-use borrow.Author.Tests.{eqb-true, ltb-false}
+use borrow.Author.Tests.{eqb-true, eqb-false, ltb-false}
 use Rattle.text.specs.declared.field.Field.{Field}
 use Rattle.text.specs.Text.{parts}
 use Rattle.text.specs.Lines.{first_of, next_of}
@@ -46,16 +46,17 @@ module _ (k : Kind) (seen next : ℕ) where
 -- ---- a run of lines
 
 abbrev Within : Run → Type 0
-Within (refused n l) = (n ≤ 6) × (l ≤ 65537)
+Within (refused n l) = (n ≤ 6) × (l ≤ 65537) × (n ≡ 0 → ⊥)
 Within (read rs ls l p) = (l ≤ p + 1) × (p ≤ most_bytes)
 
 before_within : (fs : List Field) (r : Run) → Within r → Within (before fs r)
 before_within fs (refused n l) h = h
 before_within fs (read rs ls l p) h = h
 
-turn_within : (t : Bool) (n line : ℕ) (fs : List Field) (rest : Run) → n ≤ 6 → line ≤ 65537 → (t ≡ true → Within rest) → Within (cond t (before fs rest) (refused n line))
-turn_within true n line fs rest h l w = before_within fs rest (w refl)
-turn_within false n line fs rest h l w = (h, l)
+turn_within : (t : Bool) (n line : ℕ) (fs : List Field) (rest : Run) → n ≤ 6 → line ≤ 65537 → (t ≡ true → Within rest) → (t ≡ false → n ≡ 0 → ⊥)
+    → Within (cond t (before fs rest) (refused n line))
+turn_within true n line fs rest h l w z = before_within fs rest (w refl)
+turn_within false n line fs rest h l w z = (h, l, z refl)
 
 stop_within : (t : Bool) (line at : ℕ) (ls : List (List ℕ)) (r : Run) → line ≤ at + 1 → at ≤ most_bytes → Within r → Within (cond t (read [] ls line at) r)
 stop_within true line at ls r h a w = (h, a)
@@ -63,7 +64,7 @@ stop_within false line at ls r h a w = w
 
 run_within : (k : Kind) (owed seen line at : ℕ) (ls : List (List ℕ)) → line ≤ at + 1 → at ≤ most_bytes → Within (rows_of k owed seen line at ls)
 unfolding rows_of
-run_within k owed seen line at [] h a = stop_within (k.stops owed none) line at [] (refused 1 line) h a (omega arith, omega arith)
+run_within k owed seen line at [] h a = stop_within (k.stops owed none) line at [] (refused 1 line) h a (omega arith, omega arith, λ z. omega arith)
 run_within k owed seen line at (l ∷ ls) h a =
     let x : Option (List Field) = first_of k.letter (l ∷ ls) in
     let next : ℕ = next_of at (l ∷ ls) in
@@ -71,27 +72,27 @@ run_within k owed seen line at (l ∷ ls) h a =
     let rest : Run = rows_of k (k.owes owed (fields_of x)) (suc seen) (suc line) next ls in
     stop_within (k.stops owed x) line at (l ∷ ls) (cond (eqb n 0) (before (fields_of x) rest) (refused n line)) h a
     (turn_within (eqb n 0) n line (fields_of x) rest (number_few k seen next x) (omega arith)
-    (λ t. run_within k (k.owes owed (fields_of x)) (suc seen) (suc line) next ls (omega arith) (fine_within k seen next x (eqb-true n 0 t))))
+    (λ t. run_within k (k.owes owed (fields_of x)) (suc seen) (suc line) next ls (omega arith) (fine_within k seen next x (eqb-true n 0 t))) (λ t. eqb-false n 0 t))
 
 -- ---- one run after the other
 
 abbrev Few : {A : Type 0} → Reading A → Type 0
-Few (turned n l) = (n ≤ 8) × (l ≤ 65537)
+Few (turned n l) = (n ≤ 8) × (l ≤ 65537) × (n ≡ 0 → ⊥)
 Few (sheet x) = Unit {0}
 
 then_few : {A : Type 0} (r : Run) (rest : List (List Field) → ℕ → ℕ → List (List ℕ) → Reading A) → Within r
     → ((rs : List (List Field)) (l p : ℕ) (ls : List (List ℕ)) → l ≤ p + 1 → p ≤ most_bytes → Few (rest rs l p ls)) → Few (with_rows r rest)
-then_few (refused n l) rest w h = (omega (arith, w.0), w.1)
+then_few (refused n l) rest w h = (omega (arith, w.0), w.1, w.2)
 then_few (read rs ls l p) rest w h = h rs l p ls w.0 w.1
 
 end_few : {A : Type 0} (t : Bool) (x : A) (l : ℕ) → l ≤ 65537 → Few (cond t (sheet x) (turned 1 l))
 end_few true x l h = tt
-end_few false x l h = (omega arith, h)
+end_few false x l h = (omega arith, h, λ z. omega arith)
 
 judged_few : (a b : Bool) (x : PlanSheet) → Few (cond a (cond b (sheet x) (turned 8 0)) (turned 7 0))
 judged_few true true x = tt
-judged_few true false x = (omega arith, omega arith)
-judged_few false b x = (omega arith, omega arith)
+judged_few true false x = (omega arith, omega arith, λ z. omega arith)
+judged_few false b x = (omega arith, omega arith, λ z. omega arith)
 
 masks_few : (b : List Field) (fs xs : List (List Field)) (n line at : ℕ) (ls : List (List ℕ)) → line ≤ at + 1 → at ≤ most_bytes → Few (read_masks b fs xs n line at ls)
 unfolding read_masks
@@ -122,5 +123,5 @@ plan_few s =
     then_few (rows_of plan_line 1 0 l p ls) _ (run_within plan_line 1 0 l p ls i j) (λ ts l' p' ls' i' j'.
     with_few (settings_of (values (head_of ds))) (plan_of ts) (read_facts (child_count (plan_of ts)) l' p' ls') (facts_few (child_count (plan_of ts)) l' p' ls' i' j')))
 
-pub plan_turned_few : (s : List ℕ) (n l : ℕ) → read_plan s ≡ turned n l → (n ≤ 8) × (l ≤ 65537)
+pub plan_turned_few : (s : List ℕ) (n l : ℕ) → read_plan s ≡ turned n l → (n ≤ 8) × (l ≤ 65537) × (n ≡ 0 → ⊥)
 plan_turned_few s n l e = subst Few e (plan_few s)

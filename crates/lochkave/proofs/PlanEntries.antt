@@ -11,7 +11,8 @@ use Rattle.exchange.specs.declared.settings.Settings.{Settings}
 use Rattle.exchange.specs.Rows.{flatten}
 use Rattle.exchange.specs.Ensure.{ensured}
 use Rattle.plansheet.specs.declared.plan.Plan as P
-use Rattle.plansheet.specs.declared.plan.Plan.TheVariants as W
+use Rattle.refusals.specs.declared.Refused.{Refused}
+use Rattle.std.specs.Prelude.{Result, Ok, Err}
 use Rattle.plansheet.specs.PlanSheets.{PlanSheet, child_count, read_plan}
 use Rattle.plansheet.specs.PlanTexts.{plan_text}
 use Rattle.plansheet.specs.PlanRooms.{plan_by, PlanHeld}
@@ -21,11 +22,12 @@ use Rattle.plananswer.specs.PlanTexts.{distributed}
 use Rattle.plananswer.specs.PlanDecision.{plan_decision}
 use Rattle.lochkave.specs.Entry.{plan_again}
 use Rattle.lochkave.specs.PlanHeld.{Holds, Held, HeldLong}
+use Rattle.lochkave.proofs.Entries.{WasTurned}
 use Rattle.lochkave.proofs.PlanLent.{lent_text}
 
-pub plan_was_turned : (r : Reading PlanSheet) (p : P.Plan) (n l : ℕ) → p ≡ plan_by r → p ≡ W.Refused n l → r ≡ turned n l
-plan_was_turned (sheet x) p n l e f = let z : ◌≡◌ {A = ℕ} 0 1 = cc in absurd (omega arith)
-plan_was_turned (turned m k) p n l e f = let a : m ≡ n = cc in let b : k ≡ l = cc in rw (a, b)
+pub plan_was_turned : (r : Reading PlanSheet) (p : Result P.Plan Refused) (f : Refused) → p ≡ plan_by r → p ≡ Err f → WasTurned r f
+plan_was_turned (sheet x) p f e g = let z : ◌≡◌ {A = ℕ} 0 1 = cc in absurd (omega arith)
+plan_was_turned (turned n l) p f e g = record { number = n; line = l; is = refl; same = cc }
 
 -- the sheet that was read, with the numbers told of it
 pub record WasHeld (r : Reading PlanSheet) (s : Settings) (k c n : ℕ) : Type 0 where
@@ -36,9 +38,9 @@ pub record WasHeld (r : Reading PlanSheet) (s : Settings) (k c n : ℕ) : Type 0
   pub children : c ≡ child_count x.plan
   pub rows : n ≡ length x.facts.rows
 
-pub plan_was_held : (r : Reading PlanSheet) (p : P.Plan) (s : Settings) (k w c n : ℕ) → p ≡ plan_by r → p ≡ W.Held s k w c n → WasHeld r s k c n
-plan_was_held (turned m l) p s k w c n e f = let z : ◌≡◌ {A = ℕ} 0 1 = cc in absurd (omega arith)
-plan_was_held (sheet y) p s k w c n e f = record { x = y; is = refl; settings = cc; lines = cc; children = cc; rows = cc }
+pub plan_was_held : (r : Reading PlanSheet) (p : Result P.Plan Refused) (d : P.Plan) → p ≡ plan_by r → p ≡ Ok d → WasHeld r d.settings d.lines d.children d.rows
+plan_was_held (turned n l) p d e f = let z : ◌≡◌ {A = ℕ} 0 1 = cc in absurd (omega arith)
+plan_was_held (sheet y) p d e f = record { x = y; is = refl; settings = cc; lines = cc; children = cc; rows = cc }
 
 module _ (bytes : List ℕ) where
   pub plan_turned : (n l : ℕ) → read_plan bytes ≡ turned n l → plan_decision bytes ≡ refused n l

@@ -1,24 +1,42 @@
 // A sheet that was read, written again from what is held of it.
-ghost use Rattle.std.specs.Prelude.{◌≡◌, ◌+◌, ◌*◌, ◌≤◌, length};
+ghost use Rattle.std.specs.Prelude.{◌≡◌, ℕ, ◌≤◌, ◌<◌, length, get_or};
 ghost use Rattle.sheet.specs.KeySheets.{read_key_sheet, read_join_sheet};
+ghost use Rattle.sheet.specs.Held.{held_text};
+ghost use Rattle.sheet.specs.KeyAnswers.{wrote};
 ghost use Rattle.sheet.specs.Outcomes.{answer, after, within};
 ghost use Rattle.plansheet.specs.PlanSheets.{read_plan};
-ghost use Rattle.lochkave.specs.Entry.{key_again, join_again, plan_again};
+ghost use Rattle.plananswer.specs.SheetTexts.{sheet_rows_text};
+ghost use Rattle.lochkave.specs.Entry.{key_again, join_again, plan_again, Gives};
 
 use crate::plan::held_facts;
+use exchange::facts::PlanFacts;
+use exchange::row::Row;
+use exchange::settings::Settings;
 use linekinds::lists::SheetKind;
 use lines::sheet_text::put_sheet;
 use plananswer::sheet_text::put_plan_sheet;
-use plansheet::plan::{Plan, read_plan};
+use plansheet::plan::read_plan;
 use refusals::Refusal;
 use sheet::held::Lists;
-use sheet::sheets::{Sheet, read_join_sheet, read_key_sheet};
+use sheet::sheets::{read_join_sheet, read_key_sheet};
 
-pub(crate) fn refusal(number: u64, line: u64) -> u64
-    requires { (number ≤ 8) × (line ≤ 65537) }
-    ensures { result ≡ number * 4294967296 + line }
+// The sheet that is held, at the front of the output, where there is room for its bytes.
+fn put_again(
+    bytes: usize,
+    kind: SheetKind,
+    n: usize,
+    held: Lists,
+    out: &mut [u8],
+) -> u64
+    requires lines { (n ≤ length held.lists.now) × (n ≤ length held.counts.now) }
+    requires counts { (i : ℕ) → i < n → get_or held.counts.now i 0 ≤ 64 }
+    requires bytes { bytes ≡ length (held_text kind held.lists.now held.counts.now 0 n) }
+    ensures { Gives (within (length out.old) (wrote (held_text kind held.entry.lists.now held.entry.counts.now 0 n))) result out.old out.new }
 {
-    number * 4294967296 + line
+    if out.len() < bytes {
+        return Refusal::OutputTooShort.on_line(0).word();
+    }
+    put_sheet(out, kind, n, held) as u64
 }
 
 pub(crate) fn rewrite_key_sheet(sheet: &[u8], out: &mut [u8]) -> u64
@@ -28,19 +46,17 @@ pub(crate) fn rewrite_key_sheet(sheet: &[u8], out: &mut [u8]) -> u64
     let mut rows = [[0u64; 2]; 192];
     let mut lists = [[0u64; 64]; 17];
     let mut counts = [0usize; 17];
-    let r = read_key_sheet(sheet, &mut rows, &mut lists, &mut counts);
-    if let Sheet::Refused { number, line } = r {
-        return refusal(number, line);
+    match read_key_sheet(sheet, &mut rows, &mut lists, &mut counts) {
+        Err(refused) => refused.word(),
+        Ok(()) => {
+            let n = 9 + lists[0][6] as usize;
+            let held = Lists {
+                lists: &lists,
+                counts: &counts,
+            };
+            put_again(sheet.len(), SheetKind::Key, n, held, out)
+        }
     }
-    if out.len() < sheet.len() {
-        return Refusal::OutputTooShort.on_line(0).word();
-    }
-    let n = 9 + lists[0][6] as usize;
-    let held = Lists {
-        lists: &lists,
-        counts: &counts,
-    };
-    put_sheet(out, SheetKind::Key, n, held) as u64
 }
 
 pub(crate) fn rewrite_join_sheet(sheet: &[u8], out: &mut [u8]) -> u64
@@ -50,18 +66,27 @@ pub(crate) fn rewrite_join_sheet(sheet: &[u8], out: &mut [u8]) -> u64
     let mut rows = [[0u64; 2]; 192];
     let mut lists = [[0u64; 64]; 8];
     let mut counts = [0usize; 8];
-    let r = read_join_sheet(sheet, &mut rows, &mut lists, &mut counts);
-    if let Sheet::Refused { number, line } = r {
-        return refusal(number, line);
+    match read_join_sheet(sheet, &mut rows, &mut lists, &mut counts) {
+        Err(refused) => refused.word(),
+        Ok(()) => {
+            let held = Lists {
+                lists: &lists,
+                counts: &counts,
+            };
+            put_again(sheet.len(), SheetKind::Join, 8, held, out)
+        }
     }
-    if out.len() < sheet.len() {
+}
+
+// The same of a D sheet.
+fn put_plan_again(bytes: usize, s: Settings, tree: &[Row], f: PlanFacts, out: &mut [u8]) -> u64
+    requires { bytes ≡ length (sheet_rows_text s tree.now f.node f.children.now f.xs.rows.now f.masks.now) }
+    ensures { Gives (within (length out.old) (wrote (sheet_rows_text s tree.now f.entry.node f.entry.children.now f.entry.xs.rows.now f.entry.masks.now))) result out.old out.new }
+{
+    if out.len() < bytes {
         return Refusal::OutputTooShort.on_line(0).word();
     }
-    let held = Lists {
-        lists: &lists,
-        counts: &counts,
-    };
-    put_sheet(out, SheetKind::Join, 8, held) as u64
+    put_plan_sheet(out, 0, s, tree, f) as u64
 }
 
 pub(crate) fn rewrite_plan_sheet(sheet: &[u8], out: &mut [u8]) -> u64
@@ -76,7 +101,7 @@ pub(crate) fn rewrite_plan_sheet(sheet: &[u8], out: &mut [u8]) -> u64
     let mut xs = [[0u64; 13]; 128];
     let mut masks = [0u64; 256];
     let mut index = [0u64; 129];
-    let p = read_plan(
+    match read_plan(
         sheet,
         &mut fields,
         &mut head,
@@ -86,21 +111,11 @@ pub(crate) fn rewrite_plan_sheet(sheet: &[u8], out: &mut [u8]) -> u64
         &mut xs,
         &mut masks,
         &mut index,
-    );
-    match p {
-        Plan::Refused { number, line } => refusal(number, line),
-        Plan::Held {
-            settings,
-            lines,
-            worked: _,
-            children,
-            rows: n,
-        } => {
-            if out.len() < sheet.len() {
-                return Refusal::OutputTooShort.on_line(0).word();
-            }
-            let f = held_facts(children, n, node, &facts, &xs, &masks, &index);
-            put_plan_sheet(out, 0, settings, &rows[..lines], f) as u64
+    ) {
+        Err(refused) => refused.word(),
+        Ok(p) => {
+            let f = held_facts(p, node, &facts, &xs, &masks, &index);
+            put_plan_again(sheet.len(), p.settings, &rows[..p.lines], f, out)
         }
     }
 }

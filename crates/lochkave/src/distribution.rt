@@ -4,11 +4,10 @@ ghost use Rattle.sheet.specs.Outcomes.{answer, after};
 ghost use Rattle.lochkave.specs.Entry.{distribution_outcome};
 ghost use Rattle.lochkave.specs.Rooms.{PlanRooms};
 
-use crate::again::refusal;
 use crate::plan::{answer_plan, held_facts};
 use exchange::fact::FactRow;
 use exchange::row::Row;
-use plansheet::plan::{Plan, read_plan};
+use plansheet::plan::read_plan;
 
 // A sheet of fewer bytes has at most 64 T lines and 39 X rows: a T line takes 17 bytes at least, an X row 28.
 const SHORT: usize = 1088;
@@ -16,26 +15,36 @@ const SHORT: usize = 1088;
 // Twice as many.
 const MIDDLE: usize = 2176;
 
+// What a D sheet is read into, and what it is decided and answered in.
+pub(crate) struct TreeRooms<'a> {
+    pub fields: &'a mut [[u64; 2]],
+    pub rows: &'a mut [Row],
+    pub xs: &'a mut [FactRow],
+    pub mid: &'a mut [Row],
+    pub dst: &'a mut [Row],
+    pub masks: &'a mut [u64],
+    pub index: &'a mut [u64],
+}
+
 // A sheet, in the rooms lent.
-pub(crate) fn distribute_in(
-    sheet: &[u8],
-    fields: &mut [[u64; 2]],
-    rows: &mut [Row],
-    xs: &mut [FactRow],
-    mid: &mut [Row],
-    dst: &mut [Row],
-    masks: &mut [u64],
-    index: &mut [u64],
-    out: &mut [u8],
-) -> u64
-    requires { PlanRooms (length sheet.now) (length fields.old) (length rows.old) (length xs.old) (length mid.old) (length dst.old) (length masks.old) (length index.old) }
+pub(crate) fn distribute_in(sheet: &[u8], lent: TreeRooms, out: &mut [u8]) -> u64
+    requires { PlanRooms (length sheet.now) (length lent.fields.now) (length lent.rows.now) (length lent.xs.now) (length lent.mid.now) (length lent.dst.now) (length lent.masks.now) (length lent.index.now) }
     ensures result { result ≡ answer (distribution_outcome sheet.now (length out.old)) }
     ensures bytes { out.new ≡ after (distribution_outcome sheet.now (length out.old)) out.old }
 {
+    let TreeRooms {
+        fields,
+        rows,
+        xs,
+        mid,
+        dst,
+        masks,
+        index,
+    } = lent;
     let mut head = [0u64; 9];
     let mut node = [0u64; 4];
     let mut facts = [[0u64; 7]; 8];
-    let p = read_plan(
+    match read_plan(
         sheet,
         fields,
         &mut head,
@@ -45,18 +54,11 @@ pub(crate) fn distribute_in(
         &mut *xs,
         &mut *masks,
         &mut *index,
-    );
-    match p {
-        Plan::Refused { number, line } => refusal(number, line),
-        Plan::Held {
-            settings,
-            lines,
-            worked: _,
-            children,
-            rows: n,
-        } => {
-            let f = held_facts(children, n, node, &facts, &*xs, &*masks, &*index);
-            answer_plan(settings, f, &mut rows[..lines], mid, dst, out)
+    ) {
+        Err(refused) => return refused.word(),
+        Ok(p) => {
+            let f = held_facts(p, node, &facts, &*xs, &*masks, &*index);
+            return answer_plan(p.settings, f, &mut rows[..p.lines], mid, dst, out);
         }
     }
 }
@@ -79,17 +81,16 @@ fn distribute_sized<const ROWS: usize, const XS: usize, const MID: usize, const 
     let mut dst = [[0u64; 11]; DST];
     let mut masks = [0u64; 256];
     let mut index = [0u64; 129];
-    distribute_in(
-        sheet,
-        &mut fields,
-        &mut rows,
-        &mut xs,
-        &mut mid,
-        &mut dst,
-        &mut masks,
-        &mut index,
-        out,
-    )
+    let lent = TreeRooms {
+        fields: &mut fields,
+        rows: &mut rows,
+        xs: &mut xs,
+        mid: &mut mid,
+        dst: &mut dst,
+        masks: &mut masks,
+        index: &mut index,
+    };
+    distribute_in(sheet, lent, out)
 }
 
 // Any sheet, in rooms of its own.

@@ -4,11 +4,10 @@ ghost use Rattle.sheet.specs.Outcomes.{answer, after};
 ghost use Rattle.sheet.specs.SheetLines.{Full};
 ghost use Rattle.lochkave.specs.Entry.{adjust_outcome, inputs_outcome};
 
-use crate::again::refusal;
 use answers::join::answer_join_sheet;
 use answers::key::answer_key_sheet;
 use sheet::held::Lists;
-use sheet::sheets::{Sheet, read_join_sheet, read_key_sheet};
+use sheet::sheets::{read_join_sheet, read_key_sheet};
 
 // So many bytes of output suffice for every answer.
 const ANSWER_MOST: usize = 65536;
@@ -25,16 +24,17 @@ pub(crate) fn adjust_in(
     ensures bytes { out.new ≡ after (adjust_outcome sheet.now (length out.old)) out.old }
 {
     let mut counts = [0usize; 17];
-    let r = read_key_sheet(sheet, &mut *fields, &mut *lists, &mut counts);
-    if let Sheet::Refused { number, line } = r {
-        return refusal(number, line);
+    match read_key_sheet(sheet, &mut *fields, &mut *lists, &mut counts) {
+        Err(refused) => refused.word(),
+        Ok(()) => {
+            let roomy = out.len() >= ANSWER_MOST;
+            let held = Lists {
+                lists: &*lists,
+                counts: &counts,
+            };
+            answer_key_sheet(roomy, held, fields, out)
+        }
     }
-    let roomy = out.len() >= ANSWER_MOST;
-    let held = Lists {
-        lists: &*lists,
-        counts: &counts,
-    };
-    answer_key_sheet(roomy, held, fields, out)
 }
 
 // An I sheet.
@@ -50,14 +50,15 @@ pub(crate) fn follow_in(
     ensures bytes { out.new ≡ after (inputs_outcome sheet.now (length out.old)) out.old }
 {
     let mut counts = [0usize; 8];
-    let r = read_join_sheet(sheet, &mut *fields, &mut *lists, &mut counts);
-    if let Sheet::Refused { number, line } = r {
-        return refusal(number, line);
+    match read_join_sheet(sheet, &mut *fields, &mut *lists, &mut counts) {
+        Err(refused) => refused.word(),
+        Ok(()) => {
+            let roomy = out.len() >= ANSWER_MOST;
+            let held = Lists {
+                lists: &*lists,
+                counts: &counts,
+            };
+            answer_join_sheet(roomy, held, fields, rules, out)
+        }
     }
-    let roomy = out.len() >= ANSWER_MOST;
-    let held = Lists {
-        lists: &*lists,
-        counts: &counts,
-    };
-    answer_join_sheet(roomy, held, fields, rules, out)
 }

@@ -13,7 +13,7 @@ ghost use Rattle.sheet.specs.Outcomes.{answer, after};
 ghost use Rattle.lochkave.specs.Entry.{outcome, adjust_outcome, inputs_outcome, distribution_outcome, rewrite_outcome};
 
 use crate::again::{rewrite_join_sheet, rewrite_key_sheet, rewrite_plan_sheet};
-use crate::distribution::{distribute, distribute_in};
+use crate::distribution::{TreeRooms, distribute, distribute_in};
 use crate::kinds::{adjust_in, follow_in};
 use crate::rooms::{keys_fit, trees_fit};
 
@@ -61,6 +61,7 @@ fn first_byte(sheet: &[u8]) -> u8
 
 // Decides a sheet, whose first byte says its kind.
 #[unsafe(no_mangle)]
+#[tactic(auto, unfolding(crate::specs::Decision::decision))]
 pub extern "C" fn lochkave_decide(sheet: &[u8], out: &mut [u8]) -> u64
     ensures result { result ≡ answer (outcome sheet.now (length out.old)) }
     ensures bytes { out.new ≡ after (outcome sheet.now (length out.old)) out.old }
@@ -74,6 +75,7 @@ pub extern "C" fn lochkave_decide(sheet: &[u8], out: &mut [u8]) -> u64
 
 // The same in rooms that are lent and never cleared; in its own where one of them is too short. What they hold afterwards is of no account.
 #[unsafe(no_mangle)]
+#[tactic(auto, unfolding(crate::specs::Decision::decision))]
 pub extern "C" fn lochkave_decide_in(
     sheet: &[u8],
     fields: &mut [[u64; 2]],
@@ -107,16 +109,23 @@ pub extern "C" fn lochkave_decide_in(
         b'K' => adjust_in(sheet, fields, lists, out),
         b'I' => follow_in(sheet, fields, rules, lists, out),
         _ => {
-            let tree = &mut rows[..256];
-            let answer = &mut dst[..536];
-            let places = &mut index[..129];
-            distribute_in(sheet, fields, tree, xs, mid, answer, masks, places, out)
+            let lent = TreeRooms {
+                fields,
+                rows: &mut rows[..256],
+                xs,
+                mid,
+                dst: &mut dst[..536],
+                masks,
+                index: &mut index[..129],
+            };
+            distribute_in(sheet, lent, out)
         }
     }
 }
 
 // Reads a sheet and writes it again from what was read.
 #[unsafe(no_mangle)]
+#[tactic(auto, unfolding(crate::specs::Entry::rewriting))]
 pub extern "C" fn lochkave_rewrite(sheet: &[u8], out: &mut [u8]) -> u64
     ensures result { result ≡ answer (rewrite_outcome sheet.now (length out.old)) }
     ensures bytes { out.new ≡ after (rewrite_outcome sheet.now (length out.old)) out.old }

@@ -21,32 +21,32 @@ use exchange::settings::Settings;
 use exchange::status::ChildRow;
 use plananswer::plan::{Head, write_plan};
 use plansheet::line::sets_of;
+use plansheet::plan::Plan as SheetPlan;
 use refusals::Refusal;
 
-// What the rooms hold of a sheet beside its tree, by the counts of the worked node's children and of the X rows.
+// What the rooms hold of a sheet beside its tree.
 pub(crate) fn held_facts<'a>(
-    children: u64,
-    n: usize,
+    p: SheetPlan,
     node: NodeRow,
     facts: &'a [ChildRow],
     xs: &'a [FactRow],
     masks: &'a [u64],
     index: &'a [u64],
 ) -> PlanFacts<'a>
-    requires { FactsIn children n facts.now xs.now masks.now index.now }
+    requires { FactsIn p.children p.rows facts.now xs.now masks.now index.now }
     ensures node { result.node ≡ node }
-    ensures children { result.children.now ≡ take children facts.now }
-    ensures rows { result.xs.rows.now ≡ take n xs.now }
-    ensures masks { result.masks.now ≡ take (two_to children) masks.now }
+    ensures children { result.children.now ≡ take p.children facts.now }
+    ensures rows { result.xs.rows.now ≡ take p.rows xs.now }
+    ensures masks { result.masks.now ≡ take (two_to p.children) masks.now }
 {
     PlanFacts {
         node,
-        children: &facts[..children as usize],
+        children: &facts[..p.children as usize],
         xs: FactRows {
             index,
-            rows: &xs[..n],
+            rows: &xs[..p.rows],
         },
-        masks: &masks[..sets_of(children)],
+        masks: &masks[..sets_of(p.children)],
     }
 }
 

@@ -8,10 +8,10 @@ ghost use Rattle.exchange.specs.Standings.{worked_for, node_for, state_for};
 
 use crate::status::rows_gain;
 use exchange::fact::{EXACT, SUBSET};
-use exchange::kind;
 use exchange::partitioning::{AGGEXACT, AGGSUBSET, Standing, Worked};
 use exchange::settings::Settings;
 use exchange::status::{Asked, GAINS, GROUPING};
+use exchange::{kind, need};
 
 // Enough partitions to keep those of the files.
 pub fn preserve_file_partition_threshold_met(s: Settings, a: Asked) -> bool
@@ -23,7 +23,7 @@ pub fn preserve_file_partition_threshold_met(s: Settings, a: Asked) -> bool
 pub fn requires_grouping_id(a: Asked) -> bool
     ensures { result ≡ requires_grouping_id (child_for a) }
 {
-    a.need == 2 && a.facts[GROUPING] == 1
+    a.need == need::KEYED && a.facts[GROUPING] == 1
 }
 
 fn is_partitioned_join(w: Worked) -> bool

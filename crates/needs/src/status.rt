@@ -6,6 +6,7 @@ ghost use Rattle.exchange.specs.FactRows.{child_facts, child_for};
 ghost use Rattle.exchange.specs.States.{Child, need_of, count_of};
 ghost use Rattle.exchange.specs.Standings.{status_by};
 
+use exchange::need;
 use exchange::settings::Settings;
 use exchange::status::{Asked, ChildRow, GAINS, ROWKIND, ROWS, RepartitionRequirementStatus};
 
@@ -25,14 +26,14 @@ pub fn rows_gain(s: Settings, a: Asked) -> bool
 pub fn asks_alignment(s: Settings, a: Asked) -> bool
     ensures { result ≡ asks_alignment s (child_for a) }
 {
-    a.need == 2 && (1 < a.count || a.facts[GAINS] == 1 && rows_gain(s, a))
+    a.need == need::KEYED && (1 < a.count || a.facts[GAINS] == 1 && rows_gain(s, a))
 }
 
 // A keyed child is hashed for its own partitions, or since one of the keyed children asks.
 fn hash_necessary(need: u64, count: u64, aligned: bool) -> bool
     ensures { result ≡ (is_keyed need && (ltb 1 count || aligned)) }
 {
-    need == 2 && (1 < count || aligned)
+    need == need::KEYED && (1 < count || aligned)
 }
 
 // Of a child of that need, count before the split and F row, given whether any of the children asks (`needs_alignment`).

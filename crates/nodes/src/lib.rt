@@ -19,19 +19,24 @@ use exchange::row::Node;
 pub extern "C" fn nodes_get(ns: &[Node], i: usize) -> Node
     ensures { result ≡ node_in ns.now i }
 {
+    ns.get(i).copied().unwrap_or(value::zero())
+}
+
+// The node at `i` changed, where there is one.
+fn change<F: FnOnce(Node) -> Node>(ns: &mut [Node], i: usize, f: F)
+    requires { F.IsAlwaysCallable f }
+    ensures { (g : Node → Node) → ((n r : Node) → F.post f n r → r ≡ g n) → ns.new ≡ put_in ns.old i (g (node_in ns.old i)) }
+{
     if i < ns.len() {
-        return ns[i];
+        ns[i] = f(ns[i]);
     }
-    value::zero()
 }
 
 #[unsafe(no_mangle)]
 pub extern "C" fn nodes_put(ns: &mut [Node], i: usize, n: Node)
     ensures { ns.new ≡ put_in ns.old i n }
 {
-    if i < ns.len() {
-        ns[i] = n;
-    }
+    change(ns, i, |_| n);
 }
 
 // Another mark.
@@ -39,9 +44,7 @@ pub extern "C" fn nodes_put(ns: &mut [Node], i: usize, n: Node)
 pub extern "C" fn nodes_track(ns: &mut [Node], i: usize, m: u64)
     ensures { ns.new ≡ changed_in (track m) ns.old i }
 {
-    if i < ns.len() {
-        ns[i] = value::track(ns[i], m);
-    }
+    change(ns, i, |n| value::track(n, m));
 }
 
 // The mark of a new merge or exchange.
@@ -49,9 +52,7 @@ pub extern "C" fn nodes_track(ns: &mut [Node], i: usize, m: u64)
 pub extern "C" fn nodes_track_new(ns: &mut [Node], i: usize)
     ensures { ns.new ≡ changed_in (track new_mark) ns.old i }
 {
-    if i < ns.len() {
-        ns[i] = value::track_new(ns[i]);
-    }
+    change(ns, i, value::track_new);
 }
 
 // A merge becomes a coalesce.
@@ -59,9 +60,7 @@ pub extern "C" fn nodes_track_new(ns: &mut [Node], i: usize)
 pub extern "C" fn nodes_coalesce(ns: &mut [Node], i: usize)
     ensures { ns.new ≡ changed_in coalesced ns.old i }
 {
-    if i < ns.len() {
-        ns[i] = replace::coalesced(ns[i]);
-    }
+    change(ns, i, replace::coalesced);
 }
 
 // A merge becomes the sort that takes its limit.
@@ -69,9 +68,7 @@ pub extern "C" fn nodes_coalesce(ns: &mut [Node], i: usize)
 pub extern "C" fn nodes_sort(ns: &mut [Node], i: usize)
     ensures { ns.new ≡ changed_in merge_sort ns.old i }
 {
-    if i < ns.len() {
-        ns[i] = value::sort(ns[i]);
-    }
+    change(ns, i, value::sort);
 }
 
 // An exchange that keeps an order gives it up.
@@ -79,9 +76,7 @@ pub extern "C" fn nodes_sort(ns: &mut [Node], i: usize)
 pub extern "C" fn nodes_relax(ns: &mut [Node], i: usize)
     ensures { ns.new ≡ changed_in relaxed_or ns.old i }
 {
-    if i < ns.len() {
-        ns[i] = value::relax(ns[i]);
-    }
+    change(ns, i, value::relax);
 }
 
 // A union dealt in turn.
@@ -89,9 +84,7 @@ pub extern "C" fn nodes_relax(ns: &mut [Node], i: usize)
 pub extern "C" fn nodes_interleave(ns: &mut [Node], i: usize)
     ensures { ns.new ≡ changed_in interleaved ns.old i }
 {
-    if i < ns.len() {
-        ns[i] = value::interleave(ns[i]);
-    }
+    change(ns, i, value::interleave);
 }
 
 // The count and the order of a child that was split.
@@ -99,9 +92,7 @@ pub extern "C" fn nodes_interleave(ns: &mut [Node], i: usize)
 pub extern "C" fn nodes_split(ns: &mut [Node], i: usize, count: u64, order: u64)
     ensures { ns.new ≡ changed_in (split_operator (split_row count order)) ns.old i }
 {
-    if i < ns.len() {
-        ns[i] = value::split(ns[i], count, order);
-    }
+    change(ns, i, |n| value::split(n, count, order));
 }
 
 // A union dealt in turn, as a run of one node.

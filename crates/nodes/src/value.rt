@@ -10,9 +10,6 @@ use exchange::fact::FactRow;
 use exchange::row::Node;
 use exchange::{operator, replace};
 
-// New merges and exchanges are tracked.
-const NEW_MARK: u64 = 1;
-
 pub fn zero() -> Node
     ensures { result ≡ zero_node }
 {
@@ -35,31 +32,9 @@ fn settle(n: Node) -> Node
     ensures { result ≡ settled n }
 {
     if n.limited == 0 {
-        return Node {
-            id: n.id,
-            kind: n.kind,
-            count: n.count,
-            keeps: n.keeps,
-            limited: 0,
-            limit: 0,
-            order: n.order,
-            mask: n.mask,
-            tracked: n.tracked,
-            need: n.need,
-        };
+        return Node { limit: 0, ..n };
     }
-    Node {
-        id: n.id,
-        kind: n.kind,
-        count: n.count,
-        keeps: n.keeps,
-        limited: 1,
-        limit: n.limit,
-        order: n.order,
-        mask: n.mask,
-        tracked: n.tracked,
-        need: n.need,
-    }
+    Node { limited: 1, ..n }
 }
 
 pub fn track(n: Node, m: u64) -> Node
@@ -71,7 +46,7 @@ pub fn track(n: Node, m: u64) -> Node
 pub fn track_new(n: Node) -> Node
     ensures { result ≡ changed (track_to new_mark) n }
 {
-    operator::track(NEW_MARK, settle(n))
+    operator::track(operator::NEW_MARK, settle(n))
 }
 
 pub fn sort(n: Node) -> Node

@@ -7,6 +7,7 @@ use native.Mathlib.Omega.{arith}
 use lib.ListN.{length, get_or, drop}
 use lib.Seq.{drop-cons}
 use Rattle.std.proofs.lemmas.List.{drop_all}
+use Rattle.std.proofs.lemmas.Simd.{map-map}
 use Rattle.text.specs.declared.field.Field.{Field}
 use Rattle.text.specs.Write.{line_text}
 use Rattle.sheet.specs.KeyAnswers.{numbers_line}
@@ -60,10 +61,6 @@ unfolding lines_of lines_text
 lines_text_lem letter line fields e [] = refl
 lines_text_lem letter line fields e (x ∷ xs) = ap₂ ◌++◌ (e x) (lines_text_lem letter line fields e xs)
 
-map_twice : {A B C : Type 0} (f : B → C) (g : A → B) (xs : List A) → map f (map g xs) ≡ map (λ x. f (g x)) xs
-map_twice f g [] = refl
-map_twice f g (x ∷ xs) = ap (λ ys. f (g x) ∷ ys) (map_twice f g xs)
-
 tree_text : (rows : List (List ℕ)) → lines_of tree_row_line rows ≡ lines_text 84 (map row_fields rows)
 unfolding tree_row_line
 tree_text rows = lines_text_lem 84 tree_row_line row_fields (λ x. refl) rows
@@ -72,13 +69,13 @@ child_text : (rows : List (List ℕ)) → lines_of child_row_line rows ≡ lines
 unfolding child_row_line
 child_text rows =
     lines_text_lem 70 child_row_line (λ x. number_fields (child_numbers (child_facts x))) (λ x. refl) rows
-    ∙ ap (lines_text 70) (sym (map_twice (λ (f : ChildFacts). number_fields (child_numbers f)) child_facts rows))
+    ∙ ap (lines_text 70) (sym (map-map (λ (f : ChildFacts). number_fields (child_numbers f)) child_facts rows))
 
 fact_text : (rows : List (List ℕ)) → lines_of fact_row_line rows ≡ lines_text 88 (fact_fields (map fact_row rows))
 unfolding fact_row_line
 fact_text rows =
     lines_text_lem 88 fact_row_line (λ x. number_fields (row_numbers (fact_row x))) (λ x. refl) rows
-    ∙ ap (lines_text 88) (sym (map_twice (λ (x : Row). number_fields (row_numbers x)) fact_row rows))
+    ∙ ap (lines_text 88) (sym (map-map (λ (x : Row). number_fields (row_numbers x)) fact_row rows))
 
 -- a sheet's text is that of its settings, the rows of its tree, and the rows of its facts
 pub rows_sheet :

@@ -56,6 +56,7 @@ pub(crate) struct AnswerLine;
 impl RowLine<Row> for AnswerLine {
     ghost text = { row_line };
 
+    #[tactic(auto, unfolding(crate::specs::RowTexts::row_line))]
     fn put(out: &mut [u8], at: usize, row: &Row) -> usize {
         put_line(out, at, 116, &operator_fields(*row))
     }

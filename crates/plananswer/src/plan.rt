@@ -43,6 +43,7 @@ fn lines_length(rows: &[Row]) -> usize
 }
 
 // The length of the answer.
+#[tactic(auto, unfolding(crate::specs::RowTexts::rows_text))]
 pub fn plan_text_length(head: Head, rows: &[Row]) -> usize
     requires { length rows.now ≤ 65536 }
     ensures { result ≡ length (rows_text head.changed head.window head.interleave head.tracked rows.now) }
@@ -51,6 +52,7 @@ pub fn plan_text_length(head: Head, rows: &[Row]) -> usize
 }
 
 // The d line.
+#[tactic(auto, unfolding(crate::specs::RowTexts::head_line))]
 fn put_head(out: &mut [u8], at: usize, head: Head) -> usize
     requires { at + length (head_line head.changed head.window head.interleave head.tracked) ≤ length out.old }
     ensures { Wrote out.old at (head_line head.changed head.window head.interleave head.tracked) out.new result }

@@ -56,6 +56,7 @@ pub(crate) struct TreeLine;
 impl RowLine<Row> for TreeLine {
     ghost text = { tree_row_line };
 
+    #[tactic(auto, unfolding(crate::specs::SheetTexts::tree_row_line))]
     fn put(out: &mut [u8], at: usize, row: &Row) -> usize {
         put_line(out, at, 84, &tree_fields(*row))
     }

@@ -1,7 +1,7 @@
 -- What holds of a line that nothing turns back, of the n-th of its run; and what its rows are.
 -- Assumes nothing.
 use mathlib.Core.Path.{◌≡◌, refl, sym, ap, ◌∙◌}
-use Prim.Native.Nat.{ℕ, zero, suc, ◌+◌, ◌-◌, ◌*◌, ◌≤◌, ◌<◌}
+use Prim.Native.Nat.{ℕ, zero, suc, ◌+◌, ◌*◌, ◌≤◌, ◌<◌}
 use native.Mathlib.Omega.{arith}
 use mathlib.Core.List.{List, [], ◌∷◌, ◌++◌, map}
 use mathlib.Core.Bool.{Bool, true, false, cond, ◌||◌}
@@ -15,6 +15,9 @@ use Rattle.text.specs.Text.{line_at, line, line_fields, row, value_of}
 use Rattle.text.specs.Read.{stored_in}
 use Rattle.text.proofs.Answers.{rows_held}
 use Rattle.text.proofs.Limits.{fits_length}
+use Rattle.refusals.specs.Refusals.{refusal_number, refusal_of}
+use Rattle.refusals.specs.declared.Refusal.TheVariants.{WrongLine}
+use Rattle.refusals.proofs.Judging.{number_again}
 use Rattle.linekinds.specs.Lines.{Kind, most_bytes, fields_fit, too_many_entries, line_number}
 use Rattle.linekinds.specs.KeyLines.{at, values}
 use Rattle.sheet.proofs.KeyRows.{either_false}
@@ -49,9 +52,9 @@ module _ (bs : List (List ℕ)) (k : Kind) (w : k.width ≡ 0) (heads : k.heads 
   -- its rows are in the room lent
   pub fine_rows :
       (letter : ℕ) (s : List ℕ) (p : ℕ) → line_at letter s p ≡ some fs → (out out' : List (List ℕ)) → out' ≡ stored_in out (line_fields letter (line (drop p s))) →
-      length bs ≤ length out → (count : ℕ) → count ≡ length fs → take (count - 0) out' ≡ map row fs
+      length bs ≤ length out → (count : ℕ) → count ≡ length fs → take count out' ≡ map row fs
   fine_rows letter s p is out out' stored room count counts =
-      let n : count - 0 ≡ length fs = omega arith in
+      let n : count ≡ length fs = omega arith in
       let m = fine_long in
       rw n (rows_held letter s p fs is out out' stored (omega arith))
 
@@ -147,3 +150,22 @@ two_eight = refl
 
 pub two_small : (n : ℕ) → n ≤ 8 → two_to n ≤ 256
 two_small n h = omega (arith, two_more n 8 h, two_eight)
+
+few_at : (a b c d e : Bool) → cond a (cond b 2 (cond c 3 (cond d 4 (cond e 6 0)))) 2 ≤ 6
+few_at true true c d e = omega arith
+few_at true false true d e = omega arith
+few_at true false false true e = omega arith
+few_at true false false false true = omega arith
+few_at true false false false false = omega arith
+few_at false b c d e = omega arith
+
+pub line_few : (k : Kind) (seen next : ℕ) (x : Option (List Field)) → line_number k seen next x ≤ 6
+unfolding line_number
+line_few k seen next none = omega arith
+line_few k seen next (some fs) = few_at (fields_fit k fs) (k.malformed fs) (ltb most_bytes next || (too_many_entries k fs || k.large seen fs)) (k.undefined fs) (k.unfit fs)
+
+-- a line is turned back as wrong only by its number 1
+pub one_again : (k : Kind) (seen next : ℕ) (x : Option (List Field)) → (line_number k seen next x ≡ 0 → ⊥) → refusal_of (line_number k seen next x) ≡ WrongLine → line_number k seen next x ≡ 1
+one_again k seen next x h e =
+    let n : ℕ = line_number k seen next x in
+    sym (number_again n h (omega (arith, line_few k seen next x))) ∙ ap refusal_number e

@@ -4,10 +4,7 @@ use Prim.Native.Nat.{ℕ, zero, suc, ◌+◌, ◌≤◌}
 use mathlib.Core.Path.{◌≡◌, refl, sym, ap, ◌∙◌}
 use mathlib.Core.Bool.{true, false, false≢true}
 use mathlib.Core.Option.{Option, none, some}
-use mathlib.Core.Logic.{⊎_elim}
 use mathlib.Core.List.{List, [], ◌∷◌, map}
-use types.Run.{OneOf}
-use denote.Enum.Declared.{tag_of}
 use native.Mathlib.Omega.{arith}
 use borrow.Author.Tests.{eq-eqb, le-ltb}
 use lib.ListN.{length, get_or, drop, set, length-map}
@@ -24,15 +21,16 @@ use Rattle.linekinds.specs.declared.line.Read.{Read}
 use Rattle.linekinds.specs.declared.line.Read.TheVariants as L
 use Rattle.linekinds.proofs.PlainLines.{small_plain, number_values}
 use Rattle.numberlines.specs.NumberLines.{LineOf, RowFound}
-use Rattle.numberlines.specs.declared.row.Plain.{Plain}
-use Rattle.numberlines.specs.declared.row.Plain.TheVariants as P
-use Rattle.numberlines.specs.contracts.row.Plain as PT
+use Rattle.numberlines.specs.declared.row.Unread.{Unread}
+use Rattle.numberlines.specs.declared.row.Unread.TheVariants.{Unusual, Other}
+use Rattle.std.specs.Prelude.{Result, Ok, Err}
+use Rattle.refusals.specs.declared.Refusal.{Refusal}
 use Rattle.plansheet.specs.Shapes.{over_any, is_none}
 use Rattle.plansheet.specs.PlanLines.{any, fact_shape, fact_line}
 use Rattle.plansheet.specs.PlainFacts.{FactAt, FactFound, FactLeft}
 use Rattle.plansheet.proofs.Shaped.{coming_number, plain_number}
 use Rattle.plansheet.proofs.Turns.{turned}
-use Rattle.plansheet.proofs.FineLines.{fine_long, one_none}
+use Rattle.plansheet.proofs.FineLines.{fine_long, one_none, one_again}
 
 -- ---- the marks
 
@@ -79,22 +77,21 @@ pub fact_stands : (s : List ℕ) (at : ℕ) (fs : List Field) (end : ℕ) → Li
 fact_stands s at fs end line e = let x : some fs ≡ none = sym line.is ∙ e in let z : ◌≡◌ {A = ℕ} 0 1 = cc in omega arith
 
 module _ (s : List ℕ) (at : ℕ) (row row' : List ℕ) where
-  pub fact_plain : (end : ℕ) → length row' ≡ 13 → RowFound 88 s at row (P.Line end) row' → over_any fact_shape.codes row' ≡ false → FactAt s at row' end
+  pub fact_plain : (end : ℕ) → length row' ≡ 13 → RowFound 88 s at row (Ok end) row' → over_any fact_shape.codes row' ≡ false → FactAt s at row' end
   fact_plain end long (line, small) coded = record {
     zero = λ seen. rw (line.is, line.goes) (fact_zero row' seen (end + 1) long small coded (omega (arith, line.early)));
     line = line;
   }
 
-  pub fact_other : (r : Plain) → OneOf (1 ∷ 2 ∷ []) (tag_of PT.the_type r) → RowFound 88 s at row r row' → FactFound s at row r row'
-  fact_other (P.Line end) h e = absurd (⊎_elim (λ z. omega arith) (λ z. omega arith) h)
-  fact_other P.Unusual h e = e
-  fact_other P.Other h e = e
+  pub fact_other : (e : Unread) → RowFound 88 s at row (Err e) row' → FactFound s at row (Err e) row'
+  fact_other Unusual h = h
+  fact_other Other h = h
 
   -- where no X line stands, the row is as it was
-  pub fact_none : (r : Plain) → FactFound s at row r row' → line_at 88 s at ≡ none → row' ≡ row
-  fact_none (P.Line end) o e = absurd (fact_stands s at (map number row') end o.line e)
-  fact_none P.Unusual o e = absurd (o e)
-  fact_none P.Other o e = o
+  pub fact_none : (r : Result ℕ Unread) → FactFound s at row r row' → line_at 88 s at ≡ none → row' ≡ row
+  fact_none (Ok end) o e = absurd (fact_stands s at (map number row') end o.line e)
+  fact_none (Err Unusual) o e = absurd (o e)
+  fact_none (Err Other) o e = o
 
 -- ---- the row among the rows
 
@@ -114,7 +111,7 @@ module _ (s : List ℕ) (at : ℕ) where
     quick_left n rows = rw (o.line.is, number_values row)
 
   -- what was turned back, and nothing stored
-  pub left_alone : (n : ℕ) (rows : List (List ℕ)) (r : Read) (m : ℕ) → r ≡ L.Refused m → FactLeft X n rows r rows
+  pub left_alone : (n : ℕ) (rows : List (List ℕ)) (r : Read) (m : Refusal) → r ≡ L.Refused m → FactLeft X n rows r rows
   left_alone n rows r m e = rw e (λ one. refl)
 
   -- what was read after another row was stored there, which is the one that was there if no X line stands
@@ -123,5 +120,5 @@ module _ (s : List ℕ) (at : ℕ) where
       (r : Read) (rows' : List (List ℕ)) → r ≡ read_by (line_number fact_line 0 (after s at) X) (after s at) X → FactLeft X n (set rows n row) r rows' → FactLeft X n rows r rows'
   left_again n rows row d same (L.Line count next) rows' e l = l ∙ set-set rows n row (values (fields_of X))
   left_again n rows row d same (L.Refused m) rows' e l = λ one.
-      let z : X ≡ none = is_none_lem X (one_none fact_line 0 (after s at) X ((turned fact_line 0 (after s at) X m e).0 ∙ one)) in
+      let z : X ≡ none = is_none_lem X (one_none fact_line 0 (after s at) X (let q = turned fact_line 0 (after s at) X m e in one_again fact_line 0 (after s at) X q.1 (sym q.0 ∙ one))) in
       l one ∙ ap (set rows n) (same z) ∙ set-get_or rows n d

@@ -5,10 +5,7 @@ use mathlib.Core.Path.{◌≡◌, refl, sym, ap, subst, ◌∙◌}
 use mathlib.Core.Bool.{Bool, true, false, cond}
 use mathlib.Core.Option.{Option}
 use mathlib.Core.List.{List, [], ◌∷◌, map}
-use mathlib.Core.Logic.{⊎_elim}
 use native.Mathlib.Omega.{arith}
-use types.Run.{OneOf}
-use denote.Enum.Declared.{tag_of}
 use borrow.Author.Tests.{le-leb, le-ltb}
 use lib.Dec.{eqb}
 use lib.ListN.{length, get_or, set}
@@ -20,53 +17,63 @@ use Rattle.linekinds.specs.Lines.{Kind, fields_of}
 use Rattle.linekinds.specs.Reading.{Small, row_values, read_by}
 use Rattle.linekinds.specs.declared.line.Read.TheVariants as L
 use Rattle.numberlines.specs.NumberLines.{OperatorLine, OperatorFound}
-use Rattle.numberlines.specs.declared.row.Plain.{Plain}
-use Rattle.numberlines.specs.declared.row.Plain.TheVariants as P
-use Rattle.numberlines.specs.contracts.row.Plain as PT
+use Rattle.numberlines.specs.declared.row.Unread.{Unread}
+use Rattle.numberlines.specs.declared.row.Unread.TheVariants.{Unusual, Other}
+use Rattle.std.specs.Prelude.{Result, Ok, Err}
+use Rattle.refusals.specs.declared.Refusal.{Refusal}
+use Rattle.refusals.specs.Refusals.{refusal_of}
 use Rattle.plansheet.specs.Shapes.{over_any, tree_line, children_at}
 use Rattle.plansheet.specs.PlanSheets.{operator_row}
 use Rattle.plansheet.specs.ReadRows.{Bounded, shape_of, tree_number}
 use Rattle.plansheet.specs.PlainTrees.{Wide, PlainCodes, PlainShape, OperatorFits, OperatorHeld, OperatorRead, number_at, tree_row_by}
-use Rattle.plansheet.specs.declared.tree.TreeRow.TheVariants as T
+use Rattle.plansheet.specs.declared.tree.TreeRow.{TreeRow}
 use Rattle.plansheet.proofs.Shaped.{shape_fine, tree_fit, tree_codes, line_read_lem}
 
 -- ---- a line as a row
 
+abbrev pub tree_row_of : ℕ → ℕ → TreeRow
+tree_row_of children next = record { children = children; next = next }
+
+abbrev pub row_on : ℕ → ℕ → Result TreeRow Refusal
+row_on children next = Ok (tree_row_of children next)
+
 module _ (n next : ℕ) (x : Option (List Field)) where
   row_read_lem :
-      (t : Bool) (count after : ℕ) → L.Line count after ≡ cond t (L.Line (length (fields_of x)) next) (L.Refused n) →
-      T.Row (children_at (fields_of x)) after ≡ cond t (T.Row (children_at (fields_of x)) next) (T.Refused n)
+      (t : Bool) (count after : ℕ) → L.Line count after ≡ cond t (L.Line (length (fields_of x)) next) (L.Refused (refusal_of n)) →
+      Ok (tree_row_of (children_at (fields_of x)) after) ≡ cond t (Ok (tree_row_of (children_at (fields_of x)) next)) (Err (refusal_of n))
   row_read_lem true count after e = cc
   row_read_lem false count after e = let z : ◌≡◌ {A = ℕ} 0 1 = cc in absurd (omega arith)
 
-  pub row_read : (count after : ℕ) → L.Line count after ≡ read_by n next x → T.Row (children_at (fields_of x)) after ≡ tree_row_by n next x
+  pub row_read : (count after : ℕ) → L.Line count after ≡ read_by n next x → Ok (tree_row_of (children_at (fields_of x)) after) ≡ tree_row_by n next x
   row_read count after e = row_read_lem (eqb n 0) count after e
 
   row_refused_lem :
-      (t : Bool) (m : ℕ) → L.Refused m ≡ cond t (L.Line (length (fields_of x)) next) (L.Refused n) →
-      T.Refused m ≡ cond t (T.Row (children_at (fields_of x)) next) (T.Refused n)
+      (t : Bool) (m : Refusal) → L.Refused m ≡ cond t (L.Line (length (fields_of x)) next) (L.Refused (refusal_of n)) →
+      Err m ≡ cond t (Ok (tree_row_of (children_at (fields_of x)) next)) (Err (refusal_of n))
   row_refused_lem true m e = let z : ◌≡◌ {A = ℕ} 0 1 = cc in absurd (omega arith)
   row_refused_lem false m e = cc
 
-  pub row_refused : (m : ℕ) → L.Refused m ≡ read_by n next x → T.Refused m ≡ tree_row_by n next x
+  pub row_refused : (m : Refusal) → L.Refused m ≡ read_by n next x → Err m ≡ tree_row_by n next x
   row_refused m e = row_refused_lem (eqb n 0) m e
 
   line_read_by :
-      (t : Bool) (children after : ℕ) → T.Row children after ≡ cond t (T.Row (children_at (fields_of x)) next) (T.Refused n) →
-      (L.Line (length (fields_of x)) after ≡ cond t (L.Line (length (fields_of x)) next) (L.Refused n)) × (children ≡ children_at (fields_of x))
-  line_read_by true children after e = (cc, cc)
+      (t : Bool) (children after : ℕ) → Ok (tree_row_of children after) ≡ cond t (Ok (tree_row_of (children_at (fields_of x)) next)) (Err (refusal_of n)) →
+      (L.Line (length (fields_of x)) after ≡ cond t (L.Line (length (fields_of x)) next) (L.Refused (refusal_of n))) × (children ≡ children_at (fields_of x))
+  line_read_by true children after e =
+      let is : tree_row_of children after ≡ tree_row_of (children_at (fields_of x)) next = cc in
+      (ap (λ (r : TreeRow). L.Line (length (fields_of x)) r.next) is, ap (λ (r : TreeRow). r.children) is)
   line_read_by false children after e = let z : ◌≡◌ {A = ℕ} 0 1 = cc in absurd (omega arith)
 
-  pub line_again : (children after : ℕ) → T.Row children after ≡ tree_row_by n next x → (L.Line (length (fields_of x)) after ≡ read_by n next x) × (children ≡ children_at (fields_of x))
+  pub line_again : (children after : ℕ) → Ok (tree_row_of children after) ≡ tree_row_by n next x → (L.Line (length (fields_of x)) after ≡ read_by n next x) × (children ≡ children_at (fields_of x))
   line_again children after e = line_read_by (eqb n 0) children after e
 
   line_refused_lem :
-      (t : Bool) (m : ℕ) → T.Refused m ≡ cond t (T.Row (children_at (fields_of x)) next) (T.Refused n) →
-      L.Refused m ≡ cond t (L.Line (length (fields_of x)) next) (L.Refused n)
+      (t : Bool) (m : Refusal) → Err m ≡ cond t (Ok (tree_row_of (children_at (fields_of x)) next)) (Err (refusal_of n)) →
+      L.Refused m ≡ cond t (L.Line (length (fields_of x)) next) (L.Refused (refusal_of n))
   line_refused_lem true m e = let z : ◌≡◌ {A = ℕ} 0 1 = cc in absurd (omega arith)
   line_refused_lem false m e = cc
 
-  pub refused_again : (m : ℕ) → T.Refused m ≡ tree_row_by n next x → L.Refused m ≡ read_by n next x
+  pub refused_again : (m : Refusal) → Err m ≡ tree_row_by n next x → L.Refused m ≡ read_by n next x
   refused_again m e = line_refused_lem (eqb n 0) m e
 
 -- ---- small numbers and no limit, within bounds and codes
@@ -172,22 +179,19 @@ module _
   pub quick_held : row' ≡ operator_row (seen + 1) (fields_of (line_at letter s at))
   quick_held = h.held ∙ ap (λ (r : List ℕ). set r 0 (seen + 1)) O.held ∙ ap (λ (x : Option (List Field)). operator_row (seen + 1) (fields_of x)) (sym O.line.is)
 
-  pub quick_row : (children : ℕ) → children ≡ get_or row' 10 0 → T.Row children (end + 1) ≡ tree_row_by (number_at K seen s at) (after s at) (line_at letter s at)
+  pub quick_row : (children : ℕ) → children ≡ get_or row' 10 0 → Ok (tree_row_of children (end + 1)) ≡ tree_row_by (number_at K seen s at) (after s at) (line_at letter s at)
   quick_row children e =
-      ap (λ (n : ℕ). T.Row n (end + 1)) (e ∙ ap (λ (r : List ℕ). get_or r 10 0) quick_held)
+      ap (λ (n : ℕ). row_on n (end + 1)) (e ∙ ap (λ (r : List ℕ). get_or r 10 0) quick_held)
       ∙ row_read (number_at K seen s at) (after s at) (line_at letter s at) 8 (end + 1) line_quick
 
 -- ---- what `operator_read` leaves
 
 module _ (letter : ℕ) (s : List ℕ) (at seen : ℕ) (codes : List ℕ) (rules : List (List ℕ)) where
-  pub operator_other : (r : Plain) (row' : List ℕ) → OneOf (1 ∷ 2 ∷ []) (tag_of PT.the_type r) → OperatorRead letter s at seen codes rules r row'
-  operator_other (P.Line end) row' h = absurd (⊎_elim (λ z. omega arith) (λ z. omega arith) h)
-  operator_other P.Unusual row' h = tt
-  operator_other P.Other row' h = tt
+  pub operator_other : (e : Unread) (row' : List ℕ) → OperatorRead letter s at seen codes rules (Err e) row'
+  operator_other Unusual row' = tt
+  operator_other Other row' = tt
 
   pub operator_held :
-      (r : Plain) (before found row' : List ℕ) → OperatorFound letter s at before r found → OperatorFits codes rules found → row' ≡ set found 0 (seen + 1) →
-      OperatorRead letter s at seen codes rules r row'
-  operator_held (P.Line end) before found row' o f e = record { before = before; found = found; line = o; fits = f; held = e }
-  operator_held P.Unusual before found row' o f e = tt
-  operator_held P.Other before found row' o f e = tt
+      (end : ℕ) (before found row' : List ℕ) → OperatorFound letter s at before (Ok end) found → OperatorFits codes rules found → row' ≡ set found 0 (seen + 1) →
+      OperatorRead letter s at seen codes rules (Ok end) row'
+  operator_held end before found row' o f e = record { before = before; found = found; line = o; fits = f; held = e }

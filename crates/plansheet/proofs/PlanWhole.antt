@@ -30,16 +30,21 @@ use Rattle.plansheet.specs.PlanSheets.{PlanSheet, FactLines, settings_of, operat
 use Rattle.plansheet.specs.ReadRows.{number_rows, rows_by}
 use Rattle.plansheet.specs.ReadPlans.{then_run, tree_run, head_line, facts_by, FactsHeld, TreeHeld, TreeLeft}
 use Rattle.plansheet.specs.PlanRooms.{RoomFor, PlanRooms, plan_by, PlanHeld}
-use Rattle.plansheet.specs.declared.tree.Rows.TheVariants as R
-use Rattle.plansheet.specs.declared.lines.Facts.TheVariants as F
-use Rattle.plansheet.specs.declared.plan.Plan.TheVariants as W
+use Rattle.plansheet.specs.declared.tree.RowsRead.{RowsRead}
+use Rattle.std.specs.Prelude.{Ok, Err}
+use Rattle.refusals.specs.declared.Refused.{Refused}
+use Rattle.sheet.specs.SheetLines.{refused_on}
+use Rattle.plansheet.specs.declared.plan.Plan as P
 use Rattle.plansheet.proofs.FineLines.{operators_made, two_small}
-use Rattle.plansheet.proofs.Singles.{turned_run}
+use Rattle.plansheet.proofs.Singles.{TurnedBack, turned_run}
 use Rattle.plansheet.proofs.OneTree.{one_tree, few_children, few_lines}
 use Rattle.plansheet.proofs.PlanFitted.{worked_rooms, facts_by_lem}
 use Rattle.plansheet.proofs.RunBytes.{size_parts, run_left, tree_bytes, tree_room}
 
 -- ---- the judgement
+
+abbrev held_of : Settings → ℕ → ℕ → ℕ → ℕ → P.Plan
+held_of s lines worked children n = record { settings = s; lines = lines; worked = worked; children = children; rows = n }
 
 checked_at : (t : Bool) (s : Settings) (x : Settings) → Some x ≡ cond t (Some s) None → (t ≡ true) × (x ≡ s)
 checked_at true s x e = (refl, cc)
@@ -58,18 +63,18 @@ unfolding checked
 settings_out s e = out_at (settings_fit s) s e
 
 module _ (s : Settings) (t : Plan) (g : FactLines) where
-  pub judge_seven : settings_fit s ≡ false → W.Refused 7 0 ≡ plan_by (judged_plan (plan_sheet s t g))
+  pub judge_seven : settings_fit s ≡ false → Err (refused_on 7 0) ≡ plan_by (judged_plan (plan_sheet s t g))
   judge_seven e = rw e
 
   module _ (e : settings_fit s ≡ true) where
-    pub judge_eight : facts_fit s (facts_of g) t ≡ false → W.Refused 8 0 ≡ plan_by (judged_plan (plan_sheet s t g))
+    pub judge_eight : facts_fit s (facts_of g) t ≡ false → Err (refused_on 8 0) ≡ plan_by (judged_plan (plan_sheet s t g))
     judge_eight f = rw (e, f)
 
     pub judge_held :
         facts_fit s (facts_of g) t ≡ true → (x : Settings) (lines worked children n : ℕ) → x ≡ s → lines ≡ length (flatten t) → worked ≡ length (removed t) → children ≡ child_count t →
-        n ≡ length g.rows → W.Held x lines worked children n ≡ plan_by (judged_plan (plan_sheet s t g))
+        n ≡ length g.rows → Ok (held_of x lines worked children n) ≡ plan_by (judged_plan (plan_sheet s t g))
     judge_held f x lines worked children n a b c d h =
-        rw (e, f) (λ i. W.Held (a i) (b i) (c i) (d i) ((h ∙ sym (length-map g.rows (λ fs. fact_row (values fs)))) i))
+        rw (e, f) (λ i. Ok (held_of (a i) (b i) (c i) (d i) ((h ∙ sym (length-map g.rows (λ fs. fact_row (values fs)))) i)))
 
   judged_at : (a b : Bool) (x : PlanSheet) → cond a (cond b (sheet (plan_sheet s t g)) (turned 8 0)) (turned 7 0) ≡ sheet x → plan_sheet s t g ≡ x
   judged_at true true x e = cc
@@ -80,8 +85,8 @@ module _ (s : Settings) (t : Plan) (g : FactLines) where
   judged_is x e = judged_at (settings_fit s) (facts_fit s (facts_of g) t) x e
 
 -- a refusal holds no sheet
-pub not_held : (n l : ℕ) (x : PlanSheet) → W.Refused n l ≡ plan_by (sheet x) → ⊥
-not_held n l x e = let z : ◌≡◌ {A = ℕ} 0 1 = cc in omega arith
+pub not_held : (w : Refused) (x : PlanSheet) → Err w ≡ plan_by (sheet x) → ⊥
+not_held w x e = let z : ◌≡◌ {A = ℕ} 0 1 = cc in omega arith
 
 -- ---- the facts that were read
 
@@ -90,16 +95,20 @@ pub record FactsRead (r : Reading FactLines) (n : ℕ) : Type 0 where
   pub is : r ≡ sheet lines
   pub counted : n ≡ length lines.rows
 
-pub facts_read : (r : Reading FactLines) (n : ℕ) → F.Read n ≡ facts_by r → FactsRead r n
+pub facts_read : (r : Reading FactLines) (n : ℕ) → Ok n ≡ facts_by r → FactsRead r n
 facts_read (turned m l) n e = let z : ◌≡◌ {A = ℕ} 0 1 = cc in absurd (omega arith)
 facts_read (sheet g) n e = record { lines = g; is = refl; counted = cc }
 
-pub facts_turned : (r : Reading FactLines) (n l : ℕ) → F.Refused n l ≡ facts_by r → r ≡ turned n l
-facts_turned (turned m k) n l e =
-    let a : m ≡ n = cc in
-    let b : k ≡ l = cc in
-    rw (a, b)
-facts_turned (sheet g) n l e = let z : ◌≡◌ {A = ℕ} 0 1 = cc in absurd (omega arith)
+-- a reading that was turned back
+pub record FactsTurned (r : Reading FactLines) (w : Refused) : Type 0 where
+  pub number : ℕ
+  pub line : ℕ
+  pub is : r ≡ turned number line
+  pub on : w ≡ refused_on number line
+
+pub facts_turned : (r : Reading FactLines) (w : Refused) → Err w ≡ facts_by r → FactsTurned r w
+facts_turned (turned m k) w e = record { number = m; line = k; is = refl; on = cc }
+facts_turned (sheet g) w e = let z : ◌≡◌ {A = ℕ} 0 1 = cc in absurd (omega arith)
 
 sets_front : {A : Type 0} (d xs : List A) → length xs ≤ length d → sets d 0 xs ≡ xs ++ drop (length xs) d
 sets_front d xs h = let z : 0 + length xs ≡ length xs = omega arith in sets-eq xs d 0 (omega arith) ∙ rw z
@@ -282,22 +291,20 @@ tree_of s head head' rows rows' rs ls l p a b e h = record {
 }
 
 tree_at_lem :
-    (s head head' : List ℕ) (rows rows' : List (List ℕ)) (count p l : ℕ) (run : Run) → tree_run s ≡ run → 9 ≤ length head → RoomFor 256 17 (length s) (length rows) →
-    R.Read count p l ≡ rows_by run → TreeLeft s run head head' rows rows' → TreeRead s head head' rows rows' count p l
-tree_at_lem s head head' rows rows' count p l (refused n m) t a b e h = let z : ◌≡◌ {A = ℕ} 0 1 = cc in absurd (omega arith)
-tree_at_lem s head head' rows rows' count p l (read rs ls m q) t a b e h =
-    let e₀ : length rs ≡ count = cc in
-    let e₁ : q ≡ p = cc in
-    let e₂ : m ≡ l = cc in
-    rw (e₀, e₁, e₂) at (tree_of s head head' rows rows' rs ls m q a b t h)
+    (s head head' : List ℕ) (rows rows' : List (List ℕ)) (w : RowsRead) (run : Run) → tree_run s ≡ run → 9 ≤ length head → RoomFor 256 17 (length s) (length rows) →
+    Ok w ≡ rows_by run → TreeLeft s run head head' rows rows' → TreeRead s head head' rows rows' w.count w.next w.line
+tree_at_lem s head head' rows rows' w (refused n m) t a b e h = let z : ◌≡◌ {A = ℕ} 0 1 = cc in absurd (omega arith)
+tree_at_lem s head head' rows rows' w (read rs ls m q) t a b e h =
+    let is : w ≡ record { count = length rs; next = q; line = m } = cc in
+    rw is (tree_of s head head' rows rows' rs ls m q a b t h)
 
 pub tree_read :
-    (s head head' : List ℕ) (rows rows' : List (List ℕ)) (count p l : ℕ) → 9 ≤ length head → RoomFor 256 17 (length s) (length rows) →
-    R.Read count p l ≡ rows_by (tree_run s) → TreeLeft s (tree_run s) head head' rows rows' → TreeRead s head head' rows rows' count p l
-tree_read s head head' rows rows' count p l a b e h = tree_at_lem s head head' rows rows' count p l (tree_run s) refl a b e h
+    (s head head' : List ℕ) (rows rows' : List (List ℕ)) (w : RowsRead) → 9 ≤ length head → RoomFor 256 17 (length s) (length rows) →
+    Ok w ≡ rows_by (tree_run s) → TreeLeft s (tree_run s) head head' rows rows' → TreeRead s head head' rows rows' w.count w.next w.line
+tree_read s head head' rows rows' w a b e h = tree_at_lem s head head' rows rows' w (tree_run s) refl a b e h
 
-pub tree_turned : (s : List ℕ) (n l : ℕ) → R.Refused n l ≡ rows_by (tree_run s) → tree_run s ≡ refused n l
-tree_turned s n l e = turned_run (tree_run s) n l e
+pub tree_turned : (s : List ℕ) (w : Refused) → Err w ≡ rows_by (tree_run s) → TurnedBack (tree_run s) w
+tree_turned s w e = turned_run (tree_run s) w e
 
 pub plan_turned : (s : List ℕ) (n l : ℕ) → tree_run s ≡ refused n l → read_plan s ≡ turned n l
 plan_turned s n l e = plan_by_tree s ∙ rw e

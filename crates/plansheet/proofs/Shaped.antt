@@ -26,6 +26,8 @@ use Rattle.linekinds.specs.Lines.{Kind, plain, most_bytes, most_entries, fields_
 use Rattle.linekinds.specs.KeyLines.{at, values}
 use Rattle.linekinds.specs.Reading.{row_values, read_by}
 use Rattle.linekinds.specs.declared.line.Read.TheVariants.{Line, Refused}
+use Rattle.refusals.specs.Refusals.{refusal_of}
+use Rattle.refusals.specs.declared.Refusal.TheVariants.{WrongLine, UndefinedCode}
 use Rattle.linekinds.proofs.ReadLines.{row_values_lem}
 use Rattle.plansheet.specs.Shapes.{Shape, plain_shape, over_any, fixed_line, coming_line, tree_line, exchange_limited, rule_fits, most_children}
 use Rattle.plansheet.specs.ReadRows.{bound_of, Bounded, shape_of, misfit_number, shape_number, masks_number, tree_number, value_at, state_at, fields_row}
@@ -198,16 +200,14 @@ module _ (bs : List (List ℕ)) (bounded : Bounded bs) (k : Kind) (w : k.width �
     refused_at Unfit e = let f = failed bs next x e in rw f.is (number_fixed k w f.fs seen next ∙ rw (rows_fit f.fs, f.outside))
     refused_at Wrong e = rw (judged_none bs next x e)
 
-    pub line_refused : (m : Misfit) → Err m ≡ judged bs next x → (n : ℕ) → n ≡ misfit_number m → Refused n ≡ read_by (line_number k seen next x) next x
-    line_refused m e n is =
-        let q : line_number k seen next x ≡ n = refused_at m e ∙ sym is in
-        rw (q, ne_eqb n 0 (λ z. refuses m (sym is ∙ z)))
+    pub line_refused : (m : Misfit) → Err m ≡ judged bs next x → Refused (refusal_of (misfit_number m)) ≡ read_by (line_number k seen next x) next x
+    line_refused m e = rw (refused_at m e, ne_eqb (misfit_number m) 0 (refuses m))
 
     module _ (j : Judged) (p : Passed bs next x j) (n : ℕ) (is : n ≡ codes_number k seen next p.fs) where
       coded : line_number k seen next x ≡ n
       coded = ap (line_number k seen next) p.is ∙ number_fixed k w p.fs seen next ∙ rw (rows_fit p.fs, p.within) (sym is)
 
-      pub line_turned : (n ≡ 0 → ⊥) → Refused n ≡ read_by (line_number k seen next x) next x
+      pub line_turned : (n ≡ 0 → ⊥) → Refused (refusal_of n) ≡ read_by (line_number k seen next x) next x
       line_turned h = rw (coded, ne_eqb n 0 h)
 
       pub line_read_lem : n ≡ 0 → Line j.count j.next ≡ read_by (line_number k seen next x) next x
@@ -307,7 +307,7 @@ module _ (sets count worst largest next : ℕ) where
 
 -- what `line_at` answered of a Y line
 module _ (n seen next : ℕ) (x : Option (List Field)) where
-  pub masks_wrong : None ≡ line_read next x → Refused 1 ≡ read_by (line_number (mask_line n) seen next x) next x
+  pub masks_wrong : None ≡ line_read next x → Refused WrongLine ≡ read_by (line_number (mask_line n) seen next x) next x
   unfolding line_number
   masks_wrong e = rw (wrong_none next x e)
 
@@ -317,7 +317,7 @@ module _ (n seen next : ℕ) (x : Option (List Field)) where
         ap (line_number (mask_line n) seen next) o.is ∙ masks_line n seen next o.fs
         ∙ sym (is ∙ (λ i. masks_number (s i) (o.counts i) (o.states i) (o.values i) (o.goes i)))
 
-    pub masks_turned : (m ≡ 0 → ⊥) → Refused m ≡ read_by (line_number (mask_line n) seen next x) next x
+    pub masks_turned : (m ≡ 0 → ⊥) → Refused (refusal_of m) ≡ read_by (line_number (mask_line n) seen next x) next x
     masks_turned h = rw (masks_is, ne_eqb m 0 h)
 
     pub masks_read : m ≡ 0 → Line f.count f.next ≡ read_by (line_number (mask_line n) seen next x) next x
@@ -356,7 +356,7 @@ module _ (letter width : ℕ) (codes : List ℕ) where
 
   -- what `line_at` answered of such a line
   module _ (seen next : ℕ) (x : Option (List Field)) where
-    pub plain_wrong : None ≡ line_read next x → Refused 1 ≡ read_by (line_number P seen next x) next x
+    pub plain_wrong : None ≡ line_read next x → Refused WrongLine ≡ read_by (line_number P seen next x) next x
     unfolding line_number
     plain_wrong e = rw (wrong_none next x e)
 
@@ -367,13 +367,13 @@ module _ (letter width : ℕ) (codes : List ℕ) where
           ∙ plain_at (eqb (length o.fs) width && (leb (greatest 0 (map state_of o.fs)) 0 && leb (greatest 0 (map value_of o.fs)) 65535)) (ltb most_bytes next) (over_any codes (values o.fs))
           ∙ ap (λ (k : ℕ). cond (eqb k 0) (cond (over_any codes (values o.fs)) 4 0) k) (sym (is ∙ (λ i. masks_number width (o.counts i) (o.states i) (o.values i) (o.goes i))))
 
-      pub plain_turned : (m ≡ 0 → ⊥) → Refused m ≡ read_by (line_number P seen next x) next x
+      pub plain_turned : (m ≡ 0 → ⊥) → Refused (refusal_of m) ≡ read_by (line_number P seen next x) next x
       plain_turned h =
           let q : line_number P seen next x ≡ m = plain_is ∙ rw (ne_eqb m 0 h) in
           rw (q, ne_eqb m 0 h)
 
       module _ (z : m ≡ 0) where
-        pub plain_coded : over_any codes (values o.fs) ≡ true → Refused 4 ≡ read_by (line_number P seen next x) next x
+        pub plain_coded : over_any codes (values o.fs) ≡ true → Refused UndefinedCode ≡ read_by (line_number P seen next x) next x
         plain_coded h =
             let q : line_number P seen next x ≡ 4 = plain_is ∙ rw (eq-eqb m 0 z, h) in
             rw q

@@ -4,7 +4,7 @@ use mathlib.Core.Path.{◌≡◌, refl, sym, ap, ◌∙◌}
 use mathlib.Core.List.{List, [], ◌∷◌, map, tail}
 use mathlib.Core.Option.{Option, some}
 use mathlib.Core.Bool.{Bool, true, false, cond}
-use Prim.Native.Nat.{ℕ, suc, ◌-◌, ◌≤◌, ◌<◌}
+use Prim.Native.Nat.{ℕ, suc, ◌≤◌, ◌<◌}
 use native.Mathlib.Omega.{arith}
 use lib.Dec.{eqb}
 use lib.ListN.{length, drop, take, length-drop, length-map, drop_of_length-le}
@@ -22,7 +22,11 @@ use Rattle.linekinds.specs.declared.line.Read.TheVariants as L
 use Rattle.linekinds.proofs.ReadLines.{row_values_lem}
 use Rattle.plansheet.specs.Shapes.{Shape, fixed_line}
 use Rattle.plansheet.specs.ReadRows.{bound_of, rows_by, run_from, Left, Leaves}
-use Rattle.plansheet.specs.declared.tree.Rows.TheVariants as R
+use Rattle.plansheet.specs.declared.tree.RowsRead.{RowsRead}
+use Rattle.std.specs.Prelude.{Ok, Err}
+use Rattle.refusals.specs.declared.Refusal.{Refusal}
+use Rattle.refusals.specs.declared.Refused.{Refused}
+use Rattle.sheet.specs.SheetLines.{refused_on}
 use Rattle.plansheet.proofs.Turns.{Taken, turned, rows_line, rows_done}
 use Rattle.plansheet.proofs.FineLines.{fine_long, fine_rows}
 
@@ -41,10 +45,10 @@ module _ (h : Shape) (s : List ℕ) (n p : ℕ) where
   first_here : first_of h.letter (parts 10 (drop p s)) ≡ here
   first_here = sym (bridge h.letter s p)
 
-  pub single_refused : (m : ℕ) → L.Refused m ≡ read_by (line_number (fixed_line h) 0 (after s p) here) (after s p) here → run_from (fixed_line h) 1 s n p ≡ refused m n
+  pub single_refused : (m : Refusal) → L.Refused m ≡ read_by (line_number (fixed_line h) 0 (after s p) here) (after s p) here → run_from (fixed_line h) 1 s n p ≡ refused (line_number (fixed_line h) 0 (after s p) here) n
   single_refused m e =
       let q = turned (fixed_line h) 0 (after s p) here m e in
-      rw (rows_line (fixed_line h) 1 0 n p (parts 10 (drop p s)) here first_here refl, after_next s p, q.0, ne_eqb m 0 q.1)
+      rw (rows_line (fixed_line h) 1 0 n p (parts 10 (drop p s)) here first_here refl, after_next s p, ne_eqb (line_number (fixed_line h) 0 (after s p) here) 0 q.1)
 
   module _ (count next : ℕ) (t : Taken (fixed_line h) 0 (after s p) here count next) where
     pub single_read : run_from (fixed_line h) 1 s n p ≡ read (t.fs ∷ []) (parts 10 (drop next s)) (suc n) next
@@ -62,17 +66,17 @@ module _ (h : Shape) (s : List ℕ) (n p : ℕ) where
 
     pub single_rows :
         (out out' : List (List ℕ)) → out' ≡ stored_in out (line_fields h.letter (line (drop p s))) → length h.heads ≤ length out →
-        take (count - 0) out' ≡ map row t.fs
+        take count out' ≡ map row t.fs
     single_rows out out' stored room =
         fine_rows (map bound_row h.heads) (fixed_line h) refl (sym (bounds_again h.heads)) 0 (after s p) t.fs t.zero h.letter s p t.is out out' stored
         (rw (length-map h.heads bound_row) room) count t.counts
 
     pub single_values :
         (out out' : List (List ℕ)) → out' ≡ stored_in out (line_fields h.letter (line (drop p s))) → length h.heads ≤ length out →
-        row_values (take (count - 0) out') ≡ values t.fs
+        row_values (take count out') ≡ values t.fs
     single_values out out' stored room = ap row_values (single_rows out out' stored room) ∙ row_values_lem t.fs
 
-    pub single_part : (out out' : List (List ℕ)) → out' ≡ stored_in out (line_fields h.letter (line (drop p s))) → length h.heads ≤ length out → length (take (count - 0) out') ≡ length h.heads
+    pub single_part : (out out' : List (List ℕ)) → out' ≡ stored_in out (line_fields h.letter (line (drop p s))) → length h.heads ≤ length out → length (take count out') ≡ length h.heads
     single_part out out' stored room = ap length (single_rows out out' stored room) ∙ length-map t.fs row ∙ sym t.counts ∙ single_long
 
 -- ---- what follows the last line
@@ -119,17 +123,20 @@ pub record Opened (f : List (List Field) → List (List ℕ)) (s : List ℕ) (ru
   pub leaves : Leaves f s rs ls l p out out'
 
 pub opened :
-    (f : List (List Field) → List (List ℕ)) (s : List ℕ) (run : Run) (out out' : List (List ℕ)) (count p l : ℕ) →
-    R.Read count p l ≡ rows_by run → Left f s run out out' → Opened f s run out out' count p l
-opened f s (refused n m) out out' count p l e h = let z : ◌≡◌ {A = ℕ} 0 1 = cc in absurd (omega arith)
-opened f s (read rs ls m q) out out' count p l e h =
-    let e₁ : p ≡ q = cc in
-    let e₂ : l ≡ m = cc in
-    record { rs = rs; ls = ls; is = rw (e₁, e₂); counts = cc; leaves = rw (e₁, e₂) h }
+    (f : List (List Field) → List (List ℕ)) (s : List ℕ) (run : Run) (out out' : List (List ℕ)) (w : RowsRead) →
+    Ok w ≡ rows_by run → Left f s run out out' → Opened f s run out out' w.count w.next w.line
+opened f s (refused n m) out out' w e h = let z : ◌≡◌ {A = ℕ} 0 1 = cc in absurd (omega arith)
+opened f s (read rs ls m q) out out' w e h =
+    let is : w ≡ record { count = length rs; next = q; line = m } = cc in
+    record { rs = rs; ls = ls; is = rw is refl; counts = ap (λ (v : RowsRead). v.count) is; leaves = rw is h }
 
-pub turned_run : (run : Run) (n l : ℕ) → R.Refused n l ≡ rows_by run → run ≡ refused n l
-turned_run (refused m k) n l e =
-    let e₁ : m ≡ n = cc in
-    let e₂ : k ≡ l = cc in
-    rw (e₁, e₂)
-turned_run (read rs ls m q) n l e = let z : ◌≡◌ {A = ℕ} 0 1 = cc in absurd (omega arith)
+-- a run that was turned back
+pub record TurnedBack (run : Run) (w : Refused) : Type 0 where
+  pub number : ℕ
+  pub line : ℕ
+  pub is : run ≡ refused number line
+  pub on : w ≡ refused_on number line
+
+pub turned_run : (run : Run) (w : Refused) → Err w ≡ rows_by run → TurnedBack run w
+turned_run (refused m k) w e = record { number = m; line = k; is = refl; on = cc }
+turned_run (read rs ls m q) w e = let z : ◌≡◌ {A = ℕ} 0 1 = cc in absurd (omega arith)

@@ -18,10 +18,17 @@ use Rattle.text.proofs.Places.{bridge, after_next, after_within, after_lines}
 use Rattle.linekinds.specs.Lines.{Kind, Run, read, refused, before, behind, line_number, fields_of, rows_of}
 use Rattle.linekinds.specs.Reading.{read_by}
 use Rattle.linekinds.specs.declared.line.Read.TheVariants as L
-use Rattle.plansheet.specs.declared.tree.Rows.TheVariants as R
+use Rattle.std.specs.Prelude.{Ok, Err}
+use Rattle.refusals.specs.declared.Refusal.{Refusal}
+use Rattle.refusals.specs.declared.Refused.{Refused}
+use Rattle.refusals.specs.Refusals.{refusal_of}
+use Rattle.sheet.specs.SheetLines.{refused_on}
 use Rattle.plansheet.specs.ReadRows.{rows_by, Left}
 
 -- ---- what the reader of a line answered
+
+abbrev pub on : Refusal → ℕ → Refused
+on r l = record { refusal = r; line = l }
 
 pub record Taken (k : Kind) (seen next : ℕ) (x : Option (List Field)) (count after : ℕ) : Type 0 where
   pub fs : List Field
@@ -33,7 +40,7 @@ pub record Taken (k : Kind) (seen next : ℕ) (x : Option (List Field)) (count a
 module _ (k : Kind) (seen next : ℕ) where
   taken_at :
       (x : Option (List Field)) (t : Bool) (count after : ℕ) → eqb (line_number k seen next x) 0 ≡ t →
-      L.Line count after ≡ cond t (L.Line (length (fields_of x)) next) (L.Refused (line_number k seen next x)) → Taken k seen next x count after
+      L.Line count after ≡ cond t (L.Line (length (fields_of x)) next) (L.Refused (refusal_of (line_number k seen next x))) → Taken k seen next x count after
   unfolding line_number
   taken_at none true count after t e = let z : ◌≡◌ {A = ℕ} 1 0 = eqb-true 1 0 t in absurd (omega arith)
   taken_at (some fs) true count after t e = record { fs = fs; is = refl; zero = eqb-true (line_number k seen next (some fs)) 0 t; counts = cc; goes = cc }
@@ -43,13 +50,17 @@ module _ (k : Kind) (seen next : ℕ) where
   taken x count after e = taken_at x (eqb (line_number k seen next x) 0) count after refl e
 
   turned_at :
-      (x : Option (List Field)) (t : Bool) (m : ℕ) → eqb (line_number k seen next x) 0 ≡ t →
-      L.Refused m ≡ cond t (L.Line (length (fields_of x)) next) (L.Refused (line_number k seen next x)) → (line_number k seen next x ≡ m) × (m ≡ 0 → ⊥)
+      (x : Option (List Field)) (t : Bool) (m : Refusal) → eqb (line_number k seen next x) 0 ≡ t →
+      L.Refused m ≡ cond t (L.Line (length (fields_of x)) next) (L.Refused (refusal_of (line_number k seen next x))) → (m ≡ refusal_of (line_number k seen next x)) × (line_number k seen next x ≡ 0 → ⊥)
   turned_at x true m t e = let z : ◌≡◌ {A = ℕ} 0 1 = cc in absurd (omega arith)
-  turned_at x false m t e = let q : line_number k seen next x ≡ m = cc in (q, λ z. eqb-false (line_number k seen next x) 0 t (q ∙ z))
+  turned_at x false m t e = (cc, eqb-false (line_number k seen next x) 0 t)
 
-  pub turned : (x : Option (List Field)) (m : ℕ) → L.Refused m ≡ read_by (line_number k seen next x) next x → (line_number k seen next x ≡ m) × (m ≡ 0 → ⊥)
+  pub turned : (x : Option (List Field)) (m : Refusal) → L.Refused m ≡ read_by (line_number k seen next x) next x → (m ≡ refusal_of (line_number k seen next x)) × (line_number k seen next x ≡ 0 → ⊥)
   turned x m e = turned_at x (eqb (line_number k seen next x) 0) m refl e
+
+  -- its refusal, on a line
+  pub turned_on : (x : Option (List Field)) (m : Refusal) → L.Refused m ≡ read_by (line_number k seen next x) next x → (l : ℕ) → on m l ≡ refused_on (line_number k seen next x) l
+  turned_on x m e l = ap (λ (r : Refusal). on r l) (turned x m e).0
 
 -- ---- the definition at a line, whatever the lines are
 
@@ -129,20 +140,21 @@ module _ (f : List (List Field) → List (List ℕ)) (one : ℕ → List Field �
     pub head_long : length out ≡ length out₀
     head_long = ap length h.stored ∙ length-sets out₀ 0 (f h.rows)
 
-    pub head_done : k.stops owed here ≡ true → (R.Read n p l ≡ rows_by whole) × Left f s whole out₀ out
+    pub head_done : k.stops owed here ≡ true → (Ok (record { count = n; next = p; line = l }) ≡ rows_by whole) × Left f s whole out₀ out
     head_done e =
         let q : from k s owed n l p ≡ read [] (parts 10 (drop p s)) l p = rows_done k owed n l p (parts 10 (drop p s)) here first_here e in
         let d : whole ≡ read h.rows (parts 10 (drop p s)) l p = sym h.answer ∙ rw (q, append-nil h.rows) in
         rw d (rw (← h.counted), record { stored = h.stored; lines = refl; within = h.within; numbers = h.lines })
 
     pub head_refused :
-        k.stops owed here ≡ false → (m : ℕ) → L.Refused m ≡ read_by (line_number k n (after s p) here) (after s p) here →
-        (out' : List (List ℕ)) → length out' ≡ length out₀ → (R.Refused m l ≡ rows_by whole) × Left f s whole out₀ out'
+        k.stops owed here ≡ false → (m : Refusal) → L.Refused m ≡ read_by (line_number k n (after s p) here) (after s p) here →
+        (out' : List (List ℕ)) → length out' ≡ length out₀ → (Err (on m l) ≡ rows_by whole) × Left f s whole out₀ out'
     head_refused g m e out' o =
         let q = turned k n (after s p) here m e in
-        let r : from k s owed n l p ≡ refused m l = rw (rows_line k owed n l p (parts 10 (drop p s)) here first_here g, after_next s p, q.0, ne_eqb m 0 q.1) in
-        let d : whole ≡ refused m l = sym h.answer ∙ rw r in
-        rw d (refl, o)
+        let w = line_number k n (after s p) here in
+        let r : from k s owed n l p ≡ refused w l = rw (rows_line k owed n l p (parts 10 (drop p s)) here first_here g, after_next s p, ne_eqb w 0 q.1) in
+        let d : whole ≡ refused w l = sym h.answer ∙ rw r in
+        rw d (ap Err (turned_on k n (after s p) here m e l), o)
 
     module _ (count next : ℕ) (t : Taken k n (after s p) here count next) where
       pub head_next : (p < next) × (next ≤ length s)

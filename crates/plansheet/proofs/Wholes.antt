@@ -15,6 +15,7 @@ use Rattle.linekinds.specs.Lines.{Run, read, refused, line_number, fields_of, ro
 use Rattle.linekinds.specs.KeyLines.{values}
 use Rattle.linekinds.specs.Reading.{read_by}
 use Rattle.linekinds.specs.declared.line.Read.TheVariants as L
+use Rattle.refusals.specs.declared.Refusal.{Refusal}
 use Rattle.sheet.specs.KeySheets.{Reading, sheet, turned, head_of}
 use Rattle.plansheet.specs.PlanLines.{settings_shape, settings_line, node_shape, node_line, child_line, fact_line, mask_shape, mask_line, plan_line, two_to}
 use Rattle.plansheet.specs.PlanSheets.{FactLines, operator_rows, with_rows, read_masks, read_children, read_facts}
@@ -33,7 +34,7 @@ fact_lines_of b fs xs y = record { node = b; children = fs; rows = xs; masks = y
 -- ---- Y
 
 module _ (s : List ℕ) (n l p : ℕ) (b : List Field) (fs xs : List (List Field)) where
-  pub masks_back : (m : ℕ) → L.Refused m ≡ read_by (line_number (mask_line n) 0 (after s p) (line_at 89 s p)) (after s p) (line_at 89 s p) → read_masks b fs xs n l p (lines_at s p) ≡ turned m l
+  pub masks_back : (m : Refusal) → L.Refused m ≡ read_by (line_number (mask_line n) 0 (after s p) (line_at 89 s p)) (after s p) (line_at 89 s p) → read_masks b fs xs n l p (lines_at s p) ≡ turned (line_number (mask_line n) 0 (after s p) (line_at 89 s p)) l
   unfolding read_masks
   masks_back m e = rw (single_refused (mask_shape n) s l p m e)
 
@@ -67,7 +68,7 @@ module _ (s : List ℕ) (n l p : ℕ) (b : List Field) where
 -- ---- B
 
 module _ (s : List ℕ) (n l p : ℕ) where
-  pub node_back : (m : ℕ) → L.Refused m ≡ read_by (line_number node_line 0 (after s p) (line_at 66 s p)) (after s p) (line_at 66 s p) → read_facts n l p (lines_at s p) ≡ turned m l
+  pub node_back : (m : Refusal) → L.Refused m ≡ read_by (line_number node_line 0 (after s p) (line_at 66 s p)) (after s p) (line_at 66 s p) → read_facts n l p (lines_at s p) ≡ turned (line_number node_line 0 (after s p) (line_at 66 s p)) l
   unfolding read_facts
   node_back m e = rw (single_refused node_shape s l p m e)
 
@@ -80,7 +81,7 @@ module _ (s : List ℕ) (n l p : ℕ) where
 -- ---- D
 
 module _ (s : List ℕ) where
-  pub head_back : (m : ℕ) → L.Refused m ≡ read_by (line_number settings_line 0 (after s 0) (line_at 68 s 0)) (after s 0) (line_at 68 s 0) → tree_run s ≡ refused m 1
+  pub head_back : (m : Refusal) → L.Refused m ≡ read_by (line_number settings_line 0 (after s 0) (line_at 68 s 0)) (after s 0) (line_at 68 s 0) → tree_run s ≡ refused (line_number settings_line 0 (after s 0) (line_at 68 s 0)) 1
   unfolding tree_run
   head_back m e = rw (single_refused settings_shape s 1 0 m e)
 

@@ -1,16 +1,17 @@
 -- Tree lines that are read straight into their rows: the descriptions for which a line of plain numbers without a limit is so read, and what is left.
-use Rattle.std.specs.Prelude.{ℕ, ◌+◌, ◌≤◌, ◌<◌, ◌≡◌, true, cond, List, [], eqb, length, get_or, set}
+use Rattle.std.specs.Prelude.{ℕ, ◌+◌, ◌≤◌, ◌<◌, ◌≡◌, true, cond, List, [], eqb, length, get_or, set, Result, Ok, Err}
 use Rattle.std.proofs.Math.Option.{Option}
 use Rattle.text.specs.declared.field.Field.{Field}
 use Rattle.text.specs.Text.{line_at, after}
 use Rattle.linekinds.specs.Lines.{Kind, line_number, fields_of}
 use Rattle.numberlines.specs.NumberLines.{OperatorLine}
-use Rattle.numberlines.specs.declared.row.Plain.{Plain}
-use Rattle.numberlines.specs.declared.row.Plain.TheVariants as P
+use Rattle.numberlines.specs.declared.row.Unread.{Unread}
+use Rattle.numberlines.specs.declared.row.Unread.TheVariants.{Unusual, Other}
 use Rattle.plansheet.specs.Shapes.{rule_fits, most_children, children_at}
 use Rattle.plansheet.specs.PlanSheets.{operator_row}
 use Rattle.plansheet.specs.declared.tree.TreeRow.{TreeRow}
-use Rattle.plansheet.specs.declared.tree.TreeRow.TheVariants as T
+use Rattle.refusals.specs.declared.Refusal.{Refusal}
+use Rattle.refusals.specs.Refusals.{refusal_of}
 
 -- each bound's largest number is at least that of a plain field
 abbrev pub Wide : List (List ℕ) → Type 0
@@ -50,10 +51,10 @@ pub record OperatorHeld (letter : ℕ) (s : List ℕ) (at seen : ℕ) (codes : L
   pub held : row ≡ set found 0 (seen + 1)
 
 -- of something unusual nothing is said
-abbrev pub OperatorRead : ℕ → List ℕ → ℕ → ℕ → List ℕ → List (List ℕ) → Plain → List ℕ → Type 0
-OperatorRead letter s at seen codes rules (P.Line end) row = OperatorHeld letter s at seen codes rules end row
-OperatorRead letter s at seen codes rules P.Unusual row = Unit {0}
-OperatorRead letter s at seen codes rules P.Other row = Unit {0}
+abbrev pub OperatorRead : ℕ → List ℕ → ℕ → ℕ → List ℕ → List (List ℕ) → Result ℕ Unread → List ℕ → Type 0
+OperatorRead letter s at seen codes rules (Ok end) row = OperatorHeld letter s at seen codes rules end row
+OperatorRead letter s at seen codes rules (Err Unusual) row = Unit {0}
+OperatorRead letter s at seen codes rules (Err Other) row = Unit {0}
 
 -- ---- a tree line as a row
 
@@ -62,8 +63,8 @@ abbrev pub number_at : Kind → ℕ → List ℕ → ℕ → ℕ
 number_at k seen s at = line_number k seen (after s at) (line_at k.letter s at)
 
 -- its children with the place after the line, or the lowest number that turns it back
-abbrev pub tree_row_by : ℕ → ℕ → Option (List Field) → TreeRow
-tree_row_by n next x = cond (eqb n 0) (T.Row (children_at (fields_of x)) next) (T.Refused n)
+abbrev pub tree_row_by : ℕ → ℕ → Option (List Field) → Result TreeRow Refusal
+tree_row_by n next x = cond (eqb n 0) (Ok (record { children = children_at (fields_of x); next = next })) (Err (refusal_of n))
 
 -- a line that is not turned back is stored, where there is room
 abbrev pub RowStored : Kind → ℕ → List ℕ → ℕ → List (List ℕ) → List (List ℕ) → Type 0

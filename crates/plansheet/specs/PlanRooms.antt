@@ -1,5 +1,5 @@
 -- A D sheet as it is held in the rooms lent, and what reading one answers.
-use Rattle.std.specs.Prelude.{◌≡◌, ℕ, ◌*◌, ◌≤◌, ◌<◌, List, ◌++◌, map, length, take, ◌⊎◌}
+use Rattle.std.specs.Prelude.{◌≡◌, ℕ, ◌*◌, ◌≤◌, ◌<◌, List, ◌++◌, map, length, take, ◌⊎◌, Result, Ok, Err}
 use Rattle.exchange.specs.Trees.{Plan}
 use Rattle.exchange.specs.Rows.{flatten}
 use Rattle.exchange.specs.Worked.{removed}
@@ -10,12 +10,9 @@ use Rattle.sheet.specs.KeySheets.{Reading, sheet, turned}
 use Rattle.plansheet.specs.PlanLines.{two_to}
 use Rattle.plansheet.specs.PlanSheets.{PlanSheet, FactLines, child_count}
 use Rattle.plansheet.specs.ReadRows.{number_rows}
-use Rattle.plansheet.specs.declared.tree.Rows.{Rows}
-use Rattle.plansheet.specs.declared.tree.Rows.TheVariants as R
-use Rattle.plansheet.specs.declared.lines.Facts.{Facts}
-use Rattle.plansheet.specs.declared.lines.Facts.TheVariants as F
+use Rattle.refusals.specs.declared.Refused.{Refused}
+use Rattle.sheet.specs.SheetLines.{refused_on}
 use Rattle.plansheet.specs.declared.plan.Plan as P
-use Rattle.plansheet.specs.declared.plan.Plan.TheVariants as W
 
 -- room for the most rows that there may be, or for as many as so many bytes can be where each takes `width` of them
 abbrev pub RoomFor : ℕ → ℕ → ℕ → ℕ → Type 0
@@ -51,18 +48,9 @@ pub record TreeStands (rows : List (List ℕ)) : Type 0 where
   pub few : child_count tree ≤ 8
 
 -- the settings, how many lines the tree has, the worked node's place and its children, how many X rows; or a refusal and its line
-abbrev pub plan_by : Reading PlanSheet → P.Plan
-plan_by (turned n l) = W.Refused n l
-plan_by (sheet x) = W.Held x.settings (length (flatten x.plan)) (length (removed x.plan)) (child_count x.plan) (length x.facts.rows)
-
--- a refusal of lines
-abbrev pub tree_refused : Rows → P.Plan
-tree_refused (R.Read count next line) = W.Refused 0 0
-tree_refused (R.Refused n l) = W.Refused n l
-
-abbrev pub facts_refused : Facts → P.Plan
-facts_refused (F.Read n) = W.Refused 0 0
-facts_refused (F.Refused n l) = W.Refused n l
+abbrev pub plan_by : Reading PlanSheet → Result P.Plan Refused
+plan_by (turned n l) = Err (refused_on n l)
+plan_by (sheet x) = Ok (record { settings = x.settings; lines = length (flatten x.plan); worked = length (removed x.plan); children = child_count x.plan; rows = length x.facts.rows })
 
 -- a sheet in the rooms lent: the tree's rows in front, F and X rows, masks and the B row, and the index of the X rows
 pub record PlanHeld (x : PlanSheet) (rows : List (List ℕ)) (node : List ℕ) (facts xs : List (List ℕ)) (masks index : List ℕ) : Type 0 where

@@ -1,5 +1,5 @@
 -- What the functions that read a D sheet's lines answer and leave in the rooms lent.
-use Rattle.std.specs.Prelude.{◌≡◌, ℕ, List, length}
+use Rattle.std.specs.Prelude.{◌≡◌, ℕ, List, length, Result, Ok, Err}
 use Rattle.std.proofs.lemmas.List.Edits.{sets}
 use Rattle.text.specs.declared.field.Field.{Field}
 use Rattle.text.specs.Text.{parts}
@@ -10,10 +10,8 @@ use Rattle.sheet.specs.KeySheets.{Reading, sheet, turned}
 use Rattle.plansheet.specs.PlanLines.{settings_line, plan_line, two_to}
 use Rattle.plansheet.specs.PlanSheets.{FactLines, operator_rows}
 use Rattle.plansheet.specs.ReadRows.{number_rows, Leaves}
-use Rattle.plansheet.specs.declared.tree.Rows.{Rows}
-use Rattle.plansheet.specs.declared.tree.Rows.TheVariants as R
-use Rattle.plansheet.specs.declared.lines.Facts.{Facts}
-use Rattle.plansheet.specs.declared.lines.Facts.TheVariants as F
+use Rattle.refusals.specs.declared.Refused.{Refused}
+use Rattle.sheet.specs.SheetLines.{refused_on}
 
 -- a run after a run
 abbrev pub then_run : Run → (ℕ → ℕ → List (List ℕ) → Run) → Run
@@ -38,15 +36,10 @@ abbrev pub TreeLeft : List ℕ → Run → List ℕ → List ℕ → List (List 
 TreeLeft s (refused n l) head head' rows rows' = Unit {0}
 TreeLeft s (read rs ls l p) head head' rows rows' = TreeHeld s rs ls l p head head' rows rows'
 
--- a run that was turned back
-abbrev pub turned_back : Rows → Facts
-turned_back (R.Read count next line) = F.Read 0
-turned_back (R.Refused n l) = F.Refused n l
-
 -- how many X rows; or a refusal and its line
-abbrev pub facts_by : Reading FactLines → Facts
-facts_by (turned n l) = F.Refused n l
-facts_by (sheet g) = F.Read (length g.rows)
+abbrev pub facts_by : Reading FactLines → Result ℕ Refused
+facts_by (turned n l) = Err (refused_on n l)
+facts_by (sheet g) = Ok (length g.rows)
 
 -- the Y line is in the room lent, with as many masks as there are sets
 pub record MasksHeld (n : ℕ) (g : FactLines) (masks masks' : List ℕ) : Type 0 where

@@ -10,8 +10,10 @@ use Rattle.linekinds.specs.Lines.{Kind, Run, read, refused, most_bytes, rows_of}
 use Rattle.linekinds.specs.KeyLines.{values}
 use Rattle.linekinds.specs.Reading.{row_values}
 use Rattle.plansheet.specs.Shapes.{Shape, over_any, exchange_limited, rule_fits, most_children}
-use Rattle.plansheet.specs.declared.tree.Rows.{Rows}
-use Rattle.plansheet.specs.declared.tree.Rows.TheVariants as R
+use Rattle.plansheet.specs.declared.tree.RowsRead.{RowsRead}
+use Rattle.refusals.specs.declared.Refused.{Refused}
+use Rattle.sheet.specs.SheetLines.{refused_on}
+use Rattle.std.specs.Prelude.{Result, Ok, Err}
 
 -- ---- a line's description
 
@@ -74,9 +76,9 @@ abbrev pub number_rows : List (List Field) → List (List ℕ)
 number_rows rs = map values rs
 
 -- how many rows, the place after them and the number of the line there; or a refusal and its line
-abbrev pub rows_by : Run → Rows
-rows_by (read rs ls l p) = R.Read (length rs) p l
-rows_by (refused n l) = R.Refused n l
+abbrev pub rows_by : Run → Result RowsRead Refused
+rows_by (read rs ls l p) = Ok (record { count = length rs; next = p; line = l })
+rows_by (refused n l) = Err (refused_on n l)
 
 -- what a run leaves: its rows as f makes them, from the start of the room, and the place of the lines after them
 pub record Leaves (f : List (List Field) → List (List ℕ)) (s : List ℕ) (rs : List (List Field)) (ls : List (List ℕ)) (l p : ℕ) (out out' : List (List ℕ)) : Type 0 where

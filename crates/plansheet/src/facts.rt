@@ -10,12 +10,12 @@ ghost use Rattle.plansheet.specs.ReadRows.{values_from, number_rows, rows_by, Le
 ghost use Rattle.plansheet.specs.PlainFacts.{FactFound, FactLeft};
 
 use crate::line::{child_line, fact_line};
-use crate::shape::number_of;
-use crate::tree::Rows;
+use crate::tree::RowsRead;
 use exchange::fact::{AFTERMET, ATHASH, EXACT, FORD, FPLAIN, FactRow, MET, SUBSET, WIDTH};
 use exchange::status::ChildRow;
 use linekinds::line::Read;
-use numberlines::row::{Plain, row_at};
+use numberlines::row::{Unread, row_at};
+use refusals::{Refusal, Refused};
 
 // An F line's numbers.
 fn child_row(fields: &[[u64; 2]]) -> ChildRow
@@ -90,17 +90,14 @@ fn marked(row: &FactRow) -> bool
 }
 
 // The X line at a place, into its row, where nothing in it is unusual.
-fn fact_at(s: &[u8], at: usize, row: &mut FactRow) -> Plain
+fn fact_at(s: &[u8], at: usize, row: &mut FactRow) -> Result<usize, Unread>
     ensures { FactFound s.now at row.old result row.new }
 {
-    let r = row_at(s, at, 88, &mut *row);
-    let Plain::Line { end } = r else {
-        return r;
-    };
+    let end = row_at(s, at, 88, &mut *row)?;
     if !marked(&*row) {
-        return Plain::Unusual;
+        return Err(Unread::Unusual);
     }
-    Plain::Line { end }
+    Ok(end)
 }
 
 // The X line at a place by its fields, each judged, as row n where there is room for it.
@@ -113,7 +110,7 @@ fn judged_fact(s: &[u8], at: usize, n: usize, fields: &mut [[u64; 2]], rows: &mu
     let Read::Line { count, next } = r else {
         return r;
     };
-    put_fact(rows, n, fact_numbers(&fields[0..count]));
+    put_fact(rows, n, fact_numbers(&fields[..count]));
     Read::Line { count, next }
 }
 
@@ -126,7 +123,7 @@ fn read_fact(s: &[u8], at: usize, n: usize, fields: &mut [[u64; 2]], rows: &mut 
     if rows.len() <= n {
         return judged_fact(s, at, n, fields, rows);
     }
-    let Plain::Line { end } = fact_at(s, at, &mut rows[n]) else {
+    let Ok(end) = fact_at(s, at, &mut rows[n]) else {
         return judged_fact(s, at, n, fields, rows);
     };
     Read::Line {
@@ -155,32 +152,28 @@ pub fn read_children(
     children: usize,
     fields: &mut [[u64; 2]],
     rows: &mut [ChildRow],
-) -> Rows
+) -> Result<RowsRead, Refused>
     requires { (256 ≤ length fields.old) × (children ≤ length rows.old) × (at ≤ length s.now) × (line ≤ at + 1) }
     ensures answer { result ≡ rows_by (run_from child_line children s.now line at) }
     ensures left { Left number_rows s.now (run_from child_line children s.now line at) rows.old rows.new }
 {
     let mut p = at;
     let mut l = line;
-    let mut n: usize = 0;
-    while n < children {
-        let r = child_line(s, p, &mut *fields);
-        let Read::Line { count, next } = r else {
-            return Rows::Refused {
-                number: number_of(r),
-                line: l,
-            };
-        };
-        rows[n] = child_row(&fields[0..count]);
-        p = next;
-        n += 1;
+    for n in 0..children {
+        match child_line(s, p, &mut *fields) {
+            Read::Line { count, next } => {
+                rows[n] = child_row(&fields[..count]);
+                p = next;
+            }
+            Read::Refused(refusal) => return Err(refusal.on_line(l)),
+        }
         l += 1;
     }
-    Rows::Read {
-        count: n,
+    Ok(RowsRead {
+        count: children,
         next: p,
         line: l,
-    }
+    })
 }
 
 // The X lines from a place on, as many as there are: those for which there is room are stored.
@@ -190,7 +183,7 @@ pub fn read_facts(
     line: u64,
     fields: &mut [[u64; 2]],
     rows: &mut [FactRow],
-) -> Rows
+) -> Result<RowsRead, Refused>
     requires { (256 ≤ length fields.old) × (at ≤ length s.now) × (line ≤ at + 1) }
     ensures answer { result ≡ rows_by (run_from fact_line 0 s.now line at) }
     ensures left { Left number_rows s.now (run_from fact_line 0 s.now line at) rows.old rows.new }
@@ -198,20 +191,21 @@ pub fn read_facts(
     let mut p = at;
     let mut l = line;
     let mut n: usize = 0;
+    // Ends at the line that is no X line: nothing says beforehand how many there are.
     loop {
-        let r = read_fact(s, p, n, &mut *fields, &mut *rows);
-        let Read::Line { count: _, next } = r else {
-            let m = number_of(r);
-            if m == 1 {
-                return Rows::Read {
-                    count: n,
-                    next: p,
-                    line: l,
-                };
+        match read_fact(s, p, n, &mut *fields, &mut *rows) {
+            Read::Line { next, .. } => p = next,
+            Read::Refused(refusal) => {
+                if refusal == Refusal::WrongLine {
+                    return Ok(RowsRead {
+                        count: n,
+                        next: p,
+                        line: l,
+                    });
+                }
+                return Err(refusal.on_line(l));
             }
-            return Rows::Refused { number: m, line: l };
-        };
-        p = next;
+        }
         n += 1;
         l += 1;
     }

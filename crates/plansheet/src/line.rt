@@ -1,5 +1,6 @@
 // The lines of a D sheet, each by its description; their fields go into the rows lent.
 ghost use Rattle.std.specs.Prelude.{◌≡◌, ℕ, ◌≤◌, length, drop};
+ghost use Rattle.refusals.specs.Refusals.{judged_by};
 ghost use Rattle.text.specs.Text.{line, line_fields, line_at, after};
 ghost use Rattle.text.specs.Read.{stored_in};
 ghost use Rattle.linekinds.specs.Lines.{line_number};
@@ -11,12 +12,10 @@ ghost use Rattle.plansheet.specs.ReadRows.{masks_number};
 use crate::description::LineShape;
 use crate::shape::{over_any, shaped_line};
 use linekinds::line::Read;
-use text::line::line_at;
-
-// The largest number of a plain field; of a row count or a limit.
-pub const PLAIN: u64 = 65535;
-
-pub const LONG: u64 = 4294967295;
+use linekinds::plain::PLAIN;
+use numberlines::child::LONG;
+use refusals::Refusal;
+use text::line::{Fields, line_at};
 
 // No code and no size is asked.
 pub const ANY: u64 = 4294967295;
@@ -39,23 +38,17 @@ pub fn sets_of(n: u64) -> usize
     }
 }
 
-// The number of a line of so many plain fields, as a Y line is, by its count of fields, their largest state and value, and the place after it: 2, 3, or 0.
-fn masks_number(sets: usize, count: usize, worst: u64, largest: u64, next: usize) -> u64
-    ensures { result ≡ masks_number sets count worst largest next }
+// By the count of fields of a line of so many plain fields, as a Y line is, their largest state and value, and the place after it.
+fn judge_masks(sets: usize, f: Fields) -> Result<(), Refusal>
+    ensures { result ≡ judged_by (masks_number sets f.count f.worst f.largest f.next) }
 {
-    if count != sets {
-        return 2;
+    if f.count != sets || f.worst > 0 || f.largest > PLAIN {
+        return Err(Refusal::MalformedField);
     }
-    if worst > 0 {
-        return 2;
+    if f.next > 65536 {
+        return Err(Refusal::BeyondSize);
     }
-    if largest > PLAIN {
-        return 2;
-    }
-    if next > 65536 {
-        return 3;
-    }
-    0
+    Ok(())
 }
 
 // The line of a letter with so many plain fields, the first of which have last codes; its fields go into the rows lent.
@@ -72,14 +65,13 @@ fn plain_line(
     ensures stored { fields.new ≡ stored_in fields.old (line_fields letter (line (drop at s.now))) }
 {
     let Some(f) = line_at(s, at, letter, fields) else {
-        return Read::Refused(1);
+        return Read::Refused(Refusal::WrongLine);
     };
-    let m = masks_number(width, f.count, f.worst, f.largest, f.next);
-    if m != 0 {
-        return Read::Refused(m);
+    if let Err(refusal) = judge_masks(width, f) {
+        return Read::Refused(refusal);
     }
-    if over_any(codes, &fields[0..f.count]) {
-        return Read::Refused(4);
+    if over_any(codes, &fields[..f.count]) {
+        return Read::Refused(Refusal::UndefinedCode);
     }
     Read::Line {
         count: f.count,
@@ -177,11 +169,10 @@ pub fn mask_line(s: &[u8], at: usize, n: u64, fields: &mut [[u64; 2]]) -> Read
 {
     let sets = sets_of(n);
     let Some(f) = line_at(s, at, 89, fields) else {
-        return Read::Refused(1);
+        return Read::Refused(Refusal::WrongLine);
     };
-    let m = masks_number(sets, f.count, f.worst, f.largest, f.next);
-    if m != 0 {
-        return Read::Refused(m);
+    if let Err(refusal) = judge_masks(sets, f) {
+        return Read::Refused(refusal);
     }
     Read::Line {
         count: f.count,

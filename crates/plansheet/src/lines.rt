@@ -6,17 +6,19 @@ ghost use Rattle.sheet.specs.KeySheets.{sheet};
 ghost use Rattle.plansheet.specs.PlanLines.{plan_line};
 ghost use Rattle.plansheet.specs.PlanSheets.{FactLines, operator_rows, read_masks, read_children, read_facts};
 ghost use Rattle.plansheet.specs.ReadRows.{rows_by, Left, run_from};
-ghost use Rattle.plansheet.specs.ReadPlans.{tree_run, TreeLeft, turned_back, facts_by, MasksHeld, ChildrenHeld, FactsHeld};
+ghost use Rattle.plansheet.specs.ReadPlans.{tree_run, TreeLeft, facts_by, MasksHeld, ChildrenHeld, FactsHeld};
 
 use crate::description::{LineShape, TreeShape};
 use crate::facts::{copy_values, read_children, read_facts};
-use crate::line::{ANY, LONG, PLAIN, mask_line, node_line, settings_line};
-use crate::shape::number_of;
-use crate::tree::{Rows, read_tree};
+use crate::line::{ANY, mask_line, node_line, settings_line};
+use crate::tree::{RowsRead, read_tree};
 use exchange::fact::FactRow;
 use exchange::row::Row;
 use exchange::status::ChildRow;
 use linekinds::line::Read;
+use linekinds::plain::PLAIN;
+use numberlines::child::LONG;
+use refusals::{Refusal, Refused};
 
 // The T lines from a place on.
 pub fn read_plan_tree(
@@ -25,7 +27,7 @@ pub fn read_plan_tree(
     line: u64,
     fields: &mut [[u64; 2]],
     rows: &mut [Row],
-) -> Rows
+) -> Result<RowsRead, Refused>
     requires { (256 ≤ length fields.old) × (at ≤ length s.now) × (line ≤ at + 1) }
     ensures answer { result ≡ rows_by (run_from plan_line 1 s.now line at) }
     ensures left { Left (operator_rows 1) s.now (run_from plan_line 1 s.now line at) rows.old rows.new }
@@ -75,27 +77,18 @@ pub fn read_tree_lines(
     fields: &mut [[u64; 2]],
     head: &mut [u64],
     rows: &mut [Row],
-) -> Rows
+) -> Result<RowsRead, Refused>
     requires { (256 ≤ length fields.old) × (9 ≤ length head.old) }
     ensures answer { result ≡ rows_by (tree_run s.now) }
     ensures left { TreeLeft s.now (tree_run s.now) head.old head.new rows.old rows.new }
 {
-    let r = settings_line(s, 0, &mut *fields);
-    let Read::Line { count, next } = r else {
-        return Rows::Refused {
-            number: number_of(r),
-            line: 1,
-        };
-    };
-    copy_values(&fields[0..count], &mut *head);
-    read_plan_tree(s, next, 2, fields, rows)
-}
-
-// How many X rows there are; or a refusal and its line.
-#[derive(Clone, Copy)]
-pub enum Facts {
-    Read(usize),
-    Refused { number: u64, line: u64 },
+    match settings_line(s, 0, &mut *fields) {
+        Read::Line { count, next } => {
+            copy_values(&fields[..count], &mut *head);
+            read_plan_tree(s, next, 2, fields, rows)
+        }
+        Read::Refused(refusal) => Err(refusal.on_line(1)),
+    }
 }
 
 // The Y line at a place, and nothing after it; there are `count` X rows.
@@ -107,39 +100,20 @@ fn read_masks(
     count: usize,
     fields: &mut [[u64; 2]],
     masks: &mut [u64],
-) -> Facts
+) -> Result<usize, Refused>
     requires { (children ≤ 8) × (256 ≤ length fields.old) × (256 ≤ length masks.old) × (at ≤ length s.now) × (line ≤ at + 1) }
     ensures answer { (b : List Field) (fs xs : List (List Field)) → count ≡ length xs → result ≡ facts_by (read_masks b fs xs children line at (parts 10 (drop at s.now))) }
     ensures held { (b : List Field) (fs xs : List (List Field)) (g : FactLines) → read_masks b fs xs children line at (parts 10 (drop at s.now)) ≡ sheet g → MasksHeld children g masks.old masks.new }
 {
-    let y = mask_line(s, at, children, &mut *fields);
-    let Read::Line { count: many, next } = y else {
-        return Facts::Refused {
-            number: number_of(y),
-            line: line,
-        };
-    };
-    copy_values(&fields[0..many], masks);
-    if next < s.len() {
-        return Facts::Refused {
-            number: 1,
-            line: line + 1,
-        };
-    }
-    Facts::Read(count)
-}
-
-// A run of lines that was turned back.
-fn turned_back(r: Rows) -> Facts
-    ensures { result ≡ turned_back r }
-{
-    match r {
-        Rows::Read {
-            count: _,
-            next: _,
-            line: _,
-        } => Facts::Read(0),
-        Rows::Refused { number, line } => Facts::Refused { number, line },
+    match mask_line(s, at, children, &mut *fields) {
+        Read::Line { count: many, next } => {
+            copy_values(&fields[..many], masks);
+            if next < s.len() {
+                return Err(Refusal::WrongLine.on_line(line + 1));
+            }
+            Ok(count)
+        }
+        Read::Refused(refusal) => Err(refusal.on_line(line)),
     }
 }
 
@@ -153,30 +127,14 @@ fn read_child_lines(
     facts: &mut [ChildRow],
     xs: &mut [FactRow],
     masks: &mut [u64],
-) -> Facts
+) -> Result<usize, Refused>
     requires { (children ≤ 8) × (256 ≤ length fields.old) × (8 ≤ length facts.old) × (256 ≤ length masks.old) × (at ≤ length s.now) × (line ≤ at + 1) }
     ensures answer { (b : List Field) → result ≡ facts_by (read_children b children line at (parts 10 (drop at s.now))) }
     ensures held { (b : List Field) (g : FactLines) → read_children b children line at (parts 10 (drop at s.now)) ≡ sheet g → ChildrenHeld children g facts.old facts.new xs.old xs.new masks.old masks.new }
 {
-    let f = read_children(s, at, line, children as usize, &mut *fields, &mut *facts);
-    let Rows::Read {
-        count: _,
-        next: p,
-        line: l,
-    } = f
-    else {
-        return turned_back(f);
-    };
-    let x = read_facts(s, p, l, &mut *fields, &mut *xs);
-    let Rows::Read {
-        count: n,
-        next: q,
-        line: m,
-    } = x
-    else {
-        return turned_back(x);
-    };
-    read_masks(s, q, m, children, n, fields, masks)
+    let f = read_children(s, at, line, children as usize, &mut *fields, &mut *facts)?;
+    let x = read_facts(s, f.next, f.line, &mut *fields, &mut *xs)?;
+    read_masks(s, x.next, x.line, children, x.count, fields, masks)
 }
 
 // The B line at a place, and what follows it: F lines, X rows, the Y line, and nothing more.
@@ -190,18 +148,16 @@ pub fn read_fact_lines(
     facts: &mut [ChildRow],
     xs: &mut [FactRow],
     masks: &mut [u64],
-) -> Facts
+) -> Result<usize, Refused>
     requires { (children ≤ 8) × (256 ≤ length fields.old) × (4 ≤ length node.old) × (8 ≤ length facts.old) × (256 ≤ length masks.old) × (at ≤ length s.now) × (line ≤ at + 1) }
     ensures answer { result ≡ facts_by (read_facts children line at (parts 10 (drop at s.now))) }
     ensures held { (g : FactLines) → read_facts children line at (parts 10 (drop at s.now)) ≡ sheet g → FactsHeld children g node.old node.new facts.old facts.new xs.old xs.new masks.old masks.new }
 {
-    let b = node_line(s, at, &mut *fields);
-    let Read::Line { count, next } = b else {
-        return Facts::Refused {
-            number: number_of(b),
-            line: line,
-        };
-    };
-    copy_values(&fields[0..count], &mut *node);
-    read_child_lines(s, next, line + 1, children, fields, facts, xs, masks)
+    match node_line(s, at, &mut *fields) {
+        Read::Line { count, next } => {
+            copy_values(&fields[..count], &mut *node);
+            read_child_lines(s, next, line + 1, children, fields, facts, xs, masks)
+        }
+        Read::Refused(refusal) => Err(refusal.on_line(line)),
+    }
 }

@@ -4,10 +4,10 @@ ghost use Rattle.plansheet.specs.Shapes.{rule_fits};
 ghost use Rattle.plansheet.specs.PlainTrees.{Wide, PlainCodes, PlainShape, OperatorFits, OperatorRead};
 
 use crate::description::{LineShape, TreeShape};
-use crate::line::PLAIN;
 use exchange::row::{CHILDREN, ID, KEEPS, KIND, NEED, Row, TRACKED};
+use linekinds::plain::PLAIN;
 use numberlines::operator::operator_at;
-use numberlines::row::Plain;
+use numberlines::row::Unread;
 
 pub const MOST_CHILDREN: u64 = 8;
 
@@ -71,17 +71,20 @@ fn operator_fits(h: TreeShape, row: &Row) -> bool
 }
 
 // The line at a place as row `seen`, where nothing in it is unusual: the place of its LF.
-pub fn operator_read(s: &[u8], at: usize, seen: usize, h: TreeShape, row: &mut Row) -> Plain
+pub fn operator_read(
+    s: &[u8],
+    at: usize,
+    seen: usize,
+    h: TreeShape,
+    row: &mut Row,
+) -> Result<usize, Unread>
     requires { (h.line.letter ≡ 10 → ⊥) × (7 ≤ length h.line.codes.now) × (seen < 65536) }
     ensures { OperatorRead h.entry.line.letter s.now at seen h.entry.line.codes.now h.entry.rules.now result row.new }
 {
-    let r = operator_at(s, at, h.line.letter, &mut *row);
-    let Plain::Line { end: _ } = r else {
-        return r;
-    };
+    let end = operator_at(s, at, h.line.letter, &mut *row)?;
     if !operator_fits(h, &*row) {
-        return Plain::Unusual;
+        return Err(Unread::Unusual);
     }
     row[ID] = seen as u64 + 1;
-    r
+    Ok(end)
 }

@@ -9,32 +9,26 @@ ghost use Rattle.exchange.specs.Fit.{facts_fit};
 ghost use Rattle.exchange.specs.Found.{index_of};
 ghost use Rattle.sheet.specs.KeySheets.{sheet};
 ghost use Rattle.plansheet.specs.PlanSheets.{PlanSheet, FactLines, settings_of, facts_of, plan_sheet, judged_plan, with_facts, child_count, read_facts, read_plan};
-ghost use Rattle.plansheet.specs.PlanRooms.{PlanRooms, Filled, TreeStands, RoomFor, Suffices, plan_by, tree_refused, facts_refused, PlanHeld};
+ghost use Rattle.plansheet.specs.PlanRooms.{PlanRooms, Filled, TreeStands, RoomFor, Suffices, plan_by, PlanHeld};
 
 use crate::fit::facts_fit;
 use crate::line::sets_of;
-use crate::lines::{Facts, read_fact_lines, read_tree_lines};
-use crate::tree::Rows;
+use crate::lines::{read_fact_lines, read_tree_lines};
 use exchange::fact::{FactRow, FactRows, index_rows};
 use exchange::row::{Row, children_at};
 use exchange::settings::Settings;
 use exchange::status::ChildRow;
 use exchange::worked::remove_dist_changing_operators;
+use refusals::{Refusal, Refused};
 
-// A sheet stands in the rooms lent: its settings, the tree's lines, the place of the worked node, its children and the X rows; or a refusal and its line.
+// A sheet that stands in the rooms lent: its settings, the tree's lines, the place of the worked node, its children and the X rows.
 #[derive(Clone, Copy)]
-pub enum Plan {
-    Held {
-        settings: Settings,
-        lines: usize,
-        worked: usize,
-        children: u64,
-        rows: usize,
-    },
-    Refused {
-        number: u64,
-        line: u64,
-    },
+pub struct Plan {
+    pub settings: Settings,
+    pub lines: usize,
+    pub worked: usize,
+    pub children: u64,
+    pub rows: usize,
 }
 
 // The D line's numbers as settings, within their bounds.
@@ -78,29 +72,6 @@ fn plan_fits(
     facts_fit(target, rows, worked, &facts[..k], known, &masks[..many])
 }
 
-// A refusal of lines.
-fn tree_refused(t: Rows) -> Plan
-    ensures { result ≡ tree_refused t }
-{
-    match t {
-        Rows::Read {
-            count: _,
-            next: _,
-            line: _,
-        } => Plan::Refused { number: 0, line: 0 },
-        Rows::Refused { number, line } => Plan::Refused { number, line },
-    }
-}
-
-fn facts_refused(f: Facts) -> Plan
-    ensures { result ≡ facts_refused f }
-{
-    match f {
-        Facts::Read(_) => Plan::Refused { number: 0, line: 0 },
-        Facts::Refused { number, line } => Plan::Refused { number, line },
-    }
-}
-
 // The lines that were read, judged as a sheet: target and batch first, then X rows and masks.
 fn judge_plan(
     head: &[u64],
@@ -113,14 +84,14 @@ fn judge_plan(
     n: usize,
     masks: &[u64],
     index: &mut [u64],
-) -> Plan
+) -> Result<Plan, Refused>
     requires in_bounds { (9 ≤ length head.now) × (8 ≤ length facts.now) × Suffices n (length xs.now) × (256 ≤ length masks.now) × (length index.old ≡ 129) }
     requires filled { Filled rows.now facts.now xs.now masks.now worked children n }
     ensures answer { (t : PlanTree) (g : FactLines) → lines ≡ length (flatten t) → PlanRooms t g rows.now facts.now xs.now masks.now worked children n → result ≡ plan_by (judged_plan (plan_sheet (settings_of head.now) t g)) }
     ensures indexed { (x : PlanSheet) → result ≡ plan_by (sheet x) → (n ≤ length xs.now) × (index.new ≡ index_of (take n xs.now)) }
 {
     let Some(settings) = checked_settings(head) else {
-        return Plan::Refused { number: 7, line: 0 };
+        return Err(Refusal::SettingsOutOfRange.on_line(0));
     };
     if !plan_fits(
         settings.target,
@@ -133,15 +104,15 @@ fn judge_plan(
         masks,
         index,
     ) {
-        return Plan::Refused { number: 8, line: 0 };
+        return Err(Refusal::UnfitFacts.on_line(0));
     }
-    Plan::Held {
+    Ok(Plan {
         settings,
         lines,
         worked,
         children,
         rows: n,
-    }
+    })
 }
 
 // What follows the tree, which stands in the rows and has so many lines: the facts, and the sheet judged.
@@ -158,7 +129,7 @@ fn read_after_tree(
     xs: &mut [FactRow],
     masks: &mut [u64],
     index: &mut [u64],
-) -> Plan
+) -> Result<Plan, Refused>
     requires in_bounds { (256 ≤ length fields.old) × (9 ≤ length head.now) × (4 ≤ length node.old) × (8 ≤ length facts.old) × RoomFor 128 28 (length s.now) (length xs.old) × (256 ≤ length masks.old) × (length index.old ≡ 129) × (at ≤ length s.now) × (line ≤ at + 1) }
     requires tree_stands { TreeStands rows.now }
     ensures answer { (t : PlanTree) (rest : List (List ℕ)) → rows.now ≡ flatten t ++ rest → lines ≡ length (flatten t) → result ≡ plan_by (with_facts (settings_of head.now) t (read_facts (child_count t) line at (parts 10 (drop at s.now)))) }
@@ -166,7 +137,7 @@ fn read_after_tree(
 {
     let worked = remove_dist_changing_operators(rows, 0);
     let children = children_at(rows, worked);
-    let f = read_fact_lines(
+    let n = read_fact_lines(
         s,
         at,
         line,
@@ -176,10 +147,7 @@ fn read_after_tree(
         &mut *facts,
         &mut *xs,
         &mut *masks,
-    );
-    let Facts::Read(n) = f else {
-        return facts_refused(f);
-    };
+    )?;
     judge_plan(
         head, rows, lines, worked, children, &*facts, &*xs, n, &*masks, index,
     )
@@ -196,21 +164,13 @@ pub fn read_plan(
     xs: &mut [FactRow],
     masks: &mut [u64],
     index: &mut [u64],
-) -> Plan
+) -> Result<Plan, Refused>
     requires { (256 ≤ length fields.old) × (9 ≤ length head.old) × RoomFor 256 17 (length s.now) (length rows.old) × (4 ≤ length node.old) × (8 ≤ length facts.old) × RoomFor 128 28 (length s.now) (length xs.old) × (256 ≤ length masks.old) × (length index.old ≡ 129) }
     ensures answer { result ≡ plan_by (read_plan s.now) }
     ensures held { (x : PlanSheet) → read_plan s.now ≡ sheet x → PlanHeld x rows.new node.new facts.new xs.new masks.new index.new }
 {
-    let t = read_tree_lines(s, &mut *fields, &mut *head, &mut *rows);
-    let Rows::Read {
-        count: lines,
-        next,
-        line,
-    } = t
-    else {
-        return tree_refused(t);
-    };
+    let t = read_tree_lines(s, &mut *fields, &mut *head, &mut *rows)?;
     read_after_tree(
-        s, next, line, lines, fields, &*head, &*rows, node, facts, xs, masks, index,
+        s, t.next, t.line, t.count, fields, &*head, &*rows, node, facts, xs, masks, index,
     )
 }

@@ -1,16 +1,17 @@
 // Reads a line of fixed fields by its description: a bound for each field, the most of the first fields, the last codes of the first fields.
 ghost use Rattle.std.specs.Prelude.{◌≡◌, ℕ, ◌≤◌, length, drop};
+ghost use Rattle.refusals.specs.Refusals.{judged_by, refusal_of};
 ghost use Rattle.text.specs.Text.{line, line_fields, line_at, after};
 ghost use Rattle.text.specs.Read.{stored_in};
 ghost use Rattle.linekinds.specs.Lines.{line_number};
 ghost use Rattle.linekinds.specs.Reading.{row_values, read_by};
-ghost use Rattle.linekinds.specs.ListLines.{number_of};
 ghost use Rattle.plansheet.specs.Shapes.{over_any, fixed_line};
 ghost use Rattle.plansheet.specs.Described.{shape_by};
 ghost use Rattle.plansheet.specs.ReadRows.{misfit_number, shape_number};
 
 use crate::description::LineShape;
 use linekinds::line::Read;
+use refusals::Refusal;
 use text::bounds::{Misfit, fixed_at};
 
 // Whether one of the first fields is over its largest number.
@@ -25,39 +26,26 @@ pub fn over_any(largest: &[u64], fields: &[[u64; 2]]) -> bool
     false
 }
 
-// The number that a line's fields and the place after it give it: 3, 4, or 0.
-pub fn shape_number(h: LineShape, next: usize, fields: &[[u64; 2]]) -> u64
-    ensures { result ≡ shape_number h.entry.sizes.now h.entry.codes.now next (row_values fields.now) }
+// By a line's fields and the place after it.
+pub fn judge_shape(h: LineShape, next: usize, fields: &[[u64; 2]]) -> Result<(), Refusal>
+    ensures { result ≡ judged_by (shape_number h.entry.sizes.now h.entry.codes.now next (row_values fields.now)) }
 {
-    if next > 65536 {
-        return 3;
-    }
-    if over_any(h.sizes, fields) {
-        return 3;
+    if next > 65536 || over_any(h.sizes, fields) {
+        return Err(Refusal::BeyondSize);
     }
     if over_any(h.codes, fields) {
-        return 4;
+        return Err(Refusal::UndefinedCode);
     }
-    0
+    Ok(())
 }
 
-// The number of a line whose fields are not within their bounds, or that is none of the letter.
-pub fn misfit_number(m: Misfit) -> u64
-    ensures { result ≡ misfit_number m }
+// Why a line is turned back whose fields are not within their bounds, or that is none of the letter.
+pub fn misfit_refusal(m: Misfit) -> Refusal
+    ensures { result ≡ refusal_of (misfit_number m) }
 {
     match m {
-        Misfit::Unfit => 2,
-        Misfit::Wrong => 1,
-    }
-}
-
-// The number of a refusal, or 0.
-pub fn number_of(r: Read) -> u64
-    ensures { result ≡ number_of r }
-{
-    match r {
-        Read::Line { count: _, next: _ } => 0,
-        Read::Refused(n) => n,
+        Misfit::Unfit => Refusal::MalformedField,
+        Misfit::Wrong => Refusal::WrongLine,
     }
 }
 
@@ -69,11 +57,10 @@ pub fn shaped_line(s: &[u8], at: usize, h: LineShape, fields: &mut [[u64; 2]]) -
 {
     let j = match fixed_at(s, at, h.letter, h.bounds, fields) {
         Ok(j) => j,
-        Err(m) => return Read::Refused(misfit_number(m)),
+        Err(misfit) => return Read::Refused(misfit_refusal(misfit)),
     };
-    let n = shape_number(h, j.next, &fields[0..j.count]);
-    if n != 0 {
-        return Read::Refused(n);
+    if let Err(refusal) = judge_shape(h, j.next, &fields[..j.count]) {
+        return Read::Refused(refusal);
     }
     Read::Line {
         count: j.count,

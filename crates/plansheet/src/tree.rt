@@ -1,5 +1,6 @@
 // Reads the lines of one tree: the line's description, the rule of kinds and children, the most lines, the place and the line's number are given.
 ghost use Rattle.std.specs.Prelude.{◌≡◌, cond, ◌+◌, ◌≤◌, ◌<◌, eqb, length, drop, set};
+ghost use Rattle.refusals.specs.Refusals.{judged_by};
 ghost use Rattle.text.specs.Text.{line, line_fields, line_at, after};
 ghost use Rattle.text.specs.Read.{stored_in};
 ghost use Rattle.linekinds.specs.Lines.{line_number};
@@ -12,11 +13,11 @@ ghost use Rattle.plansheet.specs.ReadRows.{tree_number, fields_row, rows_by, Lef
 
 use crate::description::TreeShape;
 use crate::operator::{MOST_CHILDREN, operator_read, quick_rows, rule_fits};
-use crate::shape::{misfit_number, number_of, shape_number};
+use crate::shape::{judge_shape, misfit_refusal};
 use exchange::kind::{REPARTITION, REPARTITION_UNKNOWN};
 use exchange::row::{CHILDREN, Row};
 use linekinds::line::Read;
-use numberlines::row::Plain;
+use refusals::{Refusal, Refused};
 use text::bounds::fixed_at;
 
 // A repartition with a limit.
@@ -26,33 +27,30 @@ fn exchange_limited(kind: u64, state: u64) -> bool
     state != 1 && (kind == REPARTITION || kind == REPARTITION_UNKNOWN)
 }
 
-// The number that a tree line's fields, the lines before it and the place after it give it: 2, 3, 4, 6, or 0.
-fn tree_number(h: TreeShape, seen: usize, next: usize, fields: &[[u64; 2]]) -> u64
+// By a tree line's fields, the lines before it and the place after it.
+fn judge_tree(h: TreeShape, seen: usize, next: usize, fields: &[[u64; 2]]) -> Result<(), Refusal>
     requires { 8 ≤ length fields.now }
-    ensures { result ≡ tree_number h.entry.line.sizes.now h.entry.line.codes.now h.entry.rules.now h.entry.most seen next fields.now }
+    ensures { result ≡ judged_by (tree_number h.entry.line.sizes.now h.entry.line.codes.now h.entry.rules.now h.entry.most seen next fields.now) }
 {
     let kind = fields[0][1];
     let children = fields[7][1];
     if exchange_limited(kind, fields[3][0]) {
-        return 2;
+        return Err(Refusal::MalformedField);
     }
     if h.most <= seen {
-        return 3;
+        return Err(Refusal::BeyondSize);
     }
     if MOST_CHILDREN < children {
-        return 3;
+        return Err(Refusal::BeyondSize);
     }
-    let n = shape_number(h.line, next, fields);
-    if n != 0 {
-        return n;
-    }
+    judge_shape(h.line, next, fields)?;
     if h.rules.len() as u64 <= kind {
-        return 4;
+        return Err(Refusal::UndefinedCode);
     }
-    if rule_fits(h.rules, kind, children) {
-        return 0;
+    if !rule_fits(h.rules, kind, children) {
+        return Err(Refusal::UnfitChildren);
     }
-    6
+    Ok(())
 }
 
 // The tree line at a place, before which there are `seen`; its fields go into the rows lent.
@@ -63,11 +61,10 @@ fn tree_line(s: &[u8], at: usize, seen: usize, h: TreeShape, fields: &mut [[u64;
 {
     let j = match fixed_at(s, at, h.line.letter, h.line.bounds, fields) {
         Ok(j) => j,
-        Err(m) => return Read::Refused(misfit_number(m)),
+        Err(misfit) => return Read::Refused(misfit_refusal(misfit)),
     };
-    let n = tree_number(h, seen, j.next, &fields[0..j.count]);
-    if n != 0 {
-        return Read::Refused(n);
+    if let Err(refusal) = judge_tree(h, seen, j.next, &fields[..j.count]) {
+        return Read::Refused(refusal);
     }
     Read::Line {
         count: j.count,
@@ -105,11 +102,11 @@ fn put_row(rows: &mut [Row], i: usize, x: Row)
     }
 }
 
-// How many children the row has, and the place after its line; or a refusal.
+// How many children a row has, and the place after its line.
 #[derive(Clone, Copy)]
-pub enum TreeRow {
-    Row { children: u64, next: usize },
-    Refused(u64),
+pub struct TreeRow {
+    pub children: u64,
+    pub next: usize,
 }
 
 // The tree line at a place as row `seen`, by its fields.
@@ -120,20 +117,21 @@ fn judged_row(
     h: TreeShape,
     fields: &mut [[u64; 2]],
     rows: &mut [Row],
-) -> TreeRow
+) -> Result<TreeRow, Refusal>
     requires { length h.line.bounds.now ≤ length fields.old }
     ensures answer { result ≡ tree_row_by (number_at (tree_by h.entry) seen s.now at) (after s.now at) (line_at h.entry.line.letter s.now at) }
     ensures stored { RowStored (tree_by h.entry) seen s.now at rows.old rows.new }
 {
-    let r = tree_line(s, at, seen, h, &mut *fields);
-    let Read::Line { count, next } = r else {
-        return TreeRow::Refused(number_of(r));
-    };
-    let row = operator_row(&fields[0..count], seen as u64 + 1);
-    put_row(rows, seen, row);
-    TreeRow::Row {
-        children: row[CHILDREN],
-        next,
+    match tree_line(s, at, seen, h, &mut *fields) {
+        Read::Line { count, next } => {
+            let row = operator_row(&fields[..count], seen as u64 + 1);
+            put_row(rows, seen, row);
+            Ok(TreeRow {
+                children: row[CHILDREN],
+                next,
+            })
+        }
+        Read::Refused(refusal) => Err(refusal),
     }
 }
 
@@ -146,36 +144,29 @@ fn tree_row(
     h: TreeShape,
     fields: &mut [[u64; 2]],
     rows: &mut [Row],
-) -> TreeRow
+) -> Result<TreeRow, Refusal>
     requires in_bounds { length h.line.bounds.now ≤ length fields.old }
     requires plain_shape { (0 < quick → PlainShape h.line.letter h.line.bounds.now h.line.sizes.now h.line.codes.now) × (quick ≤ h.most) × (quick ≤ length rows.old) }
     ensures answer { result ≡ tree_row_by (number_at (tree_by h.entry) seen s.now at) (after s.now at) (line_at h.entry.line.letter s.now at) }
     ensures stored { RowStored (tree_by h.entry) seen s.now at rows.old rows.new }
 {
     if seen < quick {
-        let r = operator_read(s, at, seen, h, &mut rows[seen]);
-        if let Plain::Line { end } = r {
-            return TreeRow::Row {
+        if let Ok(end) = operator_read(s, at, seen, h, &mut rows[seen]) {
+            return Ok(TreeRow {
                 children: rows[seen][CHILDREN],
                 next: end + 1,
-            };
+            });
         }
     }
     judged_row(s, at, seen, h, fields, rows)
 }
 
-// How many rows were read, the place after them and the number of the line there; or a refusal and its line.
+// How many rows were read, the place after them and the number of the line there.
 #[derive(Clone, Copy)]
-pub enum Rows {
-    Read {
-        count: usize,
-        next: usize,
-        line: u64,
-    },
-    Refused {
-        number: u64,
-        line: u64,
-    },
+pub struct RowsRead {
+    pub count: usize,
+    pub next: usize,
+    pub line: u64,
 }
 
 // The lines of one tree from a place on, as operators' rows, of which those are stored for which there is room; what follows the tree is left alone.
@@ -186,7 +177,7 @@ pub fn read_tree(
     h: TreeShape,
     fields: &mut [[u64; 2]],
     rows: &mut [Row],
-) -> Rows
+) -> Result<RowsRead, Refused>
     requires in_bounds { length h.line.bounds.now ≤ length fields.old }
     requires at_bound { (at ≤ length s.now) × (line ≤ at + 1) }
     ensures answer { result ≡ rows_by (run_from (tree_by h.entry) 1 s.now line at) }
@@ -198,20 +189,19 @@ pub fn read_tree(
     let mut n: usize = 0;
     let mut owed: u64 = 1;
     while owed != 0 {
-        let r = tree_row(s, p, n, quick, h, &mut *fields, &mut *rows);
-        match r {
-            TreeRow::Refused(number) => return Rows::Refused { number, line: l },
-            TreeRow::Row { children, next } => {
-                owed = owed - 1 + children;
-                p = next;
+        match tree_row(s, p, n, quick, h, &mut *fields, &mut *rows) {
+            Ok(row) => {
+                owed = owed - 1 + row.children;
+                p = row.next;
             }
+            Err(refusal) => return Err(refusal.on_line(l)),
         }
         n += 1;
         l += 1;
     }
-    Rows::Read {
+    Ok(RowsRead {
         count: n,
         next: p,
         line: l,
-    }
+    })
 }

@@ -3,7 +3,7 @@
 use mathlib.Core.Path.{◌≡◌, refl, sym, ap, subst, ◌∙◌}
 use Prim.Native.Nat.{ℕ, suc, ◌+◌, ◌-◌, ◌≤◌}
 use native.Mathlib.Omega.{arith}
-use mathlib.Core.List.{List, [], ◌∷◌, ◌++◌, append-nil, append_assoc, map}
+use mathlib.Core.List.{List, [], ◌∷◌, ◌++◌, append-nil, append_assoc, map, map-append}
 use mathlib.Core.Option.{Option}
 use lib.ListN.{length}
 use borrow.Author.Tests.{ne_eqb, eq-eqb}
@@ -21,7 +21,7 @@ use Rattle.plansheet.specs.PlanTexts.{row_fields, tree_rows}
 use Rattle.plantheorems.specs.Everywhere.{Every, Everys, ids, places_from}
 use Rattle.plantheorems.specs.LegalPlans.{LegalOperator}
 use Rattle.plantheorems.proofs.Runs.{Legal, stop, more}
-use Rattle.plantheorems.proofs.TreeRows.{lines_rows, id_of, id_row, ids_rows, map-append}
+use Rattle.plantheorems.proofs.TreeRows.{lines_rows, id_of, id_row, ids_rows}
 use Rattle.plantheorems.proofs.TreeLines.{operator_fine, row_back}
 
 -- ---- each row by its operator

@@ -1,7 +1,10 @@
 -- Refusals and their numbers, each by the other.
 use Rattle.std.proofs.Common.{arith}
 use Rattle.std.specs.Prelude.{◌≡◌, ◌≤◌}
-use mathlib.Core.Path.{refl}
+use mathlib.Core.Path.{refl, sym}
+use mathlib.Core.Bool.{true, false, true≢false}
+use denote.Enum.Bare.{sameb}
+use Rattle.refusals.specs.contracts.Refusal as R
 use Rattle.refusals.specs.declared.Refusal.{Refusal}
 use Rattle.refusals.specs.declared.Refusal.TheVariants.{WrongLine, MalformedField, BeyondSize, UndefinedCode, UnfitLists, UnfitChildren, SettingsOutOfRange, UnfitFacts, MissingRow, NameNotFound, Unenforceable, OutputTooShort}
 use Rattle.refusals.specs.Refusals.{refusal_number, refusal_of}
@@ -33,3 +36,21 @@ refusal_number-≤ MissingRow = omega arith
 refusal_number-≤ NameNotFound = omega arith
 refusal_number-≤ Unenforceable = omega arith
 refusal_number-≤ OutputTooShort = omega arith
+
+-- the comparison with the refusal of a wrong line
+pub same_wrong : (r : Refusal) → sameb R.the_type r WrongLine ≡ true → r ≡ WrongLine
+same_wrong WrongLine e = refl
+same_wrong MalformedField e = absurd (true≢false (sym e))
+same_wrong BeyondSize e = absurd (true≢false (sym e))
+same_wrong UndefinedCode e = absurd (true≢false (sym e))
+same_wrong UnfitLists e = absurd (true≢false (sym e))
+same_wrong UnfitChildren e = absurd (true≢false (sym e))
+same_wrong SettingsOutOfRange e = absurd (true≢false (sym e))
+same_wrong UnfitFacts e = absurd (true≢false (sym e))
+same_wrong MissingRow e = absurd (true≢false (sym e))
+same_wrong NameNotFound e = absurd (true≢false (sym e))
+same_wrong Unenforceable e = absurd (true≢false (sym e))
+same_wrong OutputTooShort e = absurd (true≢false (sym e))
+
+pub other_wrong : (r : Refusal) → sameb R.the_type r WrongLine ≡ false → r ≡ WrongLine → ⊥
+other_wrong r e z = true≢false (rw z at e)

@@ -15,7 +15,6 @@ pub mod AnswersFit
 pub mod Refused
 pub mod Lowest
 pub mod Decided
-pub mod Tests
 pub mod SheetTurns
 pub mod SheetWhole
 pub mod HeldRows

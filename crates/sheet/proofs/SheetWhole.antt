@@ -26,7 +26,6 @@ use Rattle.linekinds.proofs.ReadLists.{good_fit}
 use Rattle.sheet.specs.Held.{held_at}
 use Rattle.sheet.specs.SheetLines.{refused_on, most_lists, in_turn, line_kinds, line_count, count_by, FewChildren, lines_from, lines_by, whole_lines, ended_by, HeldLine, HeldLines, HeadKept}
 use Rattle.std.specs.Prelude.{Ok, Err}
-use Rattle.refusals.specs.declared.Refused.{Refused}
 use Rattle.sheet.specs.declared.read.LinesRead.{LinesRead}
 use Rattle.sheet.proofs.Accepted.{nothing_follows}
 use Rattle.sheet.proofs.SheetTurns.{Taken, Refusal, line_read_lem, line_refused}
@@ -131,10 +130,6 @@ module _ (s : List ℕ) (p : ℕ) where
       go false e = refl
 
 module _ (s : List ℕ) (k : SheetKind) (lists : List (List ℕ)) (counts : List ℕ) where
-  pub end_refused : (run : Run) (r : Refused) → Err r ≡ lines_by run → Err r ≡ ended_by run
-  end_refused (read rs ls m p) r e = let z : ◌≡◌ {A = ℕ} 0 1 = cc in absurd (omega arith)
-  end_refused (refused m q) r e = e
-
   module _ (t : LinesRead) where
     pub end_extra : (run : Run) → Ok t ≡ lines_by run → HeldLines s k 0 run lists counts → t.next < length s → Err (refused_on 1 t.line) ≡ ended_by run
     end_extra (read rs ls l p) e h g =

@@ -1,14 +1,9 @@
 // Whether the lists of a sheet fit its operator, by their counts: refusal 5.
 ghost use Rattle.std.specs.Prelude.{◌≡◌, ◌≤◌, length};
-ghost use Rattle.sheet.specs.KeySheets.{pairs_serve, serves};
+ghost use Rattle.sheet.specs.KeySheets.{serves};
 ghost use Rattle.sheet.specs.ListFits.{direction_counts, pair_counts, key_counts_fit, input_counts, join_counts_fit};
 
-// L, G and W serve a sort-merge join and a Partitioned hash join.
-fn pairs_serve(op: u64, mode: u64) -> bool
-    ensures { result ≡ pairs_serve op mode }
-{
-    op == 2 || op == 0 && mode == 0
-}
+use keys::inputs::order_tried;
 
 // A list that does not serve is empty.
 fn serves(b: bool, n: usize) -> bool
@@ -27,7 +22,7 @@ fn directions_fit(op: u64, s: usize, l: usize) -> bool
 fn pairs_fit(op: u64, mode: u64, l: usize, g: usize, s: usize, w: usize) -> bool
     ensures { result ≡ pair_counts op mode l g s w }
 {
-    let pairs = pairs_serve(op, mode);
+    let pairs = order_tried(op, mode);
     l == g && directions_fit(op, s, l) && serves(pairs, l) && serves(pairs, w / 2)
 }
 

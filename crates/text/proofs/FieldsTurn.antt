@@ -6,7 +6,7 @@ use mathlib.Core.Bool.{true, false}
 use Prim.Native.Nat.{ℕ, ◌+◌, ◌-◌, ◌≤◌, ◌<◌, max}
 use native.Mathlib.Numerals.{add-one}
 use native.Mathlib.Omega.{arith}
-use lib.ListN.{length, drop, get_or, set, length-set, length-drop}
+use lib.ListN.{length, drop, get_or, set, length-set}
 use lib.Seq.{sets}
 use Rattle.text.specs.declared.field.Field.{Field}
 use Rattle.text.specs.declared.field.Field.TheVariants.{Number as number}
@@ -15,7 +15,7 @@ use Rattle.text.specs.Scan.{span, first, ends_line, DigitAndComma}
 use Rattle.text.proofs.Scanning.{span_next, span_comma, first_more, digits_comma, ends_cases, goes_on}
 use Rattle.text.specs.Read.{field_to, tallied}
 use Rattle.text.specs.declared.field.Scanned.{Scanned}
-use Rattle.text.proofs.Fields.{span_le, out_until, out_fields, lf_until, lf_fields, comma_until, comma_fields}
+use Rattle.text.proofs.Fields.{out_until, out_fields, lf_until, lf_fields, comma_until, comma_fields}
 
 -- the fields of the line from a place on
 abbrev pub from : List ℕ → ℕ → List Field
@@ -40,9 +40,6 @@ module _ (s : List ℕ) (at : ℕ) (out₀ out : List (List ℕ)) (i n worst lar
 
   found : c.end ≡ i + span (drop i s)
   found = ap (λ (x : Scanned). x.end) is
-
-  pub found_le : c.end ≤ max i (length s)
-  found_le = omega (arith, found, span_le (drop i s), length-drop i s)
 
   pub found_ge : i ≤ c.end
   found_ge = omega (arith, found)

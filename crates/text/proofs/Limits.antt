@@ -4,13 +4,12 @@ use mathlib.Core.Path.{◌≡◌, refl, sym, ap, ◌∙◌}
 use mathlib.Core.List.{List, [], ◌∷◌, map}
 use mathlib.Core.Bool.{Bool, true, false, cond, ◌&&◌, and-false, and-true, and_assoc}
 use mathlib.Core.Option.{none, some}
-use Prim.Native.Nat.{ℕ, zero, suc, ◌+◌, ◌≤◌, ◌<◌, max}
-use native.Mathlib.Numerals.{add-one}
+use Prim.Native.Nat.{ℕ, zero, suc, ◌≤◌, ◌<◌, max}
 use native.Mathlib.Omega.{arith}
 use lib.Dec.{leb, eqb}
-use lib.ListN.{length, drop, get_or, drop_of_length-le}
-use lib.Seq.{drop-cons}
+use lib.ListN.{length, get_or}
 use borrow.Author.Tests.{le-leb, lt-leb, leb-true, leb-false}
+use Rattle.std.specs.Prelude.{slice_index, slice_index_or, EachIndex}
 use Rattle.text.specs.declared.field.Field.{Field}
 use Rattle.text.specs.declared.field.Field.TheVariants.{Number as number, Empty as empty, Malformed as malformed}
 use Rattle.text.specs.Text.{most, field, parts, fields, line_fields, state_of, value_of, row, greatest}
@@ -49,23 +48,35 @@ uneven [] (f ∷ fs) ne = refl
 uneven (b ∷ bs) [] ne = refl
 uneven (b ∷ bs) (f ∷ fs) ne = rw (uneven bs fs (λ e. ne (ap suc e)), and-false)
 
-module _ (bs fs : List (List ℕ)) (i : ℕ) (long : length bs ≡ length fs) where
-  pub fits_end : length bs ≤ i → fits_rows (drop i bs) (drop i fs) ≡ true
-  unfolding fits_rows
-  fits_end h = let h' : length fs ≤ i = omega arith in rw (drop_of_length-le bs h, drop_of_length-le fs h')
+-- rows that are as many as their bounds are within them exactly where each is
+abbrev pub Within : List (List ℕ) → List (List ℕ) → ℕ → Type 0
+Within bs fs k = (slice_index (slice_index_or fs k []) 0 ≤ slice_index (slice_index_or bs k []) 0) × (slice_index (slice_index_or fs k []) 1 ≤ slice_index (slice_index_or bs k []) 1)
 
-  module _ (h : i < length bs) where
-    pub fits_state : get_or (get_or bs i []) 0 0 < get_or (get_or fs i []) 0 0 → fits_rows (drop i bs) (drop i fs) ≡ false
-    unfolding fits_rows
-    fits_state e = rw (drop-cons bs i [] h, drop-cons fs i [] (omega arith), lt-leb (get_or (get_or fs i []) 0 0) (get_or (get_or bs i []) 0 0) e)
+pub fits_each : (bs fs : List (List ℕ)) → length fs ≡ length bs → EachIndex bs (Within bs fs) → fits_rows bs fs ≡ true
+unfolding fits_rows
+fits_each [] [] e h = refl
+fits_each [] (f ∷ fs) e h = absurd (omega arith)
+fits_each (b ∷ bs) [] e h = absurd (omega arith)
+fits_each (b ∷ bs) (f ∷ fs) e h =
+    let p = h 0 (omega arith) in
+    rw (le-leb (get_or f 0 0) (get_or b 0 0) p.0, le-leb (get_or f 1 0) (get_or b 1 0) p.1) (fits_each bs fs (omega arith) (λ k l. h (suc k) (omega arith)))
 
-    pub fits_value : get_or (get_or bs i []) 1 0 < get_or (get_or fs i []) 1 0 → fits_rows (drop i bs) (drop i fs) ≡ false
-    unfolding fits_rows
-    fits_value e = rw (drop-cons bs i [] h, drop-cons fs i [] (omega arith), lt-leb (get_or (get_or fs i []) 1 0) (get_or (get_or bs i []) 1 0) e, and-false)
+pub each_fits : (bs fs : List (List ℕ)) → fits_rows bs fs ≡ true → EachIndex bs (Within bs fs)
+unfolding fits_rows
+each_fits [] fs e k l = absurd (omega arith)
+each_fits (b ∷ bs) [] e k l = let z : ◌≡◌ {A = ℕ} 0 1 = cc in absurd (omega arith)
+each_fits (b ∷ bs) (f ∷ fs) e zero l =
+    let p = both (leb (get_or f 0 0) (get_or b 0 0)) (leb (get_or f 1 0) (get_or b 1 0)) (both (row_within b f) (fits_rows bs fs) e).0 in
+    (leb-true (get_or f 0 0) (get_or b 0 0) p.0, leb-true (get_or f 1 0) (get_or b 1 0) p.1)
+each_fits (b ∷ bs) (f ∷ fs) e (suc k) l = each_fits bs fs (both (row_within b f) (fits_rows bs fs) e).1 k (omega arith)
 
-    pub fits_next : get_or (get_or fs i []) 0 0 ≤ get_or (get_or bs i []) 0 0 → get_or (get_or fs i []) 1 0 ≤ get_or (get_or bs i []) 1 0 → fits_rows (drop i bs) (drop i fs) ≡ fits_rows (drop (i + 1) bs) (drop (i + 1) fs)
-    unfolding fits_rows
-    fits_next e₀ e₁ = rw (add-one, drop-cons bs i [] h, drop-cons fs i [] (omega arith), le-leb (get_or (get_or fs i []) 0 0) (get_or (get_or bs i []) 0 0) e₀, le-leb (get_or (get_or fs i []) 1 0) (get_or (get_or bs i []) 1 0) e₁)
+-- a row that is not within its bound
+pub row_outside : (bs fs : List (List ℕ)) (i : ℕ) → i < length bs → (Within bs fs i → ⊥) → fits_rows bs fs ≡ false
+row_outside bs fs i h n = go (fits_rows bs fs) refl
+  where
+    go : (t : Bool) → fits_rows bs fs ≡ t → t ≡ false
+    go true e = absurd (n (each_fits bs fs e i h))
+    go false e = refl
 
 -- ---- by the largest of them
 

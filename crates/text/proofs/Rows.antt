@@ -2,17 +2,14 @@
 -- Assumes nothing.
 use mathlib.Core.Path.{◌≡◌, refl}
 use mathlib.Core.List.{List, [], ◌∷◌, ◌++◌, map}
-use mathlib.Core.Bool.{Bool, true, false, cond}
 use Prim.Native.Nat.{ℕ, ◌+◌, ◌<◌}
 use native.Mathlib.Numerals.{add-one}
-use lib.Dec.{eqb}
 use lib.ListN.{length, drop, get_or}
 use lib.Seq.{drop-cons}
-use borrow.Author.Tests.{eq-eqb, ne_eqb}
 use Rattle.text.specs.declared.field.Field.{Field}
 use Rattle.text.specs.declared.field.Field.TheVariants.{Number as number, Empty as empty, Malformed as malformed}
 use Rattle.text.specs.Text.{row}
-use Rattle.text.specs.Write.{decimal, field_text, fields_text, field_of, row_field}
+use Rattle.text.specs.Write.{field_text, fields_text, row_field}
 
 -- a field written as a row stands for itself
 pub row_field_lem : (f : Field) → row_field (row f) ≡ f
@@ -23,19 +20,6 @@ row_field_lem malformed = refl
 pub rows_fields : (fs : List Field) → map row_field (map row fs) ≡ fs
 rows_fields [] = refl
 rows_fields (f ∷ fs) = λ k. row_field_lem f k ∷ rows_fields fs k
-
-quiet : (t : Bool) → field_text (cond t empty malformed) ≡ []
-unfolding field_text
-quiet true = refl
-quiet false = refl
-
-module _ (state value : ℕ) where
-  pub number_text : state ≡ 0 → field_text (field_of state value) ≡ decimal value
-  unfolding field_text
-  number_text e = rw (eq-eqb state 0 e)
-
-  pub other_text : (state ≡ 0 → ⊥) → field_text (field_of state value) ≡ []
-  other_text ne = rw (ne_eqb state 0 ne) (quiet (eqb state 1))
 
 -- the rows from i on are those from i + 1 on after a comma and the row at i
 pub rows_text_lem : (rows : List (List ℕ)) (i : ℕ) → i < length rows → fields_text (map row_field (drop i rows)) ≡ (44 ∷ field_text (row_field (get_or rows i []))) ++ fields_text (map row_field (drop (i + 1) rows))

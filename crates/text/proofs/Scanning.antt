@@ -3,7 +3,7 @@
 use mathlib.Core.Path.{◌≡◌, refl, sym, ◌∙◌}
 use mathlib.Core.List.{List}
 use mathlib.Core.Bool.{Bool, true, false}
-use Prim.Native.Nat.{ℕ, suc, ◌+◌, ◌-◌, ◌*◌, ◌≤◌, ◌<◌}
+use Prim.Native.Nat.{ℕ, suc, ◌+◌, ◌-◌, ◌*◌, ◌≤◌, ◌<◌, max}
 use native.Mathlib.Numerals.{add-one}
 use native.Mathlib.Omega.{arith}
 use lib.Dec.{eqb, ltb}
@@ -119,3 +119,11 @@ module _ (s : List ℕ) (i : ℕ) where
 
   pub goes_on : ends_line (drop i s) ≡ false → (i < length s) × (get_or s i 0 ≡ 10 → ⊥)
   goes_on = goes_at (ltb i (length s)) refl
+
+-- a search that went past the end of the text, or began there
+pub search_past : (s : List ℕ) (at i : ℕ) → i + span (drop i s) ≡ at + span (drop at s) → length s ≤ i → (at ≤ length s → i ≤ length s) → max (length s) at ≡ i
+search_past s at i e h g = go (ltb at (length s)) refl
+  where
+    go : (t : Bool) → ltb at (length s) ≡ t → max (length s) at ≡ i
+    go true q = let l = ltb-true at (length s) q in let k : i ≤ length s = g (omega arith) in omega arith
+    go false q = let l = ltb-false at (length s) q in omega (arith, span_end s at l, span_end s i h)

@@ -26,15 +26,10 @@ pub fn rows_fit(bounds: &[[u64; 2]], rows: &[[u64; 2]]) -> bool
     if rows.len() != bounds.len() {
         return false;
     }
-    let mut i: usize = 0;
-    while i < bounds.len() {
-        if bounds[i][0] < rows[i][0] {
+    for (i, bound) in bounds.iter().enumerate() {
+        if bound[0] < rows[i][0] || bound[1] < rows[i][1] {
             return false;
         }
-        if bounds[i][1] < rows[i][1] {
-            return false;
-        }
-        i += 1;
     }
     true
 }

@@ -1,5 +1,5 @@
 // Reads one field of a line.
-ghost use Rattle.std.specs.Prelude.{◌≡◌, true, ◌+◌, drop};
+ghost use Rattle.std.specs.Prelude.{◌≡◌, ◌↔◌, IsTrue, ◌+◌, drop};
 ghost use Rattle.text.specs.declared.field.Field.TheVariants.{Number as number, Empty as empty, Malformed as malformed};
 ghost use Rattle.text.specs.Text.{state_of, value_of};
 ghost use Rattle.text.specs.Scan.{span, more_digits, first, DigitAndComma};
@@ -83,18 +83,13 @@ fn empty_to(end: usize) -> Scanned
 fn field_end(s: &[u8], at: usize) -> usize
     ensures place { result ≡ at + span (drop at s.now) }
 {
-    let mut i = at;
-    while i < s.len() {
+    for i in at..s.len() {
         let b = s[i];
-        if b == 44 {
+        if b == b',' || b == b'\n' {
             return i;
         }
-        if b == 10 {
-            return i;
-        }
-        i += 1;
     }
-    i
+    s.len().max(at)
 }
 
 // A field that is malformed, and that goes on at `at`.
@@ -111,37 +106,23 @@ fn malformed_at(s: &[u8], at: usize) -> Scanned
 fn more_digits(s: &[u8], at: usize, begun: u64) -> Scanned
     ensures { result ≡ field_to (at + span (drop at s.now)) (more_digits begun (drop at s.now)) }
 {
-    let mut i = at;
     let mut n = begun;
-    while i < s.len() {
-        let b = u64::from(s[i]);
-        if b == 44 {
+    for i in at..s.len() {
+        let b = s[i];
+        if b == b',' || b == b'\n' {
             return number_to(i, n);
         }
-        if b == 10 {
-            return number_to(i, n);
-        }
-        if b < 48 {
+        if b < b'0' || b > b'9' || n == 0 || n > TENTH {
             return malformed_at(s, i);
         }
-        if b > 57 {
-            return malformed_at(s, i);
-        }
-        if n == 0 {
-            return malformed_at(s, i);
-        }
-        if n > TENTH {
-            return malformed_at(s, i);
-        }
-        let d = b - 48;
+        let d = u64::from(b - b'0');
         let m = n * 10;
         if m > MOST - d {
             return malformed_at(s, i);
         }
         n = m + d;
-        i += 1;
     }
-    number_to(i, n)
+    number_to(s.len().max(at), n)
 }
 
 // The field that begins at `at`.
@@ -151,37 +132,19 @@ pub(crate) fn field_at(s: &[u8], at: usize) -> Scanned
     if s.len() <= at {
         return empty_to(at);
     }
-    let b = u64::from(s[at]);
-    if b == 44 {
+    let b = s[at];
+    if b == b',' || b == b'\n' {
         return empty_to(at);
     }
-    if b == 10 {
-        return empty_to(at);
-    }
-    if b < 48 {
+    if b < b'0' || b > b'9' {
         return malformed_at(s, at);
     }
-    if b > 57 {
-        return malformed_at(s, at);
-    }
-    more_digits(s, at + 1, b - 48)
+    more_digits(s, at + 1, u64::from(b - b'0'))
 }
 
 // A digit stands at `at`, and a comma after it: the most frequent field.
 pub(crate) fn digit_and_comma(s: &[u8], at: usize) -> bool
-    ensures { (result ≡ true → DigitAndComma s.now at) × (DigitAndComma s.now at → result ≡ true) }
+    ensures { IsTrue result ↔ DigitAndComma s.now at }
 {
-    if s.len() <= at {
-        return false;
-    }
-    if s.len() - at == 1 {
-        return false;
-    }
-    if s[at] < 48 {
-        return false;
-    }
-    if s[at] > 57 {
-        return false;
-    }
-    s[at + 1] == 44
+    at < s.len() && s.len() - at > 1 && s[at].is_ascii_digit() && s[at + 1] == b','
 }

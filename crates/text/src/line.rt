@@ -20,10 +20,7 @@ fn store_row(out: &mut [[u64; 2]], i: usize, field: Field)
 fn line_ended(s: &[u8], at: usize) -> bool
     ensures { result ≡ ends_line (drop at s.now) }
 {
-    if s.len() <= at {
-        return true;
-    }
-    s[at] == 10
+    s.len() <= at || s[at] == b'\n'
 }
 
 // How many fields, the largest of their states, the largest of their values, and the place where reading goes on.
@@ -46,7 +43,7 @@ pub fn fields_at(s: &[u8], at: usize, out: &mut [[u64; 2]]) -> Fields
     let mut largest: u64 = 0;
     loop {
         if digit_and_comma(s, i) {
-            let d = u64::from(s[i]) - 48;
+            let d = u64::from(s[i] - b'0');
             store_row(out, n, Field::Number(d));
             largest = largest.max(d);
             n += 1;
@@ -78,7 +75,7 @@ pub fn line_at(s: &[u8], at: usize, letter: u8, out: &mut [[u64; 2]]) -> Option<
     if s.len() <= at {
         return None;
     }
-    if s[at] == 10 {
+    if s[at] == b'\n' {
         return None;
     }
     if s[at] != letter {
@@ -88,7 +85,7 @@ pub fn line_at(s: &[u8], at: usize, letter: u8, out: &mut [[u64; 2]]) -> Option<
     if s.len() <= p {
         return None;
     }
-    if s[p] == 10 {
+    if s[p] == b'\n' {
         return Some(Fields {
             count: 0,
             worst: 0,
@@ -96,7 +93,7 @@ pub fn line_at(s: &[u8], at: usize, letter: u8, out: &mut [[u64; 2]]) -> Option<
             next: p + 1,
         });
     }
-    if s[p] != 44 {
+    if s[p] != b',' {
         return None;
     }
     let f = fields_at(s, p + 1, out);

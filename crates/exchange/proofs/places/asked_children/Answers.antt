@@ -18,9 +18,12 @@ past_tree-next-requires c = let q = c.requires.stand_all in
     asked_stands _ _ q.rest _ _ _ _ (omega (arith, q.counted, c.loop-i-test.true)) (c.loop-i.invariant.1 q.below q.rest q.counted q.stands)
 
 pub loop-i-preserved : goal.loop-i-preserved
-loop-i-preserved c = let l = c.loop-i in (simp length-set l.invariant.0, λ ts rest m h.
-    asked_turn _ ts rest _ _ _ _ _ _ (omega (arith, m, c.loop-i-test.true)) (omega (arith, l.invariant.0, c.requires.asks_len)) c.loop-i-test.true c.node_at-child.ensures c.past_tree-next.ensures
-    (l.invariant.1 ts rest m h))
+loop-i-preserved c = let l = c.loop-i in (
+  simp length-set l.invariant.0,
+  λ ts rest m h.
+      asked_turn _ ts rest _ _ _ _ _ _ (omega (arith, m, c.loop-i-test.true)) (omega (arith, l.invariant.0, c.requires.asks_len)) c.loop-i-test.true c.node_at-child.ensures c.past_tree-next.ensures
+      (l.invariant.1 ts rest m h),
+)
 
 pub returns : goal.returns
 returns c = λ ts rest m h.

@@ -11,21 +11,21 @@ use Rattle.forms.proofs.step.satisfy_distribution.Goals as goal
 abbrev necessary : RepartitionRequirementStatus → Bool
 necessary t = t.hash_necessary
 
-pub returns-then-a-eq1 : goal.returns-then-a-eq1
-returns-then-a-eq1 c = formed_taken _ _ _ _ (eq-eqb _ _ c.if-a-eq1.true) c.add_merge_on_top.ensures
+pub returns-then-a-eq-SINGLE : goal.returns-then-a-eq-SINGLE
+returns-then-a-eq-SINGLE c = formed_taken _ _ _ _ (eq-eqb _ _ c.if-a-eq-SINGLE.true) c.add_merge_on_top.ensures
 
-pub returns-then-a-ne2 : goal.returns-then-a-ne2
-returns-then-a-ne2 c = formed_left _ _ _ _ (ne_eqb _ _ c.if-a-eq1.false) (formed_left _ _ _ _ (ne_eqb _ _ c.if-a-ne2.true)
+pub returns-then-a-ne-KEYED : goal.returns-then-a-ne-KEYED
+returns-then-a-ne-KEYED c = formed_left _ _ _ _ (ne_eqb _ _ c.if-a-eq-SINGLE.false) (formed_left _ _ _ _ (ne_eqb _ _ c.if-a-ne-KEYED.true)
     (c.satisfy_unspecified.ensures c.args.aligned))
 
 pub returns-then-not-t : goal.returns-then-not-t
-returns-then-not-t c = formed_left _ _ _ _ (ne_eqb _ _ c.if-a-eq1.false) (formed_taken _ _ _ _ (eq-eqb _ _ c.if-a-ne2.false)
+returns-then-not-t c = formed_left _ _ _ _ (ne_eqb _ _ c.if-a-eq-SINGLE.false) (formed_taken _ _ _ _ (eq-eqb _ _ c.if-a-ne-KEYED.false)
     (formed_left _ _ _ _ (sym (stop _ _ (refused _ _ (ap necessary (c.get_repartition_requirement_status-t.ensures (child_for c.args.a) refl refl refl)) c.if-not-t.true))) (formed_kept _ c.args.c.at.within.2)))
 
 pub returns-then-not-needs_hash_repartition : goal.returns-then-not-needs_hash_repartition
-returns-then-not-needs_hash_repartition c = formed_left _ _ _ _ (ne_eqb _ _ c.if-a-eq1.false) (formed_taken _ _ _ _ (eq-eqb _ _ c.if-a-ne2.false)
+returns-then-not-needs_hash_repartition c = formed_left _ _ _ _ (ne_eqb _ _ c.if-a-eq-SINGLE.false) (formed_taken _ _ _ _ (eq-eqb _ _ c.if-a-ne-KEYED.false)
     (formed_left _ _ _ _ (sym (past _ _ _ (held _ _ (ap necessary (c.get_repartition_requirement_status-t.ensures (child_for c.args.a) refl refl refl)) c.if-not-t.false) (sym (refused _ _ (c.needs_hash_repartition.ensures c.args.aligned) (ap not c.if-not-needs_hash_repartition.true))))) (formed_kept _ c.args.c.at.within.2)))
 
 pub returns : goal.returns
-returns c = formed_left _ _ _ _ (ne_eqb _ _ c.if-a-eq1.false) (formed_taken _ _ _ _ (eq-eqb _ _ c.if-a-ne2.false)
+returns c = formed_left _ _ _ _ (ne_eqb _ _ c.if-a-eq-SINGLE.false) (formed_taken _ _ _ _ (eq-eqb _ _ c.if-a-ne-KEYED.false)
     (formed_taken _ _ _ _ (sym (past _ _ _ (held _ _ (ap necessary (c.get_repartition_requirement_status-t.ensures (child_for c.args.a) refl refl refl)) c.if-not-t.false) (sym (held _ _ (c.needs_hash_repartition.ensures c.args.aligned) (ap not c.if-not-needs_hash_repartition.false))))) c.add_hash_on_top.ensures))

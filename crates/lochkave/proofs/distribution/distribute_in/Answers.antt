@@ -3,56 +3,58 @@ use Rattle.std.proofs.Common.{arith, [], sym}
 use Rattle.plansheet.specs.PlanSheets.{read_plan}
 use Rattle.plananswer.specs.PlanDecision.{plan_decision}
 use Rattle.lochkave.proofs.PlanBounded.{plan_turned_few}
-use Rattle.lochkave.proofs.Entries.{leaves_refused}
+use Rattle.lochkave.proofs.Entries.{leaves_refused, turned_line, turned_word}
 use Rattle.lochkave.proofs.PlanEntries.{plan_was_turned, plan_was_held, plan_turned, plan_held, room_holds}
 use Rattle.lochkave.proofs.PlanLent.{lent_in, lent_within, lent_long, lent_sheet, lent_stands, lent_same}
 use Rattle.lochkave.proofs.distribution.distribute_in.Goals as goal
 
-pub refusal-requires : goal.refusal-requires
-refusal-requires c = let a = c.args in let q = c.read_plan-p in plan_turned_few a.sheet.now _ _ (plan_was_turned (read_plan a.sheet.now) q.result _ _ q.ensures.answer c.in-Refused.is)
+pub word-requires : goal.word-requires
+word-requires c = let a = c.args in let q = c.read_plan in let t = plan_was_turned (read_plan a.sheet.now) q.result _ q.ensures.answer c.in-Err.is in
+    omega (arith, turned_line t (plan_turned_few a.sheet.now _ _ t.is))
 
-pub returns-in-Refused : goal.returns-in-Refused
-returns-in-Refused c = let a = c.args in let q = c.read_plan-p in let both = leaves_refused (plan_decision a.sheet.now) a.out.now _ _ _
-    (plan_turned a.sheet.now _ _ (plan_was_turned (read_plan a.sheet.now) q.result _ _ q.ensures.answer c.in-Refused.is)) c.refusal.ensures in record { result = both.0; bytes = both.1 }
+pub returns-in-Err : goal.returns-in-Err
+returns-in-Err c = let a = c.args in let q = c.read_plan in let t = plan_was_turned (read_plan a.sheet.now) q.result _ q.ensures.answer c.in-Err.is in
+    let both = leaves_refused (plan_decision a.sheet.now) a.out.now _ _ _ (plan_turned a.sheet.now _ _ t.is) (turned_word t (plan_turned_few a.sheet.now _ _ t.is) _ c.word.ensures) in
+    record { result = both.0; bytes = both.1 }
 
 pub held_facts-f-requires : goal.held_facts-f-requires
 held_facts-f-requires c =
     let a = c.args in
-    let q = c.read_plan-p in
-    let w = plan_was_held (read_plan a.sheet.now) q.result _ _ _ _ _ q.ensures.answer c.in-Held.is in
+    let q = c.read_plan in
+    let w = plan_was_held (read_plan a.sheet.now) q.result _ q.ensures.answer c.in-Ok.is in
     let h = room_holds a.sheet.now _ _ _ _ w _ _ _ _ _ _ q.ensures.held in
     lent_in _ _ _ _ _ _ _ _ _ _ _ h (omega (arith, q.auto.facts)) (omega (arith, c.requires.masked, q.auto.masks))
 
 pub slice_bounds-answer_plan-end : goal.slice_bounds-answer_plan-end
 slice_bounds-answer_plan-end c =
     let a = c.args in
-    let q = c.read_plan-p in
-    let w = plan_was_held (read_plan a.sheet.now) q.result _ _ _ _ _ q.ensures.answer c.in-Held.is in
+    let q = c.read_plan in
+    let w = plan_was_held (read_plan a.sheet.now) q.result _ q.ensures.answer c.in-Ok.is in
     let h = room_holds a.sheet.now _ _ _ _ w _ _ _ _ _ _ q.ensures.held in
     lent_within _ _ _ _ _ _ _ _ _ _ _ h
 
-pub slice_bounds-answer_plan-end-in-Held : goal.slice_bounds-answer_plan-end-in-Held
-slice_bounds-answer_plan-end-in-Held c =
+pub slice_bounds-answer_plan-end-in-Ok : goal.slice_bounds-answer_plan-end-in-Ok
+slice_bounds-answer_plan-end-in-Ok c =
     let a = c.args in
-    let q = c.read_plan-p in
-    let w = plan_was_held (read_plan a.sheet.now) q.result _ _ _ _ _ q.ensures.answer c.in-Held.is in
+    let q = c.read_plan in
+    let w = plan_was_held (read_plan a.sheet.now) q.result _ q.ensures.answer c.in-Ok.is in
     let h = room_holds a.sheet.now _ _ _ _ w _ _ _ _ _ _ q.ensures.held in
     sym (lent_long _ _ _ _ _ _ _ _ _ _ _ h)
 
 pub answer_plan-requires-clause-sheet : goal.answer_plan-requires-clause-sheet
 answer_plan-requires-clause-sheet c =
     let a = c.args in
-    let q = c.read_plan-p in
-    let w = plan_was_held (read_plan a.sheet.now) q.result _ _ _ _ _ q.ensures.answer c.in-Held.is in
+    let q = c.read_plan in
+    let w = plan_was_held (read_plan a.sheet.now) q.result _ q.ensures.answer c.in-Ok.is in
     let h = room_holds a.sheet.now _ _ _ _ w _ _ _ _ _ _ q.ensures.held in
     let f = c.held_facts-f in
     rw f.ensures.children (lent_sheet _ _ _ _ _ _ _ _ _ _ _ h (omega (arith, q.auto.facts)))
 
-pub returns-in-Held : goal.returns-in-Held
-returns-in-Held c =
+pub returns-in-Ok : goal.returns-in-Ok
+returns-in-Ok c =
     let a = c.args in
-    let q = c.read_plan-p in
-    let w = plan_was_held (read_plan a.sheet.now) q.result _ _ _ _ _ q.ensures.answer c.in-Held.is in
+    let q = c.read_plan in
+    let w = plan_was_held (read_plan a.sheet.now) q.result _ q.ensures.answer c.in-Ok.is in
     let h = room_holds a.sheet.now _ _ _ _ w _ _ _ _ _ _ q.ensures.held in
     let f = c.held_facts-f in
     let same = lent_same _ _ _ _ _ _ _ _ _ _ _ h f.result f.ensures.node f.ensures.children f.ensures.rows f.ensures.masks in

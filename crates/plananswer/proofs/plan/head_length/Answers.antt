@@ -12,12 +12,3 @@ returns-clause-exact c = let a = c.args.head in omega (
   c.number_length-3.ensures.exact,
   c.number_length-4.ensures.exact,
 )
-
-pub returns-clause-few : goal.returns-clause-few
-returns-clause-few c = omega (
-  arith,
-  c.number_length.ensures.few,
-  c.number_length-2.ensures.few,
-  c.number_length-3.ensures.few,
-  c.number_length-4.ensures.few,
-)

@@ -4,9 +4,6 @@ use Rattle.plananswer.specs.RowTexts.{lines_of, row_line}
 use Rattle.plananswer.proofs.RowLines.{lines_first, lines_none}
 use Rattle.plananswer.proofs.plan.lines_length.Goals as goal
 
-pub overflow_add-n : goal.overflow_add-n
-overflow_add-n c = omega (arith, c.operator_length-n.ensures.few, c.loop-row.invariant.few, c.requires)
-
 pub loop-row-preserved : goal.loop-row-preserved
 loop-row-preserved c =
     let i = c.loop-row.row-index in
@@ -28,6 +25,3 @@ returns-clause-exact c = omega (
   c.loop-row.invariant.whole,
   ap length (lines_none row_line c.args.rows.now c.loop-row.row-index c.loop-row-test.false),
 )
-
-pub returns-clause-few : goal.returns-clause-few
-returns-clause-few c = omega (arith, c.loop-row.invariant.few, c.requires)

@@ -1,12 +1,9 @@
 -- The lines of the rows from the next on are left to write.
 use Rattle.std.proofs.Common.{drop, ◌+◌, ◌≡◌, ◌++◌, sym, ap, ◌∙◌}
-use Rattle.lines.proofs.Pieces.{owed_all, owed_room, owed_then, owed_none}
+use Rattle.lines.proofs.Pieces.{owed_room, owed_then, owed_none}
 use Rattle.plananswer.specs.RowTexts.{lines_of}
 use Rattle.plananswer.proofs.RowLines.{lines_first, lines_none}
 use Rattle.plananswer.proofs.rows.put_rows.Goals as goal
-
-pub loop-row-init : goal.loop-row-init
-loop-row-init g c = owed_all _ _ _ c.requires
 
 pub put-p-requires : goal.put-p-requires
 put-p-requires g c =

@@ -2,10 +2,11 @@
 use mathlib.Core.Path.{◌≡◌, refl, sym, ap, ◌∙◌}
 use mathlib.Core.List.{List, map}
 use mathlib.Core.Option.{Option}
-use Prim.Native.Nat.{ℕ, ◌-◌}
+use Prim.Native.Nat.{ℕ}
 use native.Mathlib.Omega.{arith}
 use lib.ListN.{length, set, take, length-map}
 use Rattle.text.specs.declared.field.Field.{Field}
+use lib.Seq.{length-take-le}
 use Rattle.text.specs.Text.{line_at, after, row}
 use Rattle.text.specs.Bounds.{bound_row}
 use Rattle.linekinds.specs.KeyLines.{values}
@@ -32,10 +33,16 @@ slice_bounds-fact_numbers-end c =
     let long : c.in-Line.count ≡ 13 = (took).counts ∙ fine_long B fact_line refl refl 0 _ (took).fs (took).zero in
     omega (arith, long, c.requires, c.fact_line-r.auto.fields)
 
+pub slice_bounds-fact_numbers-end-2 : goal.slice_bounds-fact_numbers-end-2
+slice_bounds-fact_numbers-end-2 c =
+    let took : Taken fact_line 0 ((after c.args.s.now c.args.at)) ((line_at 88 c.args.s.now c.args.at)) c.in-Line.count c.in-Line.next = taken fact_line 0 ((after c.args.s.now c.args.at)) ((line_at 88 c.args.s.now c.args.at)) _ _ (sym c.in-Line.is ∙ c.fact_line-r.ensures.answer 0) in
+    let long : c.in-Line.count ≡ 13 = (took).counts ∙ fine_long B fact_line refl refl 0 _ (took).fs (took).zero in
+    sym (length-take-le _ _ (omega (arith, long, c.requires, c.fact_line-r.auto.fields)))
+
 pub fact_numbers-requires : goal.fact_numbers-requires
 fact_numbers-requires c =
     let took : Taken fact_line 0 ((after c.args.s.now c.args.at)) ((line_at 88 c.args.s.now c.args.at)) c.in-Line.count c.in-Line.next = taken fact_line 0 ((after c.args.s.now c.args.at)) ((line_at 88 c.args.s.now c.args.at)) _ _ (sym c.in-Line.is ∙ c.fact_line-r.ensures.answer 0) in
-    let rows_are : take (c.in-Line.count - 0) c.fact_line-r.new.fields ≡ map row (took).fs = fine_rows B fact_line refl refl 0 _ (took).fs (took).zero 88 c.args.s.now c.args.at (took).is c.args.fields.now _ c.fact_line-r.ensures.stored
+    let rows_are : take (c.in-Line.count) c.fact_line-r.new.fields ≡ map row (took).fs = fine_rows B fact_line refl refl 0 _ (took).fs (took).zero 88 c.args.s.now c.args.at (took).is c.args.fields.now _ c.fact_line-r.ensures.stored
     (omega (arith, c.requires)) _ (took).counts in
     let long : c.in-Line.count ≡ 13 = (took).counts ∙ fine_long B fact_line refl refl 0 _ (took).fs (took).zero in
     rw (ap length (rows_are) ∙ length-map (took).fs row) (omega (arith, long, (took).counts))
@@ -47,7 +54,7 @@ returns-clause-answer c =
 pub returns-clause-stored : goal.returns-clause-stored
 returns-clause-stored c =
     let took : Taken fact_line 0 ((after c.args.s.now c.args.at)) ((line_at 88 c.args.s.now c.args.at)) c.in-Line.count c.in-Line.next = taken fact_line 0 ((after c.args.s.now c.args.at)) ((line_at 88 c.args.s.now c.args.at)) _ _ (sym c.in-Line.is ∙ c.fact_line-r.ensures.answer 0) in
-    let rows_are : take (c.in-Line.count - 0) c.fact_line-r.new.fields ≡ map row (took).fs = fine_rows B fact_line refl refl 0 _ (took).fs (took).zero 88 c.args.s.now c.args.at (took).is c.args.fields.now _ c.fact_line-r.ensures.stored
+    let rows_are : take (c.in-Line.count) c.fact_line-r.new.fields ≡ map row (took).fs = fine_rows B fact_line refl refl 0 _ (took).fs (took).zero 88 c.args.s.now c.args.at (took).is c.args.fields.now _ c.fact_line-r.ensures.stored
     (omega (arith, c.requires)) _ (took).counts in
     let long : c.in-Line.count ≡ 13 = (took).counts ∙ fine_long B fact_line refl refl 0 _ (took).fs (took).zero in
     let row_is : c.fact_numbers.result ≡ values (fields_of ((line_at 88 c.args.s.now c.args.at))) = c.fact_numbers.ensures ∙ ap (values_from 0 13) (rows_are) ∙ values_all 13 (took).fs (omega (arith, (took).counts, long)) ∙ ap (λ (x : Option (List Field)). values (fields_of x)) (sym (took).is) in

@@ -5,19 +5,27 @@ use Prim.Native.Nat.{ℕ, ◌+◌, ◌-◌, ◌≤◌, ◌<◌}
 use native.Mathlib.Omega.{arith}
 use borrow.Author.Tests.{eq-eqb, ne_eqb}
 use lib.ListN.{length, set, take, length-map}
+use lib.Seq.{length-take-le}
 use Rattle.text.specs.Text.{line_at, after, row}
 use Rattle.text.specs.Bounds.{bound_row}
 use Rattle.linekinds.specs.KeyLines.{values}
-use Rattle.linekinds.specs.ListLines.{number_of}
+use Rattle.std.specs.Prelude.{Result, Ok, Err}
+use Rattle.refusals.specs.declared.Refused.{Refused}
+use Rattle.plansheet.specs.declared.tree.RowsRead.{RowsRead}
 use Rattle.plansheet.specs.PlanLines.{child_shape, child_line}
 use Rattle.plansheet.specs.ReadRows.{values_from, number_rows}
 use Rattle.plansheet.proofs.Turns.{Taken, taken, head_first, head_long, head_done, head_refused, head_next, head_more}
 use Rattle.plansheet.proofs.FineLines.{fine_long, fine_rows, numbers_made, values_all}
-use Rattle.linekinds.specs.declared.line.Read.TheVariants as L
 use Rattle.plansheet.proofs.facts.read_children.Goals as goal
 
 abbrev B : List (List ℕ)
 B = map bound_row child_shape.heads
+
+abbrev read_on : ℕ → ℕ → ℕ → Result RowsRead Refused
+read_on n p l = Ok (record { count = n; next = p; line = l })
+
+abbrev back : Refused → Result RowsRead Refused
+back w = Err w
 
 -- the numbers of the turn
 pub record Room (p next s count fields : ℕ) : Type 0 where
@@ -30,63 +38,66 @@ pub loop-n-init : goal.loop-n-init
 loop-n-init c = let z : c.args.children - 0 ≡ c.args.children = omega arith in
     (rw z (head_first number_rows _ numbers_made child_line _ _ _ c.args.children _ c.requires.2 c.requires.3), omega arith, refl)
 
-pub child_line-r-requires : goal.child_line-r-requires
-child_line-r-requires c = omega (arith, c.requires.0, c.loop-n.invariant.2)
+pub child_line-requires : goal.child_line-requires
+child_line-requires c = omega (arith, c.requires.0, c.loop-n.invariant.2)
 
-pub shape_of-fields-in_default : goal.shape_of-fields-in_default
-shape_of-fields-in_default c = omega (arith, c.loop-n.invariant.2, c.child_line-r.auto.fields)
-
-pub shape_of-rows-in_default : goal.shape_of-rows-in_default
-shape_of-rows-in_default c = head_long number_rows _ numbers_made child_line _ _ _ _ _ _ _ _ c.loop-n.invariant.0
-
-pub returns-in_default : goal.returns-in_default
-returns-in_default c = let l = c.loop-n in let h : l.n < c.args.children = c.loop-n-test.true in
+pub returns-in-Refused : goal.returns-in-Refused
+returns-in-Refused c = let l = c.loop-n in let h : l.n < c.args.children = c.loop-n-test.true in
     let g : c.args.children - l.n ≡ 0 → ⊥ = λ z. omega arith in
     let both = head_refused number_rows _ numbers_made child_line _ _ _ _ _ _ _ _ l.invariant.0 (ne_eqb _ _ g) _
-    (ap L.Refused (c.number_of.ensures ∙ ap number_of c.in_default.is) ∙ sym c.in_default.is ∙ c.child_line-r.ensures.answer l.n)
-    l.rows (head_long number_rows _ numbers_made child_line _ _ _ _ _ _ _ _ l.invariant.0) in record { answer = both.0; left = both.1 }
+    (sym c.in-Refused.is ∙ c.child_line.ensures.answer l.n)
+    l.rows (head_long number_rows _ numbers_made child_line _ _ _ _ _ _ _ _ l.invariant.0) in record { answer = ap back c.on_line.ensures ∙ both.0; left = both.1 }
 
 pub slice_bounds-child_row-end : goal.slice_bounds-child_row-end
 slice_bounds-child_row-end c =
-    let took : let l = c.loop-n in Taken child_line l.n (after c.args.s.now l.p) (line_at 70 c.args.s.now l.p) c.in-Line.count c.in-Line.next = let l = c.loop-n in taken child_line l.n (after c.args.s.now l.p) (line_at 70 c.args.s.now l.p) _ _ (sym c.in-Line.is ∙ c.child_line-r.ensures.answer l.n) in
-    let room : let l = c.loop-n in Room l.p c.in-Line.next (length c.args.s.now) c.in-Line.count (length c.child_line-r.new.fields) = let l = c.loop-n in let b = head_next number_rows _ numbers_made child_line _ _ _ _ _ _ _ _ l.invariant.0 _ _ (took) in
+    let took : let l = c.loop-n in Taken child_line l.n (after c.args.s.now l.p) (line_at 70 c.args.s.now l.p) c.in-Line.count c.in-Line.next = let l = c.loop-n in taken child_line l.n (after c.args.s.now l.p) (line_at 70 c.args.s.now l.p) _ _ (sym c.in-Line.is ∙ c.child_line.ensures.answer l.n) in
+    let room : let l = c.loop-n in Room l.p c.in-Line.next (length c.args.s.now) c.in-Line.count (length c.child_line.new.fields) = let l = c.loop-n in let b = head_next number_rows _ numbers_made child_line _ _ _ _ _ _ _ _ l.invariant.0 _ _ (took) in
     record {
       on = b.0;
       within = b.1;
       counted = (took).counts ∙ fine_long B child_line refl refl l.n _ (took).fs (took).zero;
-      held = omega (arith, l.invariant.2, c.requires.0, c.child_line-r.auto.fields);
+      held = omega (arith, l.invariant.2, c.requires.0, c.child_line.auto.fields);
     } in
     omega (arith, room)
 
-pub child_row-requires : goal.child_row-requires
-child_row-requires c =
-    let took : let l = c.loop-n in Taken child_line l.n (after c.args.s.now l.p) (line_at 70 c.args.s.now l.p) c.in-Line.count c.in-Line.next = let l = c.loop-n in taken child_line l.n (after c.args.s.now l.p) (line_at 70 c.args.s.now l.p) _ _ (sym c.in-Line.is ∙ c.child_line-r.ensures.answer l.n) in
-    let rows_are : take (c.in-Line.count - 0) c.child_line-r.new.fields ≡ map row (took).fs = let l = c.loop-n in fine_rows B child_line refl refl l.n _ (took).fs (took).zero 70 c.args.s.now l.p (took).is l.fields _ c.child_line-r.ensures.stored
-    (omega (arith, l.invariant.2, c.requires.0)) _ (took).counts in
-    let room : let l = c.loop-n in Room l.p c.in-Line.next (length c.args.s.now) c.in-Line.count (length c.child_line-r.new.fields) = let l = c.loop-n in let b = head_next number_rows _ numbers_made child_line _ _ _ _ _ _ _ _ l.invariant.0 _ _ (took) in
+pub slice_bounds-child_row-end-in-Line : goal.slice_bounds-child_row-end-in-Line
+slice_bounds-child_row-end-in-Line c =
+    let took : let l = c.loop-n in Taken child_line l.n (after c.args.s.now l.p) (line_at 70 c.args.s.now l.p) c.in-Line.count c.in-Line.next = let l = c.loop-n in taken child_line l.n (after c.args.s.now l.p) (line_at 70 c.args.s.now l.p) _ _ (sym c.in-Line.is ∙ c.child_line.ensures.answer l.n) in
+    let room : let l = c.loop-n in Room l.p c.in-Line.next (length c.args.s.now) c.in-Line.count (length c.child_line.new.fields) = let l = c.loop-n in let b = head_next number_rows _ numbers_made child_line _ _ _ _ _ _ _ _ l.invariant.0 _ _ (took) in
     record {
       on = b.0;
       within = b.1;
       counted = (took).counts ∙ fine_long B child_line refl refl l.n _ (took).fs (took).zero;
-      held = omega (arith, l.invariant.2, c.requires.0, c.child_line-r.auto.fields);
+      held = omega (arith, l.invariant.2, c.requires.0, c.child_line.auto.fields);
+    } in
+    sym (length-take-le _ _ (omega (arith, room)))
+
+pub child_row-requires : goal.child_row-requires
+child_row-requires c =
+    let took : let l = c.loop-n in Taken child_line l.n (after c.args.s.now l.p) (line_at 70 c.args.s.now l.p) c.in-Line.count c.in-Line.next = let l = c.loop-n in taken child_line l.n (after c.args.s.now l.p) (line_at 70 c.args.s.now l.p) _ _ (sym c.in-Line.is ∙ c.child_line.ensures.answer l.n) in
+    let rows_are : take (c.in-Line.count) c.child_line.new.fields ≡ map row (took).fs = let l = c.loop-n in fine_rows B child_line refl refl l.n _ (took).fs (took).zero 70 c.args.s.now l.p (took).is l.fields _ c.child_line.ensures.stored
+    (omega (arith, l.invariant.2, c.requires.0)) _ (took).counts in
+    let room : let l = c.loop-n in Room l.p c.in-Line.next (length c.args.s.now) c.in-Line.count (length c.child_line.new.fields) = let l = c.loop-n in let b = head_next number_rows _ numbers_made child_line _ _ _ _ _ _ _ _ l.invariant.0 _ _ (took) in
+    record {
+      on = b.0;
+      within = b.1;
+      counted = (took).counts ∙ fine_long B child_line refl refl l.n _ (took).fs (took).zero;
+      held = omega (arith, l.invariant.2, c.requires.0, c.child_line.auto.fields);
     } in
     rw (ap length (rows_are) ∙ length-map (took).fs row) (omega (arith, room, (took).counts))
 
 pub bounds-rows-n : goal.bounds-rows-n
 bounds-rows-n c = omega (arith, c.requires.1, c.loop-n-test.true, head_long number_rows _ numbers_made child_line _ _ _ _ _ _ _ _ c.loop-n.invariant.0)
 
-pub overflow_add-n : goal.overflow_add-n
-overflow_add-n c = omega (arith, c.loop-n-test.true)
-
 pub overflow_add-l : goal.overflow_add-l
 overflow_add-l c =
-    let took : let l = c.loop-n in Taken child_line l.n (after c.args.s.now l.p) (line_at 70 c.args.s.now l.p) c.in-Line.count c.in-Line.next = let l = c.loop-n in taken child_line l.n (after c.args.s.now l.p) (line_at 70 c.args.s.now l.p) _ _ (sym c.in-Line.is ∙ c.child_line-r.ensures.answer l.n) in
-    let room : let l = c.loop-n in Room l.p c.in-Line.next (length c.args.s.now) c.in-Line.count (length c.child_line-r.new.fields) = let l = c.loop-n in let b = head_next number_rows _ numbers_made child_line _ _ _ _ _ _ _ _ l.invariant.0 _ _ (took) in
+    let took : let l = c.loop-n in Taken child_line l.n (after c.args.s.now l.p) (line_at 70 c.args.s.now l.p) c.in-Line.count c.in-Line.next = let l = c.loop-n in taken child_line l.n (after c.args.s.now l.p) (line_at 70 c.args.s.now l.p) _ _ (sym c.in-Line.is ∙ c.child_line.ensures.answer l.n) in
+    let room : let l = c.loop-n in Room l.p c.in-Line.next (length c.args.s.now) c.in-Line.count (length c.child_line.new.fields) = let l = c.loop-n in let b = head_next number_rows _ numbers_made child_line _ _ _ _ _ _ _ _ l.invariant.0 _ _ (took) in
     record {
       on = b.0;
       within = b.1;
       counted = (took).counts ∙ fine_long B child_line refl refl l.n _ (took).fs (took).zero;
-      held = omega (arith, l.invariant.2, c.requires.0, c.child_line-r.auto.fields);
+      held = omega (arith, l.invariant.2, c.requires.0, c.child_line.auto.fields);
     } in
     omega (arith, room, c.loop-n.invariant.0.lines)
 
@@ -95,15 +106,15 @@ loop-n-smaller c = omega (arith, c.loop-n-test.true)
 
 pub loop-n-preserved : goal.loop-n-preserved
 loop-n-preserved c =
-    let took : let l = c.loop-n in Taken child_line l.n (after c.args.s.now l.p) (line_at 70 c.args.s.now l.p) c.in-Line.count c.in-Line.next = let l = c.loop-n in taken child_line l.n (after c.args.s.now l.p) (line_at 70 c.args.s.now l.p) _ _ (sym c.in-Line.is ∙ c.child_line-r.ensures.answer l.n) in
-    let rows_are : take (c.in-Line.count - 0) c.child_line-r.new.fields ≡ map row (took).fs = let l = c.loop-n in fine_rows B child_line refl refl l.n _ (took).fs (took).zero 70 c.args.s.now l.p (took).is l.fields _ c.child_line-r.ensures.stored
+    let took : let l = c.loop-n in Taken child_line l.n (after c.args.s.now l.p) (line_at 70 c.args.s.now l.p) c.in-Line.count c.in-Line.next = let l = c.loop-n in taken child_line l.n (after c.args.s.now l.p) (line_at 70 c.args.s.now l.p) _ _ (sym c.in-Line.is ∙ c.child_line.ensures.answer l.n) in
+    let rows_are : take (c.in-Line.count) c.child_line.new.fields ≡ map row (took).fs = let l = c.loop-n in fine_rows B child_line refl refl l.n _ (took).fs (took).zero 70 c.args.s.now l.p (took).is l.fields _ c.child_line.ensures.stored
     (omega (arith, l.invariant.2, c.requires.0)) _ (took).counts in
-    let room : let l = c.loop-n in Room l.p c.in-Line.next (length c.args.s.now) c.in-Line.count (length c.child_line-r.new.fields) = let l = c.loop-n in let b = head_next number_rows _ numbers_made child_line _ _ _ _ _ _ _ _ l.invariant.0 _ _ (took) in
+    let room : let l = c.loop-n in Room l.p c.in-Line.next (length c.args.s.now) c.in-Line.count (length c.child_line.new.fields) = let l = c.loop-n in let b = head_next number_rows _ numbers_made child_line _ _ _ _ _ _ _ _ l.invariant.0 _ _ (took) in
     record {
       on = b.0;
       within = b.1;
       counted = (took).counts ∙ fine_long B child_line refl refl l.n _ (took).fs (took).zero;
-      held = omega (arith, l.invariant.2, c.requires.0, c.child_line-r.auto.fields);
+      held = omega (arith, l.invariant.2, c.requires.0, c.child_line.auto.fields);
     } in
     let row_is : c.child_row.result ≡ values (took).fs = let n = (took).counts in
     c.child_row.ensures ∙ ap (values_from 0 7) (rows_are) ∙ values_all 7 (took).fs (omega (arith, room)) in
@@ -111,7 +122,7 @@ loop-n-preserved c =
     let f : k - (l.n + 1) ≡ k - l.n - 1 = omega arith in (
       head_more number_rows _ numbers_made child_line _ _ _ _ _ _ _ _ l.invariant.0 _ _ (took) (ne_eqb _ _ g) _ (ap (set l.rows l.n) (row_is)) _ f,
       omega arith,
-      omega (arith, l.invariant.2, c.child_line-r.auto.fields),
+      omega (arith, l.invariant.2, c.child_line.auto.fields),
     )
 
 pub shape_of-fields : goal.shape_of-fields
@@ -123,4 +134,6 @@ shape_of-rows c = head_long number_rows _ numbers_made child_line _ _ _ _ _ _ _ 
 pub returns : goal.returns
 returns c = let l = c.loop-n in let h : c.args.children ≤ l.n = c.loop-n-test.false in
     let z : c.args.children - l.n ≡ 0 = omega arith in
-    let both = head_done number_rows _ numbers_made child_line _ _ _ _ _ _ _ _ l.invariant.0 (eq-eqb _ _ z) in record { answer = both.0; left = both.1 }
+    let both = head_done number_rows _ numbers_made child_line _ _ _ _ _ _ _ _ l.invariant.0 (eq-eqb _ _ z) in
+    let e : c.args.children ≡ l.n = omega (arith, l.invariant.1, c.loop-n-test.false) in
+    record { answer = ap (λ (n : ℕ). read_on n l.p l.l) e ∙ both.0; left = both.1 }

@@ -3,7 +3,9 @@ use mathlib.Core.Path.{◌∙◌, subst}
 use mathlib.Core.List.{[]}
 use native.Mathlib.Omega.{arith}
 use lib.ListN.{get_or, length-set}
-use Rattle.numberlines.specs.declared.row.Plain.{Plain}
+use Rattle.numberlines.specs.declared.row.Unread.{Unread}
+use Rattle.std.specs.Prelude.{Result}
+use Prim.Native.Nat.{ℕ}
 use Rattle.plansheet.specs.PlainFacts.{FactAt, FactFound}
 use Rattle.plansheet.proofs.PlainFacts.{fact_none, quick_answer, quick_left, left_again}
 use Rattle.plansheet.proofs.facts.read_fact.Goals as goal
@@ -20,17 +22,17 @@ returns-in_default-clause-stored c = let f = c.fact_at in let j = c.judged_fact-
 
 pub overflow_add-result : goal.overflow_add-result
 overflow_add-result c =
-    let found : FactAt c.args.s.now c.args.at c.fact_at.new.row c.in-Line.end = let f = c.fact_at in subst (λ (x : Plain). FactFound c.args.s.now c.args.at (get_or c.args.rows.now c.args.n []) x f.new.row) c.in-Line.is f.ensures in
+    let found : FactAt c.args.s.now c.args.at c.fact_at.new.row c.in-Ok.end = let f = c.fact_at in subst (λ (x : Result ℕ Unread). FactFound c.args.s.now c.args.at (get_or c.args.rows.now c.args.n []) x f.new.row) c.in-Ok.is f.ensures in
     omega (arith, (found).line.early)
 
 pub returns-clause-answer : goal.returns-clause-answer
 returns-clause-answer c =
-    let found : FactAt c.args.s.now c.args.at c.fact_at.new.row c.in-Line.end = let f = c.fact_at in subst (λ (x : Plain). FactFound c.args.s.now c.args.at (get_or c.args.rows.now c.args.n []) x f.new.row) c.in-Line.is f.ensures in
+    let found : FactAt c.args.s.now c.args.at c.fact_at.new.row c.in-Ok.end = let f = c.fact_at in subst (λ (x : Result ℕ Unread). FactFound c.args.s.now c.args.at (get_or c.args.rows.now c.args.n []) x f.new.row) c.in-Ok.is f.ensures in
     let o = found in
     quick_answer c.args.s.now c.args.at _ _ o
 
 pub returns-clause-stored : goal.returns-clause-stored
 returns-clause-stored c =
-    let found : FactAt c.args.s.now c.args.at c.fact_at.new.row c.in-Line.end = let f = c.fact_at in subst (λ (x : Plain). FactFound c.args.s.now c.args.at (get_or c.args.rows.now c.args.n []) x f.new.row) c.in-Line.is f.ensures in
+    let found : FactAt c.args.s.now c.args.at c.fact_at.new.row c.in-Ok.end = let f = c.fact_at in subst (λ (x : Result ℕ Unread). FactFound c.args.s.now c.args.at (get_or c.args.rows.now c.args.n []) x f.new.row) c.in-Ok.is f.ensures in
     let o = found in
     quick_left c.args.s.now c.args.at _ _ o c.args.n c.args.rows.now

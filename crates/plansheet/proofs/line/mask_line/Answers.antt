@@ -1,7 +1,10 @@
 -- `plansheet::line::mask_line` meets its contract. The line by `Opened`, then one law for each test (`Shaped`).
-use mathlib.Core.Path.{sym, ◌∙◌}
+use mathlib.Core.Path.{sym, ap, refl, ◌∙◌}
+use Rattle.refusals.proofs.Judging.{judged_ok, judged_err}
+use Rattle.linekinds.specs.declared.line.Read.TheVariants.{Refused}
+use Rattle.plansheet.specs.ReadRows.{masks_number}
 use Rattle.text.specs.Text.{line_at, after}
-use Rattle.text.proofs.Answers.{Opened, opened}
+use Rattle.text.proofs.Answers.{opened}
 use Rattle.plansheet.proofs.Shaped.{masks_wrong, masks_turned, masks_read}
 use Rattle.plansheet.proofs.line.mask_line.Goals as goal
 
@@ -11,20 +14,14 @@ returns-in_default-clause-answer c = (λ seen. masks_wrong c.args.n seen ((after
 pub returns-in_default-clause-stored : goal.returns-in_default-clause-stored
 returns-in_default-clause-stored c = c.line_at.ensures.stored
 
-pub returns-then-m-ne0-clause-answer : goal.returns-then-m-ne0-clause-answer
-returns-then-m-ne0-clause-answer c =
-    let read : Opened ((after c.args.s.now c.args.at)) ((line_at 89 c.args.s.now c.args.at)) c.in-Some.f = opened ((after c.args.s.now c.args.at)) ((line_at 89 c.args.s.now c.args.at)) _ (sym c.in-Some.is ∙ c.line_at.ensures.answer) in
-    (λ seen. masks_turned c.args.n seen ((after c.args.s.now c.args.at)) ((line_at 89 c.args.s.now c.args.at)) _ (read) _ _ c.sets_of-sets.ensures c.masks_number-m.ensures c.if-m-ne0.true)
-
-pub returns-then-m-ne0-clause-stored : goal.returns-then-m-ne0-clause-stored
-returns-then-m-ne0-clause-stored c =
-    c.line_at.ensures.stored
+pub returns-in-Err-clause-answer : goal.returns-in-Err-clause-answer
+returns-in-Err-clause-answer c =
+    let a = c.args in let f = c.in-Some.f in
+    let j = judged_err (masks_number c.sets_of-sets.result f.count f.worst f.largest f.next) c.in-Err.refusal (sym c.in-Err.is ∙ c.judge_masks.ensures) in
+    λ seen. ap Refused j.1 ∙ masks_turned a.n seen (after a.s.now a.at) (line_at 89 a.s.now a.at) f (opened _ _ f (sym c.in-Some.is ∙ c.line_at.ensures.answer)) _ _ c.sets_of-sets.ensures refl j.0
 
 pub returns-clause-answer : goal.returns-clause-answer
 returns-clause-answer c =
-    let read : Opened ((after c.args.s.now c.args.at)) ((line_at 89 c.args.s.now c.args.at)) c.in-Some.f = opened ((after c.args.s.now c.args.at)) ((line_at 89 c.args.s.now c.args.at)) _ (sym c.in-Some.is ∙ c.line_at.ensures.answer) in
-    (λ seen. masks_read c.args.n seen ((after c.args.s.now c.args.at)) ((line_at 89 c.args.s.now c.args.at)) _ (read) _ _ c.sets_of-sets.ensures c.masks_number-m.ensures c.if-m-ne0.false)
-
-pub returns-clause-stored : goal.returns-clause-stored
-returns-clause-stored c =
-    c.line_at.ensures.stored
+    let a = c.args in let f = c.in-Some.f in let i = c.in_default-judge_masks in
+    let right = judged_ok (masks_number c.sets_of-sets.result f.count f.worst f.largest f.next) i.field-0 (sym i.is ∙ c.judge_masks.ensures) in
+    λ seen. masks_read a.n seen (after a.s.now a.at) (line_at 89 a.s.now a.at) f (opened _ _ f (sym c.in-Some.is ∙ c.line_at.ensures.answer)) _ _ c.sets_of-sets.ensures refl right

@@ -5,36 +5,37 @@ use Prim.Native.Nat.{ℕ, ◌<◌}
 use native.Mathlib.Omega.{arith}
 use lib.ListN.{get_or, set, length-set}
 use lib.Seq.{get_or-set_same, set-set}
-use Rattle.numberlines.specs.declared.row.Plain.{Plain}
+use Rattle.numberlines.specs.declared.row.Unread.{Unread}
+use Rattle.std.specs.Prelude.{Result}
 use Rattle.plansheet.specs.PlainTrees.{PlainShape, OperatorHeld, OperatorRead}
 use Rattle.plansheet.proofs.PlainTrees.{quick_held, quick_row}
 use Rattle.plansheet.proofs.tree.tree_row.Goals as goal
 use Rattle.plansheet.proofs.tree.tree_row.Goals.{then-seen-quick+in_default, else-seen-quick}
 
-pub operator_read-r-requires : goal.operator_read-r-requires
-operator_read-r-requires c =
+pub operator_read-requires : goal.operator_read-requires
+operator_read-requires c =
     let shape : let a = c.args in PlainShape a.h.line.letter a.h.line.bounds.now a.h.line.sizes.now a.h.line.codes.now = c.requires.plain_shape.0 (omega (arith, c.if-seen-quick.true)) in
     let p = shape in (p.other, omega (arith, p.coded.seven), omega (arith, c.if-seen-quick.true, c.args.h.few, c.requires.plain_shape))
 
-pub bounds-rows-seen-in-Line : goal.bounds-rows-seen-in-Line
-bounds-rows-seen-in-Line c = simp length-set (omega (arith, c.if-seen-quick.true, c.requires.plain_shape))
+pub bounds-rows-seen-in-Ok : goal.bounds-rows-seen-in-Ok
+bounds-rows-seen-in-Ok c = simp length-set (omega (arith, c.if-seen-quick.true, c.requires.plain_shape))
 
 pub overflow_add-result : goal.overflow_add-result
 overflow_add-result c =
-    let held : let a = c.args in OperatorHeld a.h.line.letter a.s.now a.at a.seen a.h.line.codes.now a.h.rules.now c.in-Line.end c.operator_read-r.new.row = let a = c.args in subst (λ (x : Plain). OperatorRead a.h.line.letter a.s.now a.at a.seen a.h.line.codes.now a.h.rules.now x c.operator_read-r.new.row) c.in-Line.is c.operator_read-r.ensures in
+    let held : let a = c.args in OperatorHeld a.h.line.letter a.s.now a.at a.seen a.h.line.codes.now a.h.rules.now c.in-Ok.end c.operator_read.new.row = let a = c.args in subst (λ (x : Result ℕ Unread). OperatorRead a.h.line.letter a.s.now a.at a.seen a.h.line.codes.now a.h.rules.now x c.operator_read.new.row) c.in-Ok.is c.operator_read.ensures in
     omega (arith, (held).line.line.early)
 
-pub returns-in-Line-clause-answer : goal.returns-in-Line-clause-answer
-returns-in-Line-clause-answer c =
-    let held : let a = c.args in OperatorHeld a.h.line.letter a.s.now a.at a.seen a.h.line.codes.now a.h.rules.now c.in-Line.end c.operator_read-r.new.row = let a = c.args in subst (λ (x : Plain). OperatorRead a.h.line.letter a.s.now a.at a.seen a.h.line.codes.now a.h.rules.now x c.operator_read-r.new.row) c.in-Line.is c.operator_read-r.ensures in
+pub returns-in-Ok-clause-answer : goal.returns-in-Ok-clause-answer
+returns-in-Ok-clause-answer c =
+    let held : let a = c.args in OperatorHeld a.h.line.letter a.s.now a.at a.seen a.h.line.codes.now a.h.rules.now c.in-Ok.end c.operator_read.new.row = let a = c.args in subst (λ (x : Result ℕ Unread). OperatorRead a.h.line.letter a.s.now a.at a.seen a.h.line.codes.now a.h.rules.now x c.operator_read.new.row) c.in-Ok.is c.operator_read.ensures in
     let shape : let a = c.args in PlainShape a.h.line.letter a.h.line.bounds.now a.h.line.sizes.now a.h.line.codes.now = c.requires.plain_shape.0 (omega (arith, c.if-seen-quick.true)) in
     let a = c.args in let d = held in
     let f : a.seen < a.h.most = omega (arith, c.if-seen-quick.true, c.requires.plain_shape) in quick_row a.h.line.letter a.h.line.bounds.now a.h.line.sizes.now a.h.line.codes.now a.h.rules.now a.h.most a.seen a.s.now a.at (shape) c.args.h.line.bounded f _ _ d _
-    (ap (λ (r : List ℕ). get_or r 10 0) (get_or-set_same a.rows.now a.seen c.operator_read-r.new.row [] (omega (arith, c.if-seen-quick.true, c.requires.plain_shape))))
+    (ap (λ (r : List ℕ). get_or r 10 0) (get_or-set_same a.rows.now a.seen c.operator_read.new.row [] (omega (arith, c.if-seen-quick.true, c.requires.plain_shape))))
 
-pub returns-in-Line-clause-stored : goal.returns-in-Line-clause-stored
-returns-in-Line-clause-stored c =
-    let held : let a = c.args in OperatorHeld a.h.line.letter a.s.now a.at a.seen a.h.line.codes.now a.h.rules.now c.in-Line.end c.operator_read-r.new.row = let a = c.args in subst (λ (x : Plain). OperatorRead a.h.line.letter a.s.now a.at a.seen a.h.line.codes.now a.h.rules.now x c.operator_read-r.new.row) c.in-Line.is c.operator_read-r.ensures in
+pub returns-in-Ok-clause-stored : goal.returns-in-Ok-clause-stored
+returns-in-Ok-clause-stored c =
+    let held : let a = c.args in OperatorHeld a.h.line.letter a.s.now a.at a.seen a.h.line.codes.now a.h.rules.now c.in-Ok.end c.operator_read.new.row = let a = c.args in subst (λ (x : Result ℕ Unread). OperatorRead a.h.line.letter a.s.now a.at a.seen a.h.line.codes.now a.h.rules.now x c.operator_read.new.row) c.in-Ok.is c.operator_read.ensures in
     let shape : let a = c.args in PlainShape a.h.line.letter a.h.line.bounds.now a.h.line.sizes.now a.h.line.codes.now = c.requires.plain_shape.0 (omega (arith, c.if-seen-quick.true)) in
     let a = c.args in let d = held in
     let f : a.seen < a.h.most = omega (arith, c.if-seen-quick.true, c.requires.plain_shape) in λ z. ap (set a.rows.now a.seen) (quick_held a.h.line.letter a.h.line.bounds.now a.h.line.sizes.now a.h.line.codes.now a.h.rules.now a.h.most a.seen a.s.now a.at (shape) c.args.h.line.bounded f _ _ d)
@@ -45,7 +46,7 @@ returns-clause-stored c =
     let a = c.args in
     let over : (x : List ℕ) → set c.if-seen-quick.rows a.seen x ≡ set a.rows.now a.seen x =
     λ x. elim c.if-seen-quick.branch [
-      | then-seen-quick+in_default w ↦ ap (λ (rs : List (List ℕ)). set rs a.seen x) w.rows-is ∙ set-set a.rows.now a.seen w.operator_read-r.new.row x
+      | then-seen-quick+in_default w ↦ ap (λ (rs : List (List ℕ)). set rs a.seen x) w.rows-is ∙ set-set a.rows.now a.seen w.operator_read.new.row x
       | else-seen-quick w ↦ ap (λ (rs : List (List ℕ)). set rs a.seen x) w.rows-is
     ]
     in

@@ -1,5 +1,6 @@
 -- `fields_at` meets its contract: what the fields from `i` on give, after those stored and counted, is what all of them give.
-use mathlib.Core.Path.{sym, ap, ◌∙◌}
+use mathlib.Core.Path.{refl, sym, ap, ◌∙◌}
+use lib.ListN.{get_or}
 use Prim.Native.Nat.{max}
 use native.Mathlib.Omega.{arith}
 use Rattle.text.proofs.Scanning.{goes_on}
@@ -12,8 +13,8 @@ loop-d-init c = head_first _ _ _
 pub bounds-s-i : goal.bounds-s-i
 bounds-s-i c = omega (arith, c.digit_and_comma.ensures.0 c.if-digit_and_comma.true)
 
-pub overflow_sub-d : goal.overflow_sub-d
-overflow_sub-d c = omega (arith, c.digit_and_comma.ensures.0 c.if-digit_and_comma.true)
+pub overflow_sub-s : goal.overflow_sub-s
+overflow_sub-s c = omega (arith, c.digit_and_comma.ensures.0 c.if-digit_and_comma.true)
 
 pub overflow_add-i : goal.overflow_add-i
 overflow_add-i c = omega (arith, c.digit_and_comma.ensures.0 c.if-digit_and_comma.true)
@@ -22,7 +23,7 @@ pub loop-d-smaller-then-digit_and_comma : goal.loop-d-smaller-then-digit_and_com
 loop-d-smaller-then-digit_and_comma c = omega (arith, c.digit_and_comma.ensures.0 c.if-digit_and_comma.true)
 
 pub loop-d-preserved-then-digit_and_comma : goal.loop-d-preserved-then-digit_and_comma
-loop-d-preserved-then-digit_and_comma c = head_digit _ _ (c.digit_and_comma.ensures.0 c.if-digit_and_comma.true) _ c.from-d.ensures _ _ _ _ _ _ c.loop-d.invariant _ c.store_row.ensures _ c.max-largest.ensures
+loop-d-preserved-then-digit_and_comma c = head_digit _ _ (c.digit_and_comma.ensures.0 c.if-digit_and_comma.true) (get_or c.args.s.now c.loop-d.i 0) refl _ _ _ _ _ _ c.loop-d.invariant _ (rw c.from-d.ensures at c.store_row.ensures) _ (rw c.from-d.ensures at c.max-largest.ensures)
 
 pub shape_of-out-then-line_ended : goal.shape_of-out-then-line_ended
 shape_of-out-then-line_ended c = room' _ _ _ _ _ _ _ _ c.loop-d.invariant _ c.field_at-f.ensures _ c.store_row-in-loop-d.ensures _ (c.max-worst.ensures ∙ ap (max c.loop-d.worst) c.state.ensures) _ (c.max-largest-in-loop-d.ensures ∙ ap (max c.loop-d.largest) c.value.ensures)

@@ -1,6 +1,0 @@
--- `exchange::operator::track` meets its contract.
-use Rattle.exchange.proofs.NewOperators.{limit_mark_lem, limit_number_lem}
-use Rattle.exchange.proofs.operator.track.Goals as goal
-
-pub returns : goal.returns
-returns c = rw (limit_mark_lem _ c.requires, limit_number_lem _ c.requires)

@@ -1,0 +1,6 @@
+// What is required of an operator by the one above it, by document 01's numbers.
+pub const UNSPECIFIED: u64 = 0;
+
+pub const SINGLE: u64 = 1;
+
+pub const KEYED: u64 = 2;
