@@ -45,7 +45,7 @@ fn text_fits(
     a + b <= room
 }
 
-// The lists and the children's lists, where there is room for them; else refusal 12.
+// The lists and the children's lists, where there is room for them; else refusal 12. Two writers as `write_join` is one: over closures it would be no plainer.
 fn write_key(
     roomy: bool,
     x: &KeyLists<'_>,
@@ -98,7 +98,7 @@ fn answer_lists<'a>(
     write_key(roomy, &lists, children, held, out)
 }
 
-// The same, with the pairs at the positions still to be found.
+// The same, with the pairs at the positions still to be found. The rooms stand here as in `join`, since slices of them are lent on.
 fn answer_moved(
     roomy: bool,
     held: Lists<'_>,

@@ -1,7 +1,7 @@
 // The order that a requirement asks of the pairs of a join. Ports `try_reorder` and `expected_expr_positions`.
 ghost use Rattle.std.specs.Prelude.{◌≡◌, List, ℕ, ◌≤◌, eqb, length, take};
 ghost use Rattle.keys.specs.Expressions.{gone_number};
-ghost use Rattle.keys.specs.Lists.{same_list, take_places, expected_expr_positions};
+ghost use Rattle.keys.specs.Lists.{take_places, expected_expr_positions};
 ghost use Rattle.keys.specs.Reorder.{rewrite_one, rewrite, meets, either_side, moved_by, try_reorder};
 ghost use Rattle.keys.specs.Searched.{searched, searched_by};
 ghost use Rattle.keys.specs.Values.{number_rules, positions_of, positions_in, tried_of, report_of};
@@ -48,6 +48,7 @@ fn rewrite_one(w: &[[u64; 2]], x: u64) -> u64
     x
 }
 
+// Fills a room as `permute` does: over a closure the promise would be index by index, no plainer than the two lines.
 fn rewrite_keys(w: &[[u64; 2]], keys: &[u64], out: &mut [u64; 32])
     requires { length keys.now ≤ 32 }
     ensures { take (length keys.now) out.new ≡ rewrite eqb (number_rules w.now) keys.now }
@@ -57,16 +58,10 @@ fn rewrite_keys(w: &[[u64; 2]], keys: &[u64], out: &mut [u64; 32])
     }
 }
 
-pub fn same_keys(a: &[u64], b: &[u64]) -> bool
-    ensures { result ≡ same_list eqb a.now b.now }
-{
-    a == b
-}
-
 fn meets(r: &[u64], l: &[u64], g: &[u64]) -> bool
     ensures { result ≡ meets eqb r.now l.now g.now }
 {
-    same_keys(r, l) || same_keys(r, g)
+    r == l || r == g
 }
 
 fn either_side(r: &[u64], l: &[u64], g: &[u64]) -> Option<NumberList>

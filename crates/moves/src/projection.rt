@@ -6,7 +6,7 @@ ghost use Rattle.sheet.specs.KeyAnswers.{projected_numbers};
 
 use keys::answer::Outcome;
 
-// The group names at their places.
+// The group names at their places; by index, since both places of a pair are written.
 fn placed_names(o: &[u64], places: &[u8], out: &mut [u64; 128]) -> usize
     requires { length o.now ≤ 32 }
     ensures { (result ≤ 64) × (take result out.new ≡ projected_numbers (placed_names o.now places.now)) }
