@@ -15,20 +15,11 @@ leave_unchanged-requires c = sheet_ready c.args.src.now _ c.update_children.ensu
 pub returns-then-children_at-eq0-clause-ends : goal.returns-then-children_at-eq0-clause-ends
 returns-then-children_at-eq0-clause-ends c = let a = c.args in ends_leaf a.src.now _ c.update_children.ensures a.s (facts_by a.f.node a.f.children.now a.f.xs.rows.now a.f.masks.now) _ a.dst.now _ (sym c.children_at.ensures ∙ c.if-children_at-eq0.true) c.leave_unchanged.ensures
 
-pub returns-then-children_at-eq0-clause-becomes : goal.returns-then-children_at-eq0-clause-becomes
-returns-then-children_at-eq0-clause-becomes c = c.update_children.ensures
-
 pub remove_dist_changing_operators-at-requires : goal.remove_dist_changing_operators-at-requires
 remove_dist_changing_operators-at-requires c = sheet_stands c.args.src.now _ c.update_children.ensures _ c.requires.sheet
-
-pub ensure_worked-requires-clause-roomy : goal.ensure_worked-requires-clause-roomy
-ensure_worked-requires-clause-roomy c = omega (arith, c.requires.roomy.0, c.update_children.auto.rows)
 
 pub ensure_worked-requires-clause-worked_at : goal.ensure_worked-requires-clause-worked_at
 ensure_worked-requires-clause-worked_at c = let a = c.args in let q = c.requires in sheet_worked a.src.now _ c.update_children.ensures a.s (facts_by a.f.node a.f.children.now a.f.xs.rows.now a.f.masks.now) _ c.remove_dist_changing_operators-at.ensures _ _ q.sheet a.f.few q.roomy.1 (λ z. c.if-children_at-eq0.false (c.children_at.ensures ∙ z))
 
 pub returns-clause-ends : goal.returns-clause-ends
 returns-clause-ends c = let a = c.args in ends_worked a.src.now _ c.update_children.ensures a.s (facts_by a.f.node a.f.children.now a.f.xs.rows.now a.f.masks.now) _ a.dst.now _ _ c.remove_dist_changing_operators-at.ensures (λ z. c.if-children_at-eq0.false (c.children_at.ensures ∙ z)) c.ensure_worked.ensures
-
-pub returns-clause-becomes : goal.returns-clause-becomes
-returns-clause-becomes c = c.update_children.ensures

@@ -6,9 +6,6 @@ use Rattle.exchange.specs.FactRows.{fact_row}
 use Rattle.exchange.proofs.Interleaved.{other_layout, same_layout, layouts_end}
 use Rattle.ensure.proofs.interleave.all_layouts.Goals as goal
 
-pub invariant_of-c : goal.invariant_of-c
-invariant_of-c c = record { within = (omega arith, omega (arith, c.requires.few), c.requires.small _ c.loop-i-test.true) }
-
 pub returns-then-layout_in-layout : goal.returns-then-layout_in-layout
 returns-then-layout_in-layout c = let a = c.args in other_layout (map fact_row a.xs.rows.now) a.forms.now a.layout _ _ c.loop-i-test.true c.layout_in.ensures c.if-layout_in-layout.true
     ∙ sym c.loop-i.invariant

@@ -12,12 +12,6 @@ use Rattle.ensure.proofs.interleave.can_interleave.Goals as goal
 pub returns-then-is_empty : goal.returns-then-is_empty
 returns-then-is_empty c = let a = c.args in alike_none (map fact_row a.xs.rows.now) a.forms.now (eqb-true _ _ (sym c.if-is_empty.ensures))
 
-pub bounds-forms-0 : goal.bounds-forms-0
-bounds-forms-0 c = omega (arith, eqb-false _ _ (sym c.if-is_empty.ensures))
-
-pub invariant_of-c : goal.invariant_of-c
-invariant_of-c c = record { within = (omega arith, omega arith, c.requires.small _ (omega (arith, eqb-false _ _ (sym c.if-is_empty.ensures)))) }
-
 pub returns-then-layout-ne0 : goal.returns-then-layout-ne0
 returns-then-layout-ne0 c = let a = c.args in alike_first (map fact_row a.xs.rows.now) _ a.forms.now _ (eqb-false _ _ (sym c.if-is_empty.ensures)) c.layout_in-layout.ensures c.if-layout-ne0.true c.all_layouts.ensures
 

@@ -21,9 +21,6 @@ set_mark-requires t c = stands_in _ _ (all_first _ _ _ c.if-left-eq0.false c.req
 pub mark_children-requires : goal.mark_children-requires
 mark_children-requires t c = (omega (arith, c.decreases), marks_ready _ _ _ _ _ _ c.if-left-eq0.false c.past_tree-next.ensures c.set_mark.ensures c.requires)
 
-pub shape_of-rows : goal.shape_of-rows
-shape_of-rows t c = c.mark_children.auto.rows ∙ c.set_mark.auto.rows
-
 pub returns : goal.returns
 returns t c = marks_more _ _ _ _ _ _ c.if-left-eq0.false c.past_tree-next.ensures c.set_mark.ensures _ _ c.marks_child.ensures
     (mark_byte _ _ c.from-m.ensures) c.mark_children.ensures

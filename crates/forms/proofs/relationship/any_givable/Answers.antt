@@ -9,10 +9,6 @@ use Rattle.exchange.proofs.Tests.{enough, besides}
 use Rattle.forms.proofs.Turns.{turns_turn, turns_end}
 use Rattle.forms.proofs.relationship.any_givable.Goals as goal
 
-pub is_givable-requires : goal.is_givable-requires
-is_givable-requires c = let p = c.requires in let n = p.numbered c.loop-i.i c.loop-i-test.true in
-    record { numbered = (omega (arith, n), omega (arith, n, p.few.0), p.small c.loop-i.i (omega (arith, p.few.1, c.loop-i-test.true))) }
-
 pub returns-then-is_givable : goal.returns-then-is_givable
 unfolding any_turn
 returns-then-is_givable c = let a = c.args in let l = c.loop-i in let t = turns_turn a.asks.now a.forms.now c.requires.few.1 l.i l.m c.requires.numbered c.loop-i-test.true in

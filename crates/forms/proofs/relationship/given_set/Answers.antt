@@ -19,6 +19,3 @@ overflow_add-set c = let l = c.loop-i in omega (arith, l.invariant, c.relationsh
 
 pub loop-i-preserved : goal.loop-i-preserved
 loop-i-preserved c = let l = c.loop-i in omega (arith, l.invariant, c.relationship_of.ensures, set_turn c.args.forms.now c.requires.0 c.requires.1 l.i c.loop-i-test.true (omega arith))
-
-pub returns : goal.returns
-returns c = let l = c.loop-i in let z : l.i ≡ 0 = omega arith in l.invariant ∙ ap (λ (k : ℕ). set_of (drop k c.args.forms.now)) z

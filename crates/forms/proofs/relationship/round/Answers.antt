@@ -15,16 +15,6 @@ use Rattle.forms.proofs.Each.{prepend, each_first, each_turn, each_missing, each
 use Rattle.forms.proofs.Turns.{turns_turn, turns_end, turn_small, small_set}
 use Rattle.forms.proofs.relationship.round.Goals as goal
 
-pub loop-i-init : goal.loop-i-init
-loop-i-init c = (refl, c.requires.small, each_first _)
-
-pub give-requires : goal.give-requires
-give-requires c = let p = c.requires in let n = p.numbered c.loop-i.i c.loop-i-test.true in let l = c.loop-i in
-    record { numbered = (omega (arith, n), omega (arith, n, p.few.0), l.invariant.1 l.i (omega (arith, l.invariant.0, p.few.1, c.loop-i-test.true))) }
-
-pub returns-in_err-forms-clause-small : goal.returns-in_err-forms-clause-small
-returns-in_err-forms-clause-small c = c.loop-i.invariant.1
-
 pub returns-in_err-forms-clause-forms_after : goal.returns-in_err-forms-clause-forms_after
 unfolding each_form
 returns-in_err-forms-clause-forms_after c = let a = c.args in let l = c.loop-i in let f = turn_form (map fact_row a.xs.rows.now) in
@@ -49,9 +39,6 @@ loop-i-preserved c = let a = c.args in let l = c.loop-i in let v = c.in_ok-forms
           ∙ ap (λ (o : Answer ℕ). prepend (take l.i l.forms) (with_forms o (rest (drop (l.i + 1) l.forms)))) made)
           ∙ ap (λ (fs : List ℕ). prepend (take (l.i + 1) (set l.forms l.i v)) (rest fs)) (sym (drop-set-lt (l.i + 1) l.forms l.i v (omega arith))),
     )
-
-pub returns-clause-small : goal.returns-clause-small
-returns-clause-small c = c.loop-i.invariant.1
 
 pub returns-clause-forms_after : goal.returns-clause-forms_after
 unfolding each_form

@@ -7,9 +7,6 @@ use Rattle.exchange.specs.Standings.{state_for}
 use Rattle.forms.proofs.Formed.{formed_kept, formed_taken, formed_left}
 use Rattle.forms.proofs.step.add_merge_on_top.Goals as goal
 
-pub returns-then-c-le1 : goal.returns-then-c-le1
-returns-then-c-le1 c = formed_left _ _ _ _ (le-ltb _ _ c.if-c-le1.true) (formed_kept _ c.args.c.at.within.2)
-
 pub returns : goal.returns
 returns c = formed_taken _ _ _ _ (lt-ltb _ _ c.if-c-le1.false)
     (c.pass.ensures (state_for c.args.a c.args.c) (with_top 1 (form_of c.args.c.at.form)) merge_on (sym c.with_top.ensures.child) (sym c.with_top.ensures.form))

@@ -7,9 +7,6 @@ use Rattle.exchange.specs.Standings.{state_for}
 use Rattle.forms.proofs.Formed.{formed_kept, formed_taken, formed_left}
 use Rattle.forms.proofs.step.add_roundrobin_on_top.Goals as goal
 
-pub returns-then-target-c : goal.returns-then-target-c
-returns-then-target-c c = formed_left _ _ _ _ (le-ltb _ _ c.if-target-c.true) (formed_kept _ c.args.c.at.within.2)
-
 pub returns : goal.returns
 returns c = formed_taken _ _ _ _ (lt-ltb _ _ c.if-target-c.false)
     (c.pass.ensures (state_for c.args.a c.args.c) (with_top 3 (form_of c.args.c.at.form)) roundrobin_on (sym c.with_top.ensures.child) (sym c.with_top.ensures.form))

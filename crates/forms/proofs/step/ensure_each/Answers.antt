@@ -21,12 +21,6 @@ use Rattle.forms.proofs.step.ensure_each.Goals as goal
 abbrev stepped : Settings → Worked → Bool → List (List ℕ) → Asked → Answer ℕ
 stepped s w aligned rows a = formed (ensure_child s (worked_for w) (node_for w) (map fact_row rows) (status_of s aligned (child_for a)))
 
-pub loop-i-init : goal.loop-i-init
-loop-i-init c = (refl, each_first _)
-
-pub ensure_child-requires : goal.ensure_child-requires
-ensure_child-requires c = let p = c.requires in let n = p.numbered c.loop-i.i c.loop-i-test.true in record { numbered = (omega (arith, n), omega (arith, n, p.few)) }
-
 pub returns-in_err-forms : goal.returns-in_err-forms
 returns-in_err-forms c = let a = c.args in let l = c.loop-i in
     let go = stepped a.s a.w a.aligned a.xs.rows.now in

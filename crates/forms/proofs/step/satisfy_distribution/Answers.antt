@@ -11,9 +11,6 @@ use Rattle.forms.proofs.step.satisfy_distribution.Goals as goal
 abbrev necessary : RepartitionRequirementStatus → Bool
 necessary t = t.hash_necessary
 
-pub returns-then-a-eq-SINGLE : goal.returns-then-a-eq-SINGLE
-returns-then-a-eq-SINGLE c = formed_taken _ _ _ _ (eq-eqb _ _ c.if-a-eq-SINGLE.true) c.add_merge_on_top.ensures
-
 pub returns-then-a-ne-KEYED : goal.returns-then-a-ne-KEYED
 returns-then-a-ne-KEYED c = formed_left _ _ _ _ (ne_eqb _ _ c.if-a-eq-SINGLE.false) (formed_left _ _ _ _ (ne_eqb _ _ c.if-a-ne-KEYED.true)
     (c.satisfy_unspecified.ensures c.args.aligned))
