@@ -1,6 +1,5 @@
 -- `ensure_distribution` meets its contract: a leaf, or what its worked node comes to.
 use mathlib.Core.Path.{sym, ◌∙◌}
-use native.Mathlib.Omega.{arith}
 use Rattle.ensure.specs.Outcomes.{facts_by}
 use Rattle.exchange.proofs.Marking.{stands_in}
 use Rattle.ensure.proofs.Distributed.{sheet_stands, sheet_ready, sheet_worked, ends_leaf, ends_worked}

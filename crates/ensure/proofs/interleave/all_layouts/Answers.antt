@@ -1,7 +1,6 @@
 -- `ensure::interleave::all_layouts` meets its contract: what is left to compare says what all say.
 use mathlib.Core.Path.{sym, ◌∙◌}
 use mathlib.Core.List.{map}
-use native.Mathlib.Omega.{arith}
 use Rattle.exchange.specs.FactRows.{fact_row}
 use Rattle.exchange.proofs.Interleaved.{other_layout, same_layout, layouts_end}
 use Rattle.ensure.proofs.interleave.all_layouts.Goals as goal

@@ -2,7 +2,6 @@
 use mathlib.Core.Path.{sym, ◌∙◌}
 use mathlib.Core.Bool.{not}
 use mathlib.Core.List.{map}
-use native.Mathlib.Omega.{arith}
 use borrow.Author.Tests.{eq-eqb, eqb-true, eqb-false}
 use Rattle.exchange.specs.FactRows.{fact_row}
 use Rattle.exchange.proofs.Interleaved.{alike_none, alike_unhashed, alike_first}

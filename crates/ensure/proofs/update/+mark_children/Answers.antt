@@ -1,5 +1,4 @@
 -- The proof of `ensure::update::mark_children`, which calls itself on the others: `left` falls. What it gives is put together by `marks_more`.
-use mathlib.Core.Path.{◌∙◌}
 use native.Mathlib.Omega.{arith}
 use Rattle.exchange.proofs.Marking.{stands_in, all_first}
 use Rattle.exchange.proofs.MarkStored.{marks_done, marks_ready, marks_more}

@@ -1,6 +1,5 @@
 -- `ensure_by_forms` meets its contract: by what the states came to.
-use Rattle.std.proofs.lemmas.Result.{err_from_is_err_and}
-use Rattle.ensure.proofs.Forming.{ends_unenforced, came_worked, ends_finished}
+use Rattle.ensure.proofs.Forming.{ends_finished}
 use Rattle.ensure.proofs.worked.ensure_by_forms.Goals as goal
 
 pub returns : goal.returns

@@ -1,7 +1,6 @@
 -- `forms::relationship::any_givable` meets its contract: the children from i on can be given one as all of them can, since none before i can.
 use mathlib.Core.Path.{refl, sym, ap, ◌∙◌}
 use mathlib.Core.List.{List, map}
-use native.Mathlib.Omega.{arith}
 use Rattle.exchange.specs.declared.relationship.Turn.{Turn}
 use Rattle.exchange.specs.FactRows.{fact_row}
 use Rattle.exchange.specs.Turns.{any_turn}

@@ -1,18 +1,15 @@
 -- `forms::relationship::enforce_distribution_relationships` meets its contract: the rounds that are left, on the forms as they stand, end as all of them do (`rounds_turn`).
-use mathlib.Core.Path.{refl, sym, ap, ◌∙◌}
+use mathlib.Core.Path.{sym, ap, ◌∙◌}
 use mathlib.Core.List.{map}
 use Prim.Native.Nat.{ℕ}
 use native.Mathlib.Omega.{arith}
 use Rattle.exchange.specs.Facts.{unsatisfied_at}
 use Rattle.exchange.specs.FactRows.{fact_row}
-use lib.ListN.{length-map}
-use Rattle.exchange.specs.Turns.{rounds_by}
 use Rattle.exchange.specs.Standings.{asked_needs}
 use Rattle.exchange.proofs.Tests.{refused, held}
 use Rattle.forms.proofs.Rounds.{rounds_done, rounds_spent, rounds_stuck, rounds_lacking, rounds_turn, round_lacking, round_done, ok_or_missing, ok_or_done}
 use Rattle.std.proofs.lemmas.Result.{err_from_is_err_and}
 use Rattle.forms.proofs.Rounded.{enforce_same}
-use borrow.Author.Rules.{rules as facts-list}
 use mathlib.Core.Bool.{not}
 use Rattle.forms.proofs.relationship.enforce_distribution_relationships.Goals as goal
 

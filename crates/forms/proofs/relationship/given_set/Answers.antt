@@ -1,8 +1,7 @@
 -- `forms::relationship::given_set` meets its contract: the set of the forms from i on; with at most eight forms it stays small (`set_small`).
-use mathlib.Core.Path.{◌≡◌, sym, ap, ◌∙◌}
-use Prim.Native.Nat.{ℕ}
+use mathlib.Core.Path.{sym, ap}
 use native.Mathlib.Omega.{arith}
-use lib.ListN.{length, drop, drop_of_length-le}
+use lib.ListN.{length, drop_of_length-le}
 use Rattle.exchange.specs.Turns.{set_of}
 use Rattle.forms.proofs.Turns.{set_turn, set_small}
 use Rattle.forms.proofs.relationship.given_set.Goals as goal

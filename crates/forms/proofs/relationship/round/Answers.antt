@@ -1,5 +1,5 @@
 -- `forms::relationship::round` meets its contract: the forms before i are those after their turns, and stand before the turns from i on (`each_turn`).
-use mathlib.Core.Path.{◌≡◌, refl, sym, ap, ◌∙◌}
+use mathlib.Core.Path.{◌≡◌, sym, ap, ◌∙◌}
 use mathlib.Core.List.{List, map}
 use mathlib.Core.Option.{Option}
 use Prim.Native.Nat.{ℕ, ◌+◌, ◌/◌, ◌<◌}
@@ -11,7 +11,7 @@ use Rattle.exchange.specs.declared.relationship.Turn.{Turn}
 use Rattle.exchange.specs.FactRows.{fact_row}
 use Rattle.exchange.specs.Standings.{asked_needs, with_forms, each_form}
 use Rattle.exchange.specs.Turns.{turn_form, turns_by}
-use Rattle.forms.proofs.Each.{prepend, each_first, each_turn, each_missing, each_end}
+use Rattle.forms.proofs.Each.{prepend, each_turn, each_missing, each_end}
 use Rattle.forms.proofs.Turns.{turns_turn, turns_end, turn_small, small_set}
 use Rattle.forms.proofs.relationship.round.Goals as goal
 

@@ -1,10 +1,10 @@
 -- `forms::step::add_roundrobin_on_top` meets its contract: the child passes into the form with its new top, or stays.
 use mathlib.Core.Path.{sym}
-use borrow.Author.Tests.{lt-ltb, le-ltb}
+use borrow.Author.Tests.{lt-ltb}
 use Rattle.exchange.specs.Forms.{form_of, with_top}
 use Rattle.exchange.specs.Step.{roundrobin_on}
 use Rattle.exchange.specs.Standings.{state_for}
-use Rattle.forms.proofs.Formed.{formed_kept, formed_taken, formed_left}
+use Rattle.forms.proofs.Formed.{formed_taken}
 use Rattle.forms.proofs.step.add_roundrobin_on_top.Goals as goal
 
 pub returns : goal.returns

@@ -15,7 +15,7 @@ use Rattle.exchange.specs.Standings.{no_child, worked_for, node_for, formed, wit
 use mathlib.Core.Bool.{Bool}
 use mathlib.Core.List.{List}
 use Prim.Native.Nat.{ℕ, ◌+◌}
-use Rattle.forms.proofs.Each.{prepend, each_first, each_turn, each_missing, each_end, each_cons, each_nil}
+use Rattle.forms.proofs.Each.{prepend, each_turn, each_missing, each_end, each_cons, each_nil}
 use Rattle.forms.proofs.step.ensure_each.Goals as goal
 
 abbrev stepped : Settings → Worked → Bool → List (List ℕ) → Asked → Answer ℕ
