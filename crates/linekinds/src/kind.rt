@@ -5,6 +5,7 @@ ghost use Rattle.linekinds.specs.KeyLines.{defined_expr, undefined_exprs, over, 
 ghost use Rattle.linekinds.specs.Reading.{head_count, entry_width, row_values, undefined_by, undefined_key, undefined_join, undefined_input, fields_number, size_number, counts_number, codes_number, Whole};
 ghost use Rattle.linekinds.specs.Lines.{whole_entries};
 
+use crate::plain::PLAIN;
 use refusals::Refusal;
 use text::line::Fields;
 
@@ -161,7 +162,7 @@ fn judge_fields(c: Codes, f: Fields) -> Result<(), Refusal>
     ensures { result ≡ judged_by (fields_number c f.count f.worst f.largest) }
 {
     let heads = c.heads();
-    if f.count < heads || f.worst > 0 || f.largest > 65535 {
+    if f.count < heads || f.worst > 0 || f.largest > PLAIN {
         return Err(Refusal::MalformedField);
     }
     if !whole_entries(c.width(), f.count - heads) {

@@ -43,6 +43,7 @@ fn number_at(s: &[u8], at: usize) -> Option<Number>
     }
     let mut n = u64::from(s[at]) - 48;
     let mut p = at + 1;
+    // No `for`: the digits end where another byte stands, and its place is answered.
     while digit_at(s, p) {
         if n == 0 {
             return None;
@@ -108,6 +109,7 @@ fn entries_at(
 {
     let mut p = at;
     let mut n = from;
+    // No `for`: an entry takes as many bytes as it has.
     while stands(s, p, b',') {
         if n == most {
             return None;
@@ -127,6 +129,7 @@ fn numbers_at(s: &[u8], at: usize, largest: u64, list: &mut [u64; 64]) -> Option
 {
     let mut p = at;
     let mut n: usize = 0;
+    // No `for`: an entry takes as many bytes as it has.
     while stands(s, p, b',') {
         if n == 32 {
             return None;

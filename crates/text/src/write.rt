@@ -13,6 +13,7 @@ pub fn number_length(n: u64) -> usize
     let tenth = n / 10;
     let mut power: u64 = 1;
     let mut k: usize = 1;
+    // No `for`: the powers of ten end by the number, after as many turns as are to be counted.
     while power <= tenth {
         power = power * 10;
         k += 1;
@@ -64,6 +65,7 @@ fn put_digits(out: &mut [u8], end: usize, n: u64)
 {
     let mut i = end - 1;
     let mut m = n;
+    // No `for`: a digit a turn, from the last place backwards, as many as the number has.
     while m >= 10 {
         out[i] = digit(m % 10);
         m = m / 10;
