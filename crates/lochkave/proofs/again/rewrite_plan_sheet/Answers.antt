@@ -35,8 +35,8 @@ slice_bounds-rows-end c =
     let h = room_holds a.sheet.now _ _ _ _ w _ _ _ _ _ _ q.ensures.held in
     lent_within _ _ _ _ _ _ _ _ _ _ _ h
 
-pub slice_bounds-rows-end-2 : goal.slice_bounds-rows-end-2
-slice_bounds-rows-end-2 c =
+pub slice_bounds-put_plan_again-end : goal.slice_bounds-put_plan_again-end
+slice_bounds-put_plan_again-end c =
     let a = c.args in
     let q = c.read_plan in
     let w = plan_was_held (read_plan a.sheet.now) q.result _ q.ensures.answer c.in-Ok.is in
