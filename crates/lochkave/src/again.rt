@@ -21,13 +21,7 @@ use sheet::held::Lists;
 use sheet::sheets::{read_join_sheet, read_key_sheet};
 
 // The sheet that is held, at the front of the output, where there is room for its bytes.
-fn put_again(
-    bytes: usize,
-    kind: SheetKind,
-    n: usize,
-    held: Lists,
-    out: &mut [u8],
-) -> u64
+fn put_again(bytes: usize, kind: SheetKind, n: usize, held: Lists, out: &mut [u8]) -> u64
     requires lines { (n ≤ length held.lists.now) × (n ≤ length held.counts.now) }
     requires counts { (i : ℕ) → i < n → get_or held.counts.now i 0 ≤ 64 }
     requires bytes { bytes ≡ length (held_text kind held.lists.now held.counts.now 0 n) }
