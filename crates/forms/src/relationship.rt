@@ -145,6 +145,7 @@ pub fn enforce_distribution_relationships(
 {
     let mut left = asks.len();
     let mut mask = unsatisfied_at(masks, given_set(&*forms));
+    // No `for`: the mask decides when it ends.
     while mask != 0 {
         if left == 0 {
             return Err(Unenforced::Stuck);

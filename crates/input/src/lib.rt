@@ -20,6 +20,7 @@ pub fn read_full<R: Read>(input: &mut R, room: &mut [u8]) -> io::Result<usize>
     ensures whole { IfOk result (λ n. n < length room.new → IsAtEnd (R.remaining input.new)) }
 {
     let mut done: usize = 0;
+    // No `for`: a read takes as many bytes as it gets.
     while done < room.len() {
         let n = input.read(&mut room[done..])?;
         if n == 0 {

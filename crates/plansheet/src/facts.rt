@@ -11,7 +11,7 @@ ghost use Rattle.plansheet.specs.PlainFacts.{FactFound, FactLeft};
 
 use crate::line::{child_line, fact_line};
 use crate::tree::RowsRead;
-use exchange::fact::{AFTERMET, ATHASH, EXACT, FORD, FPLAIN, FactRow, MET, SUBSET, WIDTH};
+use exchange::fact::{FactRow, WIDTH};
 use exchange::status::ChildRow;
 use linekinds::line::Read;
 use numberlines::row::{Unread, row_at};
@@ -68,25 +68,28 @@ fn put_fact(rows: &mut [FactRow], i: usize, x: FactRow)
 fn marked(row: &FactRow) -> bool
     ensures { result ≡ true → Small row.now → over_any fact_shape.codes row.now ≡ false }
 {
-    if row[ATHASH] > 1 {
-        return false;
-    }
-    if row[EXACT] > 1 {
-        return false;
-    }
-    if row[SUBSET] > 1 {
-        return false;
-    }
-    if row[MET] > 1 {
-        return false;
-    }
-    if row[AFTERMET] > 1 {
-        return false;
-    }
-    if row[FORD] > 1 {
-        return false;
-    }
-    row[FPLAIN] <= 1
+    let [
+        _,
+        _,
+        _,
+        _,
+        at_hash,
+        exact,
+        subset,
+        met,
+        after_met,
+        _,
+        ford,
+        fplain,
+        _,
+    ] = *row;
+    at_hash <= 1
+        && exact <= 1
+        && subset <= 1
+        && met <= 1
+        && after_met <= 1
+        && ford <= 1
+        && fplain <= 1
 }
 
 // The X line at a place, into its row, where nothing in it is unusual.
@@ -137,10 +140,8 @@ pub fn copy_values(fields: &[[u64; 2]], out: &mut [u64])
     requires { length fields.now ≤ length out.old }
     ensures { out.new ≡ sets out.old 0 (row_values fields.now) }
 {
-    let mut i: usize = 0;
-    while i < fields.len() {
-        out[i] = fields[i][1];
-        i += 1;
+    for (i, field) in fields.iter().enumerate() {
+        out[i] = field[1];
     }
 }
 

@@ -22,6 +22,7 @@ fn within_bits(n: u64, mask: u64) -> bool
 {
     let mut k = n;
     let mut m = mask;
+    // No `for`: the mask decides when it ends, and n is as large as the sheet says.
     while k != 0 {
         if m == 0 {
             return true;

@@ -188,6 +188,7 @@ pub fn read_tree(
     let mut l = line;
     let mut n: usize = 0;
     let mut owed: u64 = 1;
+    // No `for`: the lines say themselves how many are still to come.
     while owed != 0 {
         match tree_row(s, p, n, quick, h, &mut *fields, &mut *rows) {
             Ok(row) => {

@@ -132,6 +132,7 @@ fn replay(rt: &impl Print, case: Case<'_>, room: &mut [u8]) -> io::Result<()> {
 // Every case of the text.
 fn run(rt: &impl Print, text: &[u8], room: &mut [u8]) -> io::Result<()> {
     let mut rest = text;
+    // No `for`: a case takes as many bytes as it says.
     while !rest.is_empty() {
         let (head, after_head) = rest.split_at(line_length(rest));
         rt.write_all(head)?;
