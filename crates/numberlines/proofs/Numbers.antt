@@ -59,7 +59,7 @@ numbers_more most s at row from to p row' o n end e =
     record { ns = l.ns; text = l.text; within = l.within; long = l.long; held = l.held; ends = l.ends }
 
 -- a row that is filled holds the numbers alone
-filled : (row ns : List ℕ) → length ns ≡ length row → sets row 0 ns ≡ ns
+pub filled : (row ns : List ℕ) → length ns ≡ length row → sets row 0 ns ≡ ns
 filled row ns e = sets-eq ns row 0 (omega (arith, e)) ∙ rw (drop_of_length-le row {i = 0 + length ns} (omega (arith, e)), append-nil ns)
 
 -- the line of them

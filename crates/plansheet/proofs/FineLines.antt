@@ -7,11 +7,10 @@ use mathlib.Core.List.{List, [], ◌∷◌, ◌++◌, map}
 use mathlib.Core.Bool.{Bool, true, false, cond, ◌||◌}
 use mathlib.Core.Option.{Option, none, some}
 use lib.Dec.{leb, ltb}
-use lib.ListN.{length, get_or, take, drop, length-map, drop_of_length-le}
-use lib.Seq.{drop-cons}
+use lib.ListN.{length, take, drop, length-map}
 use borrow.Author.Tests.{ltb-false, leb-false}
 use Rattle.text.specs.declared.field.Field.{Field}
-use Rattle.text.specs.Text.{line_at, line, line_fields, row, value_of}
+use Rattle.text.specs.Text.{line_at, line, line_fields, row}
 use Rattle.text.specs.Read.{stored_in}
 use Rattle.text.proofs.Answers.{rows_held}
 use Rattle.text.proofs.Limits.{fits_length}
@@ -19,14 +18,14 @@ use Rattle.refusals.specs.Refusals.{refusal_number, refusal_of}
 use Rattle.refusals.specs.declared.Refusal.TheVariants.{WrongLine}
 use Rattle.refusals.proofs.Judging.{number_again}
 use Rattle.linekinds.specs.Lines.{Kind, most_bytes, fields_fit, too_many_entries, line_number}
-use Rattle.linekinds.specs.KeyLines.{at, values}
+use Rattle.linekinds.specs.KeyLines.{values}
 use Rattle.sheet.proofs.KeyRows.{either_false}
 use Rattle.sheet.proofs.RowsAgain.{number_at_lem}
 use Rattle.plansheet.specs.Shapes.{Shape, over_any, is_none, tree_line, children_at, most_children}
 use Rattle.plansheet.specs.PlanLines.{two_to}
 use Rattle.plansheet.specs.PlanSheets.{operator_row, operator_rows}
-use Rattle.plansheet.specs.ReadRows.{bound_of, values_from, number_rows}
-use Rattle.plansheet.proofs.Shaped.{fit_fixed, value_at_lem}
+use Rattle.plansheet.specs.ReadRows.{bound_of, number_rows}
+use Rattle.plansheet.proofs.Shaped.{fit_fixed}
 use Rattle.plansheet.proofs.Turns.{Made}
 
 pub record FineAt (k : Kind) (seen next : ℕ) (fs : List Field) : Type 0 where
@@ -94,22 +93,6 @@ map_last (gs ∷ rs) fs = ap (λ (ys : List (List ℕ)). values gs ∷ ys) (map_
 
 pub numbers_made : Made number_rows (λ n fs. values fs)
 numbers_made = record { empty = refl; more = map_last; long = λ rs. length-map rs values }
-
-values_at : (fs : List Field) (i : ℕ) → get_or (values fs) i 0 ≡ at fs i
-values_at [] i = refl
-values_at (f ∷ fs) zero = refl
-values_at (f ∷ fs) (suc i) = values_at fs i
-
-values_from_lem : (n i : ℕ) (fs : List Field) → length fs ≡ i + n → values_from i n (map row fs) ≡ drop i (values fs)
-values_from_lem zero i fs e = sym (drop_of_length-le (values fs) {i = i} (rw (length-map fs value_of) (omega arith)))
-values_from_lem (suc n) i fs e =
-    ap (λ (v : ℕ). v ∷ values_from (suc i) n (map row fs)) (value_at_lem fs i ∙ sym (values_at fs i))
-    ∙ ap (λ (ys : List ℕ). get_or (values fs) i 0 ∷ ys) (values_from_lem n (suc i) fs (omega arith))
-    ∙ sym (drop-cons (values fs) i 0 (rw (length-map fs value_of) (omega arith)))
-
--- a line of n numbers
-pub values_all : (n : ℕ) (fs : List Field) → length fs ≡ n → values_from 0 n (map row fs) ≡ values fs
-values_all n fs e = values_from_lem n 0 fs (omega arith)
 
 -- ---- number 1 is of no line
 

@@ -1,5 +1,5 @@
 -- What the reading functions are given and answer: a line's description as rows of numbers, the number of a line, and rows that are left in the room lent.
-use Rattle.std.specs.Prelude.{◌≡◌, ℕ, zero, suc, ◌+◌, ◌≤◌, List, [], ◌∷◌, map, cond, not, ◌&&◌, ◌||◌, eqb, leb, ltb, length, get_or, drop}
+use Rattle.std.specs.Prelude.{◌≡◌, ℕ, ◌+◌, ◌≤◌, List, [], ◌∷◌, map, cond, not, ◌&&◌, ◌||◌, eqb, leb, ltb, length, get_or, drop}
 use Rattle.std.proofs.lemmas.List.Edits.{sets}
 use Rattle.text.specs.declared.field.Field.{Field}
 use Rattle.text.specs.Text.{parts}
@@ -65,11 +65,6 @@ abbrev pub fields_row : ℕ → List (List ℕ) → List ℕ
 fields_row id rs =
     id ∷ value_at rs 0 ∷ value_at rs 1 ∷ value_at rs 2 ∷ cond (eqb (state_at rs 3) 0) 1 0 ∷ value_at rs 3
     ∷ value_at rs 4 ∷ 0 ∷ value_at rs 5 ∷ value_at rs 6 ∷ value_at rs 7 ∷ []
-
--- so many values from a place on
-abbrev pub values_from : ℕ → ℕ → List (List ℕ) → List ℕ
-values_from i zero rs = []
-values_from i (suc n) rs = value_at rs i ∷ values_from (suc i) n rs
 
 -- each line's numbers
 abbrev pub number_rows : List (List Field) → List (List ℕ)

@@ -6,7 +6,7 @@ ghost use Rattle.linekinds.specs.Lines.{line_number};
 ghost use Rattle.linekinds.specs.Reading.{row_values, read_by, Small};
 ghost use Rattle.plansheet.specs.Shapes.{over_any};
 ghost use Rattle.plansheet.specs.PlanLines.{child_line, fact_shape, fact_line};
-ghost use Rattle.plansheet.specs.ReadRows.{values_from, number_rows, rows_by, Left, run_from};
+ghost use Rattle.plansheet.specs.ReadRows.{number_rows, rows_by, Left, run_from};
 ghost use Rattle.plansheet.specs.PlainFacts.{FactFound, FactLeft};
 
 use crate::line::{child_line, fact_line};
@@ -17,42 +17,14 @@ use linekinds::line::Read;
 use numberlines::row::{Unread, row_at};
 use refusals::{Refusal, Refused};
 
-// An F line's numbers.
-fn child_row(fields: &[[u64; 2]]) -> ChildRow
-    requires { 7 ≤ length fields.now }
-    ensures { result ≡ values_from 0 7 fields.now }
+// A line's numbers.
+fn numbers_of<const N: usize>(fields: &[[u64; 2]]) -> [u64; N]
+    requires { length fields.now ≡ N }
+    ensures { result ≡ row_values fields.now }
 {
-    [
-        fields[0][1],
-        fields[1][1],
-        fields[2][1],
-        fields[3][1],
-        fields[4][1],
-        fields[5][1],
-        fields[6][1],
-    ]
-}
-
-// An X line's numbers.
-fn fact_numbers(fields: &[[u64; 2]]) -> FactRow
-    requires { 13 ≤ length fields.now }
-    ensures { result ≡ values_from 0 13 fields.now }
-{
-    [
-        fields[0][1],
-        fields[1][1],
-        fields[2][1],
-        fields[3][1],
-        fields[4][1],
-        fields[5][1],
-        fields[6][1],
-        fields[7][1],
-        fields[8][1],
-        fields[9][1],
-        fields[10][1],
-        fields[11][1],
-        fields[12][1],
-    ]
+    let mut row = [0; N];
+    copy_values(fields, &mut row);
+    row
 }
 
 // Stores a row where there is room.
@@ -113,7 +85,7 @@ fn judged_fact(s: &[u8], at: usize, n: usize, fields: &mut [[u64; 2]], rows: &mu
     let Read::Line { count, next } = r else {
         return r;
     };
-    put_fact(rows, n, fact_numbers(&fields[..count]));
+    put_fact(rows, n, numbers_of(&fields[..count]));
     Read::Line { count, next }
 }
 
@@ -163,7 +135,7 @@ pub fn read_children(
     for n in 0..children {
         match child_line(s, p, &mut *fields) {
             Read::Line { count, next } => {
-                rows[n] = child_row(&fields[..count]);
+                rows[n] = numbers_of(&fields[..count]);
                 p = next;
             }
             Read::Refused(refusal) => return Err(refusal.on_line(l)),

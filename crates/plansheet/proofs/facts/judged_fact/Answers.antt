@@ -12,9 +12,10 @@ use Rattle.text.specs.Bounds.{bound_row}
 use Rattle.linekinds.specs.KeyLines.{values}
 use Rattle.linekinds.specs.Lines.{fields_of}
 use Rattle.plansheet.specs.PlanLines.{fact_shape, fact_line}
-use Rattle.plansheet.specs.ReadRows.{values_from}
 use Rattle.plansheet.proofs.Turns.{Taken, taken}
-use Rattle.plansheet.proofs.FineLines.{fine_long, fine_rows, values_all}
+use Rattle.linekinds.specs.Reading.{row_values}
+use Rattle.linekinds.proofs.ReadLines.{row_values_lem}
+use Rattle.plansheet.proofs.FineLines.{fine_long, fine_rows}
 use Rattle.plansheet.proofs.PlainFacts.{left_alone}
 use Rattle.plansheet.proofs.facts.judged_fact.Goals as goal
 
@@ -27,20 +28,20 @@ returns-in_default-clause-answer c = c.fact_line-r.ensures.answer
 pub returns-in_default-clause-stored : goal.returns-in_default-clause-stored
 returns-in_default-clause-stored c = left_alone c.args.s.now c.args.at c.args.n c.args.rows.now _ _ c.in_default.is
 
-pub slice_bounds-fact_numbers-end : goal.slice_bounds-fact_numbers-end
-slice_bounds-fact_numbers-end c =
+pub slice_bounds-numbers_of-end : goal.slice_bounds-numbers_of-end
+slice_bounds-numbers_of-end c =
     let took : Taken fact_line 0 ((after c.args.s.now c.args.at)) ((line_at 88 c.args.s.now c.args.at)) c.in-Line.count c.in-Line.next = taken fact_line 0 ((after c.args.s.now c.args.at)) ((line_at 88 c.args.s.now c.args.at)) _ _ (sym c.in-Line.is ∙ c.fact_line-r.ensures.answer 0) in
     let long : c.in-Line.count ≡ 13 = (took).counts ∙ fine_long B fact_line refl refl 0 _ (took).fs (took).zero in
     omega (arith, long, c.requires, c.fact_line-r.auto.fields)
 
-pub slice_bounds-fact_numbers-end-2 : goal.slice_bounds-fact_numbers-end-2
-slice_bounds-fact_numbers-end-2 c =
+pub slice_bounds-numbers_of-end-2 : goal.slice_bounds-numbers_of-end-2
+slice_bounds-numbers_of-end-2 c =
     let took : Taken fact_line 0 ((after c.args.s.now c.args.at)) ((line_at 88 c.args.s.now c.args.at)) c.in-Line.count c.in-Line.next = taken fact_line 0 ((after c.args.s.now c.args.at)) ((line_at 88 c.args.s.now c.args.at)) _ _ (sym c.in-Line.is ∙ c.fact_line-r.ensures.answer 0) in
     let long : c.in-Line.count ≡ 13 = (took).counts ∙ fine_long B fact_line refl refl 0 _ (took).fs (took).zero in
     sym (length-take-le _ _ (omega (arith, long, c.requires, c.fact_line-r.auto.fields)))
 
-pub fact_numbers-requires : goal.fact_numbers-requires
-fact_numbers-requires c =
+pub numbers_of-requires : goal.numbers_of-requires
+numbers_of-requires c =
     let took : Taken fact_line 0 ((after c.args.s.now c.args.at)) ((line_at 88 c.args.s.now c.args.at)) c.in-Line.count c.in-Line.next = taken fact_line 0 ((after c.args.s.now c.args.at)) ((line_at 88 c.args.s.now c.args.at)) _ _ (sym c.in-Line.is ∙ c.fact_line-r.ensures.answer 0) in
     let rows_are : take (c.in-Line.count) c.fact_line-r.new.fields ≡ map row (took).fs = fine_rows B fact_line refl refl 0 _ (took).fs (took).zero 88 c.args.s.now c.args.at (took).is c.args.fields.now _ c.fact_line-r.ensures.stored
     (omega (arith, c.requires)) _ (took).counts in
@@ -57,5 +58,5 @@ returns-clause-stored c =
     let rows_are : take (c.in-Line.count) c.fact_line-r.new.fields ≡ map row (took).fs = fine_rows B fact_line refl refl 0 _ (took).fs (took).zero 88 c.args.s.now c.args.at (took).is c.args.fields.now _ c.fact_line-r.ensures.stored
     (omega (arith, c.requires)) _ (took).counts in
     let long : c.in-Line.count ≡ 13 = (took).counts ∙ fine_long B fact_line refl refl 0 _ (took).fs (took).zero in
-    let row_is : c.fact_numbers.result ≡ values (fields_of ((line_at 88 c.args.s.now c.args.at))) = c.fact_numbers.ensures ∙ ap (values_from 0 13) (rows_are) ∙ values_all 13 (took).fs (omega (arith, (took).counts, long)) ∙ ap (λ (x : Option (List Field)). values (fields_of x)) (sym (took).is) in
+    let row_is : c.numbers_of.result ≡ values (fields_of ((line_at 88 c.args.s.now c.args.at))) = c.numbers_of.ensures ∙ ap row_values rows_are ∙ row_values_lem (took).fs ∙ ap (λ (x : Option (List Field)). values (fields_of x)) (sym (took).is) in
     c.put_fact.ensures ∙ ap (set c.args.rows.now c.args.n) (row_is)

@@ -13,9 +13,11 @@ use Rattle.std.specs.Prelude.{Result, Ok, Err}
 use Rattle.refusals.specs.declared.Refused.{Refused}
 use Rattle.plansheet.specs.declared.tree.RowsRead.{RowsRead}
 use Rattle.plansheet.specs.PlanLines.{child_shape, child_line}
-use Rattle.plansheet.specs.ReadRows.{values_from, number_rows}
+use Rattle.plansheet.specs.ReadRows.{number_rows}
 use Rattle.plansheet.proofs.Turns.{Taken, taken, head_first, head_long, head_done, head_refused, head_next, head_more}
-use Rattle.plansheet.proofs.FineLines.{fine_long, fine_rows, numbers_made, values_all}
+use Rattle.linekinds.specs.Reading.{row_values}
+use Rattle.linekinds.proofs.ReadLines.{row_values_lem}
+use Rattle.plansheet.proofs.FineLines.{fine_long, fine_rows, numbers_made}
 use Rattle.plansheet.proofs.facts.read_children.Goals as goal
 
 abbrev B : List (List ℕ)
@@ -48,8 +50,8 @@ returns-in-Refused c = let l = c.loop-n in let h : l.n < c.args.children = c.loo
     (sym c.in-Refused.is ∙ c.child_line.ensures.answer l.n)
     l.rows (head_long number_rows _ numbers_made child_line _ _ _ _ _ _ _ _ l.invariant.0) in record { answer = ap back c.on_line.ensures ∙ both.0; left = both.1 }
 
-pub slice_bounds-child_row-end : goal.slice_bounds-child_row-end
-slice_bounds-child_row-end c =
+pub slice_bounds-numbers_of-end : goal.slice_bounds-numbers_of-end
+slice_bounds-numbers_of-end c =
     let took : let l = c.loop-n in Taken child_line l.n (after c.args.s.now l.p) (line_at 70 c.args.s.now l.p) c.in-Line.count c.in-Line.next = let l = c.loop-n in taken child_line l.n (after c.args.s.now l.p) (line_at 70 c.args.s.now l.p) _ _ (sym c.in-Line.is ∙ c.child_line.ensures.answer l.n) in
     let room : let l = c.loop-n in Room l.p c.in-Line.next (length c.args.s.now) c.in-Line.count (length c.child_line.new.fields) = let l = c.loop-n in let b = head_next number_rows _ numbers_made child_line _ _ _ _ _ _ _ _ l.invariant.0 _ _ (took) in
     record {
@@ -60,8 +62,8 @@ slice_bounds-child_row-end c =
     } in
     omega (arith, room)
 
-pub slice_bounds-child_row-end-in-Line : goal.slice_bounds-child_row-end-in-Line
-slice_bounds-child_row-end-in-Line c =
+pub slice_bounds-numbers_of-end-in-Line : goal.slice_bounds-numbers_of-end-in-Line
+slice_bounds-numbers_of-end-in-Line c =
     let took : let l = c.loop-n in Taken child_line l.n (after c.args.s.now l.p) (line_at 70 c.args.s.now l.p) c.in-Line.count c.in-Line.next = let l = c.loop-n in taken child_line l.n (after c.args.s.now l.p) (line_at 70 c.args.s.now l.p) _ _ (sym c.in-Line.is ∙ c.child_line.ensures.answer l.n) in
     let room : let l = c.loop-n in Room l.p c.in-Line.next (length c.args.s.now) c.in-Line.count (length c.child_line.new.fields) = let l = c.loop-n in let b = head_next number_rows _ numbers_made child_line _ _ _ _ _ _ _ _ l.invariant.0 _ _ (took) in
     record {
@@ -72,8 +74,8 @@ slice_bounds-child_row-end-in-Line c =
     } in
     sym (length-take-le _ _ (omega (arith, room)))
 
-pub child_row-requires : goal.child_row-requires
-child_row-requires c =
+pub numbers_of-requires : goal.numbers_of-requires
+numbers_of-requires c =
     let took : let l = c.loop-n in Taken child_line l.n (after c.args.s.now l.p) (line_at 70 c.args.s.now l.p) c.in-Line.count c.in-Line.next = let l = c.loop-n in taken child_line l.n (after c.args.s.now l.p) (line_at 70 c.args.s.now l.p) _ _ (sym c.in-Line.is ∙ c.child_line.ensures.answer l.n) in
     let rows_are : take (c.in-Line.count) c.child_line.new.fields ≡ map row (took).fs = let l = c.loop-n in fine_rows B child_line refl refl l.n _ (took).fs (took).zero 70 c.args.s.now l.p (took).is l.fields _ c.child_line.ensures.stored
     (omega (arith, l.invariant.2, c.requires.0)) _ (took).counts in
@@ -116,8 +118,8 @@ loop-n-preserved c =
       counted = (took).counts ∙ fine_long B child_line refl refl l.n _ (took).fs (took).zero;
       held = omega (arith, l.invariant.2, c.requires.0, c.child_line.auto.fields);
     } in
-    let row_is : c.child_row.result ≡ values (took).fs = let n = (took).counts in
-    c.child_row.ensures ∙ ap (values_from 0 7) (rows_are) ∙ values_all 7 (took).fs (omega (arith, room)) in
+    let row_is : c.numbers_of.result ≡ values (took).fs = let n = (took).counts in
+    c.numbers_of.ensures ∙ ap row_values rows_are ∙ row_values_lem (took).fs in
     let l = c.loop-n in let k = c.args.children in let g : k - l.n ≡ 0 → ⊥ = λ z. omega arith in
     let f : k - (l.n + 1) ≡ k - l.n - 1 = omega arith in (
       head_more number_rows _ numbers_made child_line _ _ _ _ _ _ _ _ l.invariant.0 _ _ (took) (ne_eqb _ _ g) _ (ap (set l.rows l.n) (row_is)) _ f,
