@@ -35,11 +35,6 @@ pub record Held (s : Settings) (k c n : ℕ) (tree : List (List ℕ)) (node : Li
   pub roomy : 8 ≤ length facts
   pub masked : 256 ≤ length masks
 
--- and its text fits the room
-pub record HeldFits (s : Settings) (k c n : ℕ) (tree : List (List ℕ)) (node : List ℕ) (facts xs : List (List ℕ)) (masks index : List ℕ) (room : ℕ) : Type 0 where
-  pub held : Held s k c n tree node facts xs masks index
-  pub fits : length (plan_text held.sheet) ≤ room
-
 -- and its text has so many bytes
 pub record HeldLong (s : Settings) (k c n : ℕ) (tree : List (List ℕ)) (node : List ℕ) (facts xs : List (List ℕ)) (masks index : List ℕ) (bytes : ℕ) : Type 0 where
   pub held : Held s k c n tree node facts xs masks index
