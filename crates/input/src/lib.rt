@@ -59,17 +59,9 @@ pub fn answered(word: u64) -> Result<usize, Refused>
     }
 }
 
-// Prints the answer that stands at the room's front, or the refusal.
-pub fn print_answer(
-    rt: &impl Print,
-    answer: Result<usize, Refused>,
-    room: &[u8],
-) -> io::Result<()> {
-    match answer {
-        Ok(written) => match room.get(..written) {
-            Some(bytes) => rt.write_all(bytes),
-            None => Ok(()),
-        },
-        Err(refused) => println!(rt; "{refused}"),
-    }
+// The first n bytes of a room, or all of it where it has fewer.
+pub fn front(room: &[u8], n: usize) -> &[u8]
+    ensures { result.now ≡ take n room.now }
+{
+    if n < room.len() { &room[..n] } else { room }
 }

@@ -1,7 +1,7 @@
 // Decides the sheet on standard input: the answer goes to standard output, or `e,number,line`. It reads at most 1 MiB.
 #![tactic(auto)]
 
-use input::{answered, buffer, print_answer, read_full};
+use input::{answered, buffer, front, read_full};
 use std::io;
 
 fn main(rt: HostRuntime) -> io::Result<()> {
@@ -9,5 +9,8 @@ fn main(rt: HostRuntime) -> io::Result<()> {
     let mut output = buffer::<65536>();
     let n = read_full(&mut rt.stdin(), &mut input)?;
     let word = lochkave::lochkave_decide(&input[..n], &mut output);
-    print_answer(&rt, answered(word), &output)
+    match answered(word) {
+        Ok(n) => rt.write_all(front(&output, n)),
+        Err(refused) => println!(rt; "{refused}"),
+    }
 }

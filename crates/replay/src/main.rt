@@ -6,7 +6,7 @@
 
 ghost use Rattle.std.specs.Prelude.{◌+◌, ◌<◌, ◌≤◌, IfSome, length};
 
-use input::{answered, buffer, print_answer, read_full};
+use input::{answered, buffer, front, read_full};
 use std::io;
 
 // What the room is filled with before a call; no answer has it.
@@ -118,7 +118,10 @@ fn replay(rt: &impl Print, case: Case<'_>, room: &mut [u8]) -> io::Result<()> {
     room.fill(FILLED);
     let word = ask(case, room);
     let answer = answered(word);
-    print_answer(rt, answer, room)?;
+    match answer {
+        Ok(n) => rt.write_all(front(room, n))?,
+        Err(refused) => println!(rt; "{refused}")?,
+    }
     let mut beyond = room.iter().skip(answer.unwrap_or(0));
     if !beyond.all(|b| *b == FILLED) {
         println!(rt; "touched")?;
