@@ -64,7 +64,6 @@ pub(crate) fn distribute_in(sheet: &[u8], lent: TreeRooms, out: &mut [u8]) -> u6
 }
 
 // The same in rooms for so many rows of the tree, X rows, and rows between and of the answer.
-#[inline(never)]
 fn distribute_sized<const ROWS: usize, const XS: usize, const MID: usize, const DST: usize>(
     sheet: &[u8],
     out: &mut [u8],
