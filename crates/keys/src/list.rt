@@ -29,12 +29,13 @@ impl KeyList {
     ghost use Rattle.keys.specs.Lists.{place_of};
     ghost use Rattle.keys.specs.Values.{packed_keys, found};
 
-    fn of(items: [Expr; 32], count: usize) -> KeyList
-        requires { count ≤ 32 }
-        ensures items { result.items ≡ items }
-        ensures count { result.count ≡ count }
+    fn empty() -> KeyList
+        ensures { result.count ≡ 0 }
     {
-        KeyList { items, count }
+        KeyList {
+            items: [Expr { number: 0 }; 32],
+            count: 0,
+        }
     }
 
     // The keys of a lent list.
@@ -43,11 +44,12 @@ impl KeyList {
         ensures keys { packed_keys result ≡ keys.now }
         ensures count { result.count ≡ length keys.now }
     {
-        let mut items = [Expr { number: 0 }; 32];
+        let mut list = KeyList::empty();
         for (i, &number) in keys.iter().enumerate() {
-            items[i] = Expr { number };
+            list.items[i] = Expr { number };
         }
-        KeyList::of(items, keys.len())
+        list.count = keys.len();
+        list
     }
 
     // The keys at the positions.
@@ -56,13 +58,14 @@ impl KeyList {
         ensures keys { packed_keys result ≡ permute gone_number keys.now at.now }
         ensures count { result.count ≡ length at.now }
     {
-        let mut items = [Expr { number: 0 }; 32];
+        let mut list = KeyList::empty();
         for (i, &p) in at.iter().enumerate() {
-            items[i] = Expr {
+            list.items[i] = Expr {
                 number: entry(GONE, keys, p),
             };
         }
-        KeyList::of(items, at.len())
+        list.count = at.len();
+        list
     }
 
     pub fn keys(&self) -> &[Expr]

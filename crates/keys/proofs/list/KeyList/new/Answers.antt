@@ -7,8 +7,8 @@ use Rattle.keys.proofs.list.KeyList.new.Goals as goal
 
 pub loop-i-preserved : goal.loop-i-preserved
 loop-i-preserved c = let k = c.args.keys.now in let i = c.loop-i.i in let t = c.loop-i-test.true in
-    (simp length-set c.loop-i.invariant.0, key_turn k c.loop-i.items i c.loop-i.invariant.1 (get_or k i 0) 0 t (omega (arith, c.loop-i.invariant.0)) refl)
+    (simp length-set c.loop-i.invariant.0, key_turn k c.loop-i.list.0 i c.loop-i.invariant.1 (get_or k i 0) 0 t (omega (arith, c.loop-i.invariant.0)) refl)
 
 pub returns-clause-keys : goal.returns-clause-keys
 returns-clause-keys c = let k = c.args.keys.now in let e : length k ≡ c.loop-i.i = omega (arith, c.loop-i.auto.i-end) in
-    rw (c.of.ensures.items, c.of.ensures.count, e) (key_end k c.loop-i.items c.loop-i.i c.loop-i.invariant.1 c.loop-i-test.false)
+    rw (e) (key_end k c.loop-i.list.0 c.loop-i.i c.loop-i.invariant.1 c.loop-i-test.false)

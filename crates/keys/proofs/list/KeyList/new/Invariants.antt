@@ -6,4 +6,4 @@ use Rattle.keys.specs.Values.{number_of}
 use Rattle.keys.proofs.list.KeyList.new.Given as goal
 
 abbrev pub invariant-loop-i : goal.invariant-loop-i
-invariant-loop-i l = (length l.items ≡ 32) × (take l.i (map number_of l.items) ++ drop l.i l.keys ≡ l.keys)
+invariant-loop-i l = (length l.list.0 ≡ 32) × (take l.i (map number_of l.list.0) ++ drop l.i l.keys ≡ l.keys)
