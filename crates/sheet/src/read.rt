@@ -2,7 +2,7 @@
 ghost use Rattle.std.specs.Prelude.{◌≡◌, ◌-◌, ◌≤◌, length};
 ghost use Rattle.sheet.specs.SheetLines.{most_lists, count_by, FewChildren, lines_from, lines_by, whole_lines, ended_by, HeldLines, Full, HeadKept};
 
-use linekinds::lists::{SheetKind, judged_list, read_list};
+use linekinds::lists::{SheetKind, read_list};
 use refusals::{Refusal, Refused};
 
 // The place after lines that were read, and the number of the next line.
@@ -65,7 +65,7 @@ fn read_lines(
     ensures answer { result ≡ lines_by (whole_lines k s.now) }
     ensures held { HeldLines s.now k 0 (whole_lines k s.now) lists.new counts.new }
 {
-    let head = match judged_list(s, 0, k, 0, rows, &mut lists[0]) {
+    let head = match read_list(s, 0, k, 0, rows, &mut lists[0]) {
         Ok(head) => head,
         Err(refusal) => return Err(refusal.on_line(1)),
     };
