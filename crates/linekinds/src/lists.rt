@@ -84,7 +84,7 @@ pub fn read_list(
     rows: &mut [[u64; 2]],
     list: &mut [u64; 64],
 ) -> Result<Packed, Refusal>
-    requires { (192 ≤ length rows.old) × (length list.old ≡ 64) }
+    requires { 192 ≤ length rows.old }
     ensures { ListRead s.now at k i result list.new }
 {
     let letter = k.letter(i);

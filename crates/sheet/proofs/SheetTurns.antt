@@ -21,9 +21,10 @@ use Rattle.linekinds.specs.ListLines.{line_letter, line_codes, line_kind, packed
 use Rattle.linekinds.specs.declared.kind.Codes.TheVariants as C
 use Rattle.linekinds.specs.declared.lists.SheetKind.{SheetKind}
 use Rattle.linekinds.specs.declared.lists.SheetKind.TheVariants.{Key, Join}
-use Rattle.std.specs.Prelude.{Result, Ok, Err}
+use Rattle.std.specs.Prelude.{Result, MatchResult, Ok, Err}
 use Rattle.linekinds.specs.declared.lists.Packed.{Packed}
 use Rattle.refusals.specs.declared.Refusal.{Refusal as Reason}
+use Rattle.refusals.specs.declared.Refused.{Refused}
 use Rattle.refusals.specs.Refusals.{refusal_of}
 use Rattle.linekinds.proofs.ReadLists.{good_small, good_fit, good_entries}
 use Rattle.sheet.specs.Held.{held_at}
@@ -125,6 +126,24 @@ module _ (s : List ℕ) (k : SheetKind) (i p : ℕ) where
   pub line_refused : (n m line : ℕ) → Refusal s k i p n → in_turn (line_kinds k i (suc m)) line p (parts 10 (drop p s)) ≡ refused n line
   unfolding in_turn line_kinds
   line_refused n m line r = rw (number_is, r.is, ne_eqb n 0 r.wrong)
+
+-- a refusal that was put on a line
+pub record TurnedOn (x : Result Packed Reason) (line : ℕ) (w : Refused) : Type 0 where
+  pub refusal : Reason
+  pub is : x ≡ Err refusal
+  pub on : w ≡ record { refusal = refusal; line = line }
+
+module _ (y : Result Packed Refused) (line : ℕ) where
+  abbrev pub OnLine : Result Packed Reason → Type 0
+  OnLine x = MatchResult x (λ p. y ≡ Ok p) (λ r. y ≡ Err (record { refusal = r; line = line }))
+
+  pub turned_on : (x : Result Packed Reason) → OnLine x → (w : Refused) → y ≡ Err w → TurnedOn x line w
+  turned_on (Ok p) h w e = let z : ◌≡◌ {A = ℕ} 0 1 = cc in absurd (omega arith)
+  turned_on (Err r) h w e = record { refusal = r; is = refl; on = cc }
+
+  pub read_on : (x : Result Packed Reason) → OnLine x → (p : Packed) → y ≡ Ok p → x ≡ Ok p
+  read_on (Ok q) h p e = cc
+  read_on (Err r) h p e = let z : ◌≡◌ {A = ℕ} 0 1 = cc in absurd (omega arith)
 
 -- ---- rows in front
 

@@ -28,18 +28,14 @@ fn read_lists(
     ensures kept { HeadKept lists.old counts.old lists.new counts.new }
 {
     let mut next = at;
+    let mut line: u64 = 2;
     for i in 1..n {
-        let packed = match read_list(s, next, k, i, rows, &mut lists[i]) {
-            Ok(packed) => packed,
-            Err(refusal) => return Err(refusal.on_line(i as u64 + 1)),
-        };
+        let packed = read_list(s, next, k, i, rows, &mut lists[i]).map_err(|r| r.on_line(line))?;
         counts[i] = packed.count;
         next = packed.next;
+        line += 1;
     }
-    Ok(LinesRead {
-        next,
-        line: n as u64 + 1,
-    })
+    Ok(LinesRead { next, line })
 }
 
 // How many lines a sheet has; of a K sheet by its children.
@@ -65,10 +61,7 @@ fn read_lines(
     ensures answer { result ≡ lines_by (whole_lines k s.now) }
     ensures held { HeldLines s.now k 0 (whole_lines k s.now) lists.new counts.new }
 {
-    let head = match read_list(s, 0, k, 0, rows, &mut lists[0]) {
-        Ok(head) => head,
-        Err(refusal) => return Err(refusal.on_line(1)),
-    };
+    let head = read_list(s, 0, k, 0, rows, &mut lists[0]).map_err(|r| r.on_line(1))?;
     counts[0] = head.count;
     let n = line_count(k, lists[0][6]);
     read_lists(s, head.next, k, n, rows, lists, counts)

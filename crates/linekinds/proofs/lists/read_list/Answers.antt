@@ -20,7 +20,7 @@ use Rattle.linekinds.proofs.ReadLines.{row_values_lem}
 use Rattle.std.specs.Prelude as O
 use Rattle.linekinds.specs.PlainText.{ListAt, ListFound}
 use Rattle.linekinds.specs.declared.plain.Entries.{Entries}
-use Rattle.linekinds.proofs.PlainLines.{letter_other, list_read}
+use Rattle.linekinds.proofs.PlainLines.{list_read}
 use Rattle.linekinds.proofs.ReadLists.{Good, was_read, was_turned, good_fit, good_room, good_small, list_turned, packed_long, list_packed}
 use Rattle.linekinds.proofs.lists.read_list.Goals as goal
 
@@ -55,9 +55,6 @@ module _ (s : List ℕ) (at : ℕ) (c : Codes) (letter count next : ℕ) (rows r
   packed_is : packed_by c (row_values (take count rows')) ≡ packed_list c (line_at letter s at)
   packed_is = ap (packed_by c) values_are ∙ ap (λ (x : Option (List Field)). packed_list c x) (sym (good).is)
 
-pub list_at-requires : goal.list_at-requires
-list_at-requires c = (c.requires.1, λ e. letter_other c.args.k c.args.i (sym c.letter-letter.ensures ∙ e))
-
 -- what `list_at` found, of the codes and the letter that line i has
 quick : (s : List ℕ) (at : ℕ) (k : Codes) (letter : ℕ) (c : Codes) (l : ℕ) → c ≡ k → l ≡ letter → (r : O.Option Entries) (list : List ℕ) → ListFound c l s at r list → (e : Entries) → r ≡ O.Some e → ListAt k letter s at e.count (e.end + 1) list
 quick s at k letter c l p q r list f e is =
@@ -75,20 +72,19 @@ returns-in-Some c =
 pub slice_bounds-pack_line-end : goal.slice_bounds-pack_line-end
 slice_bounds-pack_line-end c =
     let a = c.args in
-    omega (arith, few a.s.now a.at c.codes-c.result c.letter-letter.result c.in-Line.count c.in-Line.next a.rows.now c.read_line.new.rows (sym c.in-Line.is ∙ c.read_line.ensures.answer 0) c.read_line.ensures.stored c.requires.0, c.requires.0, c.read_line.auto.rows)
+    omega (arith, few a.s.now a.at c.codes-c.result c.letter-letter.result c.in-Line.count c.in-Line.next a.rows.now c.read_line.new.rows (sym c.in-Line.is ∙ c.read_line.ensures.answer 0) c.read_line.ensures.stored c.requires, c.requires, c.read_line.auto.rows)
 
 pub slice_bounds-pack_line-end-in-Line : goal.slice_bounds-pack_line-end-in-Line
 slice_bounds-pack_line-end-in-Line c =
     let a = c.args in
-    let h = few a.s.now a.at c.codes-c.result c.letter-letter.result c.in-Line.count c.in-Line.next a.rows.now c.read_line.new.rows (sym c.in-Line.is ∙ c.read_line.ensures.answer 0) c.read_line.ensures.stored c.requires.0 in
-    simp length-take (omega (arith, h, c.requires.0, c.read_line.auto.rows))
+    let h = few a.s.now a.at c.codes-c.result c.letter-letter.result c.in-Line.count c.in-Line.next a.rows.now c.read_line.new.rows (sym c.in-Line.is ∙ c.read_line.ensures.answer 0) c.read_line.ensures.stored c.requires in
+    simp length-take (omega (arith, h, c.requires, c.read_line.auto.rows))
 
 pub pack_line-requires : goal.pack_line-requires
 pack_line-requires c =
     let a = c.args in let so = sym c.in-Line.is ∙ c.read_line.ensures.answer 0 in (
-      fit a.s.now a.at c.codes-c.result c.letter-letter.result c.in-Line.count c.in-Line.next a.rows.now c.read_line.new.rows so c.read_line.ensures.stored c.requires.0,
-      c.list_at.ensures.0,
-      small a.s.now a.at c.codes-c.result c.letter-letter.result c.in-Line.count c.in-Line.next a.rows.now c.read_line.new.rows so c.read_line.ensures.stored c.requires.0,
+      fit a.s.now a.at c.codes-c.result c.letter-letter.result c.in-Line.count c.in-Line.next a.rows.now c.read_line.new.rows so c.read_line.ensures.stored c.requires,
+      small a.s.now a.at c.codes-c.result c.letter-letter.result c.in-Line.count c.in-Line.next a.rows.now c.read_line.new.rows so c.read_line.ensures.stored c.requires,
     )
 
 pub returns-in-Refused : goal.returns-in-Refused
@@ -108,6 +104,6 @@ returns-in-Line c =
     let p = c.pack_line.ensures in
     let q : take c.pack_line.result c.pack_line.new.out ≡ packed_list k x =
     p.2 ∙ ap (λ (d : Codes). packed_by d (row_values (take c.in-Line.count c.read_line.new.rows))) c.codes-c.ensures
-    ∙ packed_is a.s.now a.at k l c.in-Line.count c.in-Line.next a.rows.now c.read_line.new.rows at stored c.requires.0 in
+    ∙ packed_is a.s.now a.at k l c.in-Line.count c.in-Line.next a.rows.now c.read_line.new.rows at stored c.requires in
     let n = packed_long 0 0 k x c.pack_line.result c.pack_line.new.out p.0 p.1 q in
     record { answer = list_packed _ (after a.s.now a.at) k x o.zero _ _ n o.goes; full = p.0; held = λ z. rw (← n) q }
