@@ -1,6 +1,6 @@
 // Reads the lines of a K or I sheet, one after the other.
 ghost use Rattle.std.specs.Prelude.{◌≡◌, ◌-◌, ◌≤◌, length};
-ghost use Rattle.sheet.specs.SheetLines.{most_lists, count_by, FewChildren, lines_from, lines_by, whole_lines, ended_by, HeldLines, Full, HeadKept};
+ghost use Rattle.sheet.specs.SheetLines.{most_lists, count_by, FewChildren, lines_from, lines_by, whole_lines, ended_by, HeldLines, HeadKept};
 
 use linekinds::lists::{SheetKind, read_list};
 use refusals::{Refusal, Refused};
@@ -22,7 +22,7 @@ fn read_lists(
     lists: &mut [[u64; 64]],
     counts: &mut [usize],
 ) -> Result<LinesRead, Refused>
-    requires { (192 ≤ length rows.old) × (1 ≤ n) × (n ≤ 17) × (n ≤ length lists.old) × (n ≤ length counts.old) × Full lists.old }
+    requires { (192 ≤ length rows.old) × (1 ≤ n) × (n ≤ 17) × (n ≤ length lists.old) × (n ≤ length counts.old) }
     ensures answer { result ≡ lines_by (lines_from s.now k 1 (n - 1) at) }
     ensures held { HeldLines s.now k 1 (lines_from s.now k 1 (n - 1) at) lists.new counts.new }
     ensures kept { HeadKept lists.old counts.old lists.new counts.new }
@@ -44,6 +44,7 @@ fn line_count(k: SheetKind, children: u64) -> usize
     ensures { result ≡ count_by k children }
 {
     match k {
+        // No From goes between u64 and usize.
         SheetKind::Key => 9 + children as usize,
         SheetKind::Join => 8,
     }
@@ -57,7 +58,7 @@ fn read_lines(
     lists: &mut [[u64; 64]],
     counts: &mut [usize],
 ) -> Result<LinesRead, Refused>
-    requires { (192 ≤ length rows.old) × (most_lists k ≤ length lists.old) × (most_lists k ≤ length counts.old) × Full lists.old }
+    requires { (192 ≤ length rows.old) × (most_lists k ≤ length lists.old) × (most_lists k ≤ length counts.old) }
     ensures answer { result ≡ lines_by (whole_lines k s.now) }
     ensures held { HeldLines s.now k 0 (whole_lines k s.now) lists.new counts.new }
 {
@@ -75,7 +76,7 @@ pub fn read_whole(
     lists: &mut [[u64; 64]],
     counts: &mut [usize],
 ) -> Result<LinesRead, Refused>
-    requires { (192 ≤ length rows.old) × (most_lists k ≤ length lists.old) × (most_lists k ≤ length counts.old) × Full lists.old }
+    requires { (192 ≤ length rows.old) × (most_lists k ≤ length lists.old) × (most_lists k ≤ length counts.old) }
     ensures answer { result ≡ ended_by (whole_lines k s.now) }
     ensures held { HeldLines s.now k 0 (whole_lines k s.now) lists.new counts.new }
 {
