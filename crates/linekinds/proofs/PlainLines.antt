@@ -2,12 +2,11 @@
 -- Assumes nothing.
 use Prim.Native.Nat.{ℕ, ◌+◌, ◌-◌, ◌*◌, ◌%◌, ◌≤◌, ◌<◌}
 use mathlib.Core.Path.{◌≡◌, refl, sym, ap, ◌∙◌}
-use mathlib.Core.Bool.{Bool, true, false, cond}
+use mathlib.Core.Bool.{true}
 use mathlib.Core.Option.{Option, some}
 use mathlib.Core.List.{List, [], ◌∷◌, ◌++◌, map}
 use native.Mathlib.Omega.{arith}
 use borrow.Author.Tests.{eq-eqb, le-leb, le-ltb}
-use lib.Dec.{eqb}
 use lib.ListN.{length, take, drop, set, length-map, take-append-drop}
 use lib.Seq.{length-take-le}
 use Rattle.text.specs.declared.field.Field.{Field}
@@ -28,7 +27,6 @@ use Rattle.linekinds.specs.declared.plain.Entries.{Entries}
 use Rattle.std.specs.Prelude.{Some, None, Ok}
 use Rattle.std.specs.Prelude.{Option as StdOption}
 use Rattle.linekinds.specs.declared.lists.SheetKind.{SheetKind}
-use Rattle.linekinds.specs.declared.lists.SheetKind.TheVariants.{Key, Join}
 use Rattle.linekinds.proofs.LineNumbers.{line_number_lem}
 use Rattle.linekinds.proofs.Packing.{first_put}
 use Rattle.linekinds.proofs.ReadLists.{packed_long, list_packed}

@@ -24,7 +24,6 @@ use Rattle.linekinds.proofs.PlainLines.{list_read}
 use Rattle.linekinds.proofs.ReadLists.{Good, was_read, was_turned, good_fit, good_room, good_small, list_turned, packed_long, list_packed}
 use Rattle.linekinds.proofs.lists.read_list.Goals as goal
 
-
 -- what the line reader answers, of the codes and the letter that line i has
 abbrev Answered : List ℕ → ℕ → Codes → ℕ → Read → Type 0
 Answered s at c letter r = r ≡ read_by (line_number (kind_of c letter) 0 (after s at) (line_at letter s at)) (after s at) (line_at letter s at)

@@ -1,11 +1,9 @@
 -- `rewrite_join_sheet` meets its contract. What is held is written as the sheet stood (`Entries`).
-use Rattle.std.proofs.Common.{refl, ap, sym, ◌≡◌, ◌≤◌, arith, replicate, get_or, [], length}
+use Rattle.std.proofs.Common.{ap, arith}
 use Rattle.sheet.specs.KeySheets.{read_join_sheet}
-use Rattle.sheet.specs.Held.{child_count}
 use Rattle.sheet.proofs.Bounded.{join_turned_few}
-use Rattle.answers.proofs.KeyLists.{key_children}
 use Rattle.lochkave.specs.Entry.{join_again}
-use Rattle.lochkave.proofs.Entries.{was_turned, turned_line, turned_word, worded, was_read, leaves_refused, join_same, seventh}
+use Rattle.lochkave.proofs.Entries.{was_turned, turned_line, turned_word, worded, was_read, leaves_refused, join_same}
 use Rattle.lochkave.proofs.again.rewrite_join_sheet.Goals as goal
 
 pub word-requires : goal.word-requires

@@ -1,5 +1,5 @@
 -- `rewrite_key_sheet` meets its contract. What is held is written as the sheet stood (`Entries`).
-use Rattle.std.proofs.Common.{refl, ap, sym, ◌≡◌, ◌≤◌, arith, replicate, get_or, [], length}
+use Rattle.std.proofs.Common.{ap, ◌≡◌, ◌≤◌, arith, get_or, []}
 use Rattle.sheet.specs.KeySheets.{read_key_sheet}
 use Rattle.sheet.specs.Held.{child_count}
 use Rattle.sheet.proofs.Bounded.{key_turned_few}

@@ -1,6 +1,6 @@
 -- `sheet::read::read_lists` meets its contract. What was read, before what is left, is the whole (`SheetTurns`).
 use mathlib.Core.Path.{◌≡◌}
-use Prim.Native.Nat.{◌+◌, ◌-◌}
+use Prim.Native.Nat.{◌-◌}
 use lib.ListN.{length}
 use Rattle.sheet.specs.SheetLines.{lines_from, HeadKept}
 use Rattle.sheet.proofs.SheetTurns.{Head}
