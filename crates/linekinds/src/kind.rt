@@ -64,14 +64,10 @@ pub(crate) fn defined_expr(kind: u64, name: u64, index: u64) -> bool
 fn undefined_exprs(rows: &[[u64; 2]]) -> bool
     ensures { result ≡ undefined_exprs (row_values rows.now) }
 {
-    let mut rest = rows;
-    while let [kind, name, index, later @ ..] = rest {
-        if !defined_expr(kind[1], name[1], index[1]) {
-            return true;
-        }
-        rest = later;
-    }
-    false
+    let (entries, _) = rows.as_chunks::<3>();
+    entries
+        .iter()
+        .any(|[kind, name, index]| !defined_expr(kind[1], name[1], index[1]))
 }
 
 // Whether one of the numbers is over the largest.
