@@ -14,6 +14,11 @@ pub enum Op {
     Other,
 }
 
+impl Op {
+    // How many codes there are, from 0 on.
+    pub const CODES: u64 = 7;
+}
+
 impl From<u64> for Op {
     ghost from_gives = { λ code r. r ≡ op_of code };
 
@@ -37,6 +42,11 @@ pub enum HashMode {
     Auto,
 }
 
+impl HashMode {
+    // How many codes there are, from 0 on.
+    pub const CODES: u64 = 3;
+}
+
 impl From<u64> for HashMode {
     ghost from_gives = { λ code r. r ≡ hash_mode_of code };
 
@@ -53,6 +63,11 @@ impl From<u64> for HashMode {
 pub enum AggregateMode {
     FinalPartitioned,
     Other,
+}
+
+impl AggregateMode {
+    // How many codes there are, from 0 on.
+    pub const CODES: u64 = 2;
 }
 
 impl From<u64> for AggregateMode {
@@ -75,6 +90,11 @@ pub enum Join {
     RightAnti,
     RightMark,
     Other,
+}
+
+impl Join {
+    // How many codes there are, from 0 on.
+    pub const CODES: u64 = 10;
 }
 
 impl From<u64> for Join {

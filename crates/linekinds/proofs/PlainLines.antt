@@ -2,12 +2,11 @@
 -- Assumes nothing.
 use Prim.Native.Nat.{ℕ, ◌+◌, ◌-◌, ◌*◌, ◌%◌, ◌≤◌, ◌<◌}
 use mathlib.Core.Path.{◌≡◌, refl, sym, ap, ◌∙◌}
-use mathlib.Core.Bool.{Bool, true, false, cond}
+use mathlib.Core.Bool.{true}
 use mathlib.Core.Option.{Option, some}
 use mathlib.Core.List.{List, [], ◌∷◌, ◌++◌, map}
 use native.Mathlib.Omega.{arith}
 use borrow.Author.Tests.{eq-eqb, le-leb, le-ltb}
-use lib.Dec.{eqb}
 use lib.ListN.{length, take, drop, set, length-map, take-append-drop}
 use lib.Seq.{length-take-le}
 use Rattle.text.specs.declared.field.Field.{Field}
@@ -28,7 +27,6 @@ use Rattle.linekinds.specs.declared.plain.Entries.{Entries}
 use Rattle.std.specs.Prelude.{Some, None, Ok}
 use Rattle.std.specs.Prelude.{Option as StdOption}
 use Rattle.linekinds.specs.declared.lists.SheetKind.{SheetKind}
-use Rattle.linekinds.specs.declared.lists.SheetKind.TheVariants.{Key, Join}
 use Rattle.linekinds.proofs.LineNumbers.{line_number_lem}
 use Rattle.linekinds.proofs.Packing.{first_put}
 use Rattle.linekinds.proofs.ReadLists.{packed_long, list_packed}
@@ -150,21 +148,6 @@ module _ (s : List ℕ) (at letter : ℕ) (other : letter ≡ 10 → ⊥) (h : S
   names_found None list' e = tt
 
 -- ---- line i of a sheet
-
-cond_other : (b : Bool) (x y : ℕ) → (x ≡ 10 → ⊥) → (y ≡ 10 → ⊥) → cond b x y ≡ 10 → ⊥
-cond_other true x y f g e = f e
-cond_other false x y f g e = g e
-
--- no letter is an LF
-pub letter_other : (k : SheetKind) (i : ℕ) → line_letter k i ≡ 10 → ⊥
-letter_other Key i =
-    cond_other (eqb i 0) 75 _ (λ e. omega arith) (cond_other (eqb i 1) 82 _ (λ e. omega arith) (cond_other (eqb i 2) 76 _ (λ e. omega arith)
-    (cond_other (eqb i 3) 71 _ (λ e. omega arith) (cond_other (eqb i 4) 83 _ (λ e. omega arith) (cond_other (eqb i 5) 87 _ (λ e. omega arith)
-    (cond_other (eqb i 6) 79 _ (λ e. omega arith) (cond_other (eqb i 7) 65 _ (λ e. omega arith) (cond_other (eqb i 8) 77 67 (λ e. omega arith) (λ e. omega arith)))))))))
-letter_other Join i =
-    cond_other (eqb i 0) 73 _ (λ e. omega arith) (cond_other (eqb i 1) 76 _ (λ e. omega arith) (cond_other (eqb i 2) 71 _ (λ e. omega arith)
-    (cond_other (eqb i 3) 83 _ (λ e. omega arith) (cond_other (eqb i 4) 72 _ (λ e. omega arith) (cond_other (eqb i 5) 78 _ (λ e. omega arith)
-    (cond_other (eqb i 6) 87 86 (λ e. omega arith) (λ e. omega arith)))))))
 
 pub list_read : (s : List ℕ) (at : ℕ) (k : SheetKind) (i count next : ℕ) (list : List ℕ) → length list ≡ 64 →
     ListAt (line_codes k i) (line_letter k i) s at count next list → ListRead s at k i (Ok (record { count = count; next = next })) list

@@ -6,6 +6,7 @@ ghost use Rattle.linekinds.specs.Reading.{head_count, entry_width, row_values, u
 ghost use Rattle.linekinds.specs.Lines.{whole_entries};
 
 use crate::plain::PLAIN;
+use keys::codes::{AggregateMode, HashMode, Join, Op};
 use refusals::Refusal;
 use text::line::Fields;
 
@@ -63,14 +64,10 @@ pub(crate) fn defined_expr(kind: u64, name: u64, index: u64) -> bool
 fn undefined_exprs(rows: &[[u64; 2]]) -> bool
     ensures { result ≡ undefined_exprs (row_values rows.now) }
 {
-    let mut rest = rows;
-    while let [kind, name, index, later @ ..] = rest {
-        if !defined_expr(kind[1], name[1], index[1]) {
-            return true;
-        }
-        rest = later;
-    }
-    false
+    let (entries, _) = rows.as_chunks::<3>();
+    entries
+        .iter()
+        .any(|[kind, name, index]| !defined_expr(kind[1], name[1], index[1]))
 }
 
 // Whether one of the numbers is over the largest.
@@ -83,9 +80,9 @@ fn over(rows: &[[u64; 2]], most: u64) -> bool
 fn defined_mode(op: u64, mode: u64) -> bool
     ensures { result ≡ defined_mode op mode }
 {
-    match op {
-        0 => mode <= 2,
-        3 => mode <= 1,
+    match Op::from(op) {
+        Op::HashJoin => mode < HashMode::CODES,
+        Op::Aggregate => mode < AggregateMode::CODES,
         _ => mode == 0,
     }
 }
@@ -93,8 +90,8 @@ fn defined_mode(op: u64, mode: u64) -> bool
 fn defined_join(op: u64, join: u64) -> bool
     ensures { result ≡ defined_join op join }
 {
-    match op {
-        0 => join <= 9,
+    match Op::from(op) {
+        Op::HashJoin => join < Join::CODES,
         _ => join == 0,
     }
 }
@@ -102,10 +99,10 @@ fn defined_join(op: u64, join: u64) -> bool
 fn fit_children(op: u64, n: u64) -> bool
     ensures { result ≡ fit_children op n }
 {
-    match op {
-        0..=2 => n == 2,
-        3..=5 => n == 1,
-        _ => true,
+    match Op::from(op) {
+        Op::HashJoin | Op::CrossJoin | Op::SortMergeJoin => n == 2,
+        Op::Aggregate | Op::Projection | Op::Clearing => n == 1,
+        Op::Other => true,
     }
 }
 
@@ -115,7 +112,7 @@ fn undefined_key(rows: &[[u64; 2]]) -> bool
     ensures { result ≡ undefined_key (row_values rows.now) }
 {
     let op = rows[0][1];
-    op > 6
+    op >= Op::CODES
         || !defined_mode(op, rows[1][1])
         || !defined_join(op, rows[2][1])
         || rows[4][1] > 1
@@ -126,7 +123,7 @@ fn undefined_join(rows: &[[u64; 2]]) -> bool
     requires { length rows.now ≡ 2 }
     ensures { result ≡ undefined_join (row_values rows.now) }
 {
-    rows[0][1] > 6 || !defined_mode(rows[0][1], rows[1][1])
+    rows[0][1] >= Op::CODES || !defined_mode(rows[0][1], rows[1][1])
 }
 
 fn undefined_input(rows: &[[u64; 2]]) -> bool

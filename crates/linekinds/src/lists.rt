@@ -75,32 +75,7 @@ pub struct Packed {
     pub next: usize,
 }
 
-// Line i of a sheet by its fields, each judged: its list goes into the room lent.
-pub fn judged_list(
-    s: &[u8],
-    at: usize,
-    k: SheetKind,
-    i: usize,
-    rows: &mut [[u64; 2]],
-    list: &mut [u64; 64],
-) -> Result<Packed, Refusal>
-    requires { (192 ≤ length rows.old) × (length list.old ≡ 64) }
-    ensures { ListRead s.now at k i result list.new }
-{
-    let c = k.codes(i);
-    match read_line(s, at, k.letter(i), c, rows) {
-        Read::Line { count, next } => {
-            let packed = pack_line(c, &rows[..count], list);
-            Ok(Packed {
-                count: packed,
-                next,
-            })
-        }
-        Read::Refused(refusal) => Err(refusal),
-    }
-}
-
-// Line i of a sheet: its list goes into the room lent.
+// Line i of a sheet: its list goes into the room lent. A line that the quick reading leaves is judged by its fields.
 pub fn read_list(
     s: &[u8],
     at: usize,
@@ -109,14 +84,22 @@ pub fn read_list(
     rows: &mut [[u64; 2]],
     list: &mut [u64; 64],
 ) -> Result<Packed, Refusal>
-    requires { (192 ≤ length rows.old) × (length list.old ≡ 64) }
+    requires { 192 ≤ length rows.old }
     ensures { ListRead s.now at k i result list.new }
 {
-    let Some(entries) = list_at(s, at, k.letter(i), k.codes(i), &mut *list) else {
-        return judged_list(s, at, k, i, rows, list);
-    };
-    Ok(Packed {
-        count: entries.count,
-        next: entries.end + 1,
-    })
+    let letter = k.letter(i);
+    let c = k.codes(i);
+    if let Some(entries) = list_at(s, at, letter, c, &mut *list) {
+        return Ok(Packed {
+            count: entries.count,
+            next: entries.end + 1,
+        });
+    }
+    match read_line(s, at, letter, c, rows) {
+        Read::Line { count, next } => Ok(Packed {
+            count: pack_line(c, &rows[..count], list),
+            next,
+        }),
+        Read::Refused(refusal) => Err(refusal),
+    }
 }

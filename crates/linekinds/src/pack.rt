@@ -6,8 +6,8 @@ use crate::kind::Codes;
 
 // The numbers from a place on, three by three, each three packed in one, from a place of the output on.
 fn pack_exprs(rows: &[[u64; 2]], from: usize, out: &mut [u64; 64]) -> usize
-    requires { (from ≤ length rows.now) × (length rows.now ≤ 192) × (from ≤ 1) × (length out.old ≡ 64) × Small (row_values rows.now) }
-    ensures { (length out.new ≡ 64) × (result ≤ 64) × (take result out.new ≡ take from out.old ++ packs (drop from (row_values rows.now))) }
+    requires { (from ≤ length rows.now) × (length rows.now ≤ 192) × (from ≤ 1) × Small (row_values rows.now) }
+    ensures { (result ≤ 64) × (take result out.new ≡ take from out.old ++ packs (drop from (row_values rows.now))) }
 {
     let mut n = from;
     let mut rest = &rows[from..];
@@ -20,8 +20,8 @@ fn pack_exprs(rows: &[[u64; 2]], from: usize, out: &mut [u64; 64]) -> usize
 }
 
 fn copy_numbers(rows: &[[u64; 2]], out: &mut [u64; 64]) -> usize
-    requires { (length rows.now ≤ 64) × (length out.old ≡ 64) }
-    ensures { (length out.new ≡ 64) × (result ≤ 64) × (take result out.new ≡ row_values rows.now) }
+    requires { (length rows.now ≤ 64) }
+    ensures { (result ≤ 64) × (take result out.new ≡ row_values rows.now) }
 {
     for (i, row) in rows.iter().enumerate() {
         out[i] = row[1];
@@ -30,8 +30,8 @@ fn copy_numbers(rows: &[[u64; 2]], out: &mut [u64; 64]) -> usize
 }
 
 fn pack_input(rows: &[[u64; 2]], out: &mut [u64; 64]) -> usize
-    requires { (1 ≤ length rows.now) × (length rows.now ≤ 192) × (length out.old ≡ 64) × Small (row_values rows.now) }
-    ensures { (length out.new ≡ 64) × (result ≤ 64) × (take result out.new ≡ packed_by Codes.Input (row_values rows.now)) }
+    requires { (1 ≤ length rows.now) × (length rows.now ≤ 192) × Small (row_values rows.now) }
+    ensures { (result ≤ 64) × (take result out.new ≡ packed_by Codes.Input (row_values rows.now)) }
 {
     out[0] = rows[0][1];
     pack_exprs(rows, 1, out)
@@ -39,7 +39,7 @@ fn pack_input(rows: &[[u64; 2]], out: &mut [u64; 64]) -> usize
 
 // The list of a line whose fields are as many as its kind has.
 pub fn pack_line(c: Codes, rows: &[[u64; 2]], out: &mut [u64; 64]) -> usize
-    requires { Fits c (length rows.now) × (length out.old ≡ 64) × Small (row_values rows.now) }
+    requires { Fits c (length rows.now) × Small (row_values rows.now) }
     ensures { (length out.new ≡ 64) × (result ≤ 64) × (take result out.new ≡ packed_by c (row_values rows.now)) }
 {
     match c {

@@ -104,7 +104,7 @@ fn entries_at(
     most: usize,
     list: &mut [u64; 64],
 ) -> Option<Entries>
-    requires { (length list.old ≡ 64) × (from ≤ most) × (most ≤ 64) }
+    requires { (from ≤ most) × (most ≤ 64) }
     ensures { (length list.new ≡ 64) × EntriesFound s.now at from most list.old result list.new }
 {
     let mut p = at;
@@ -124,7 +124,6 @@ fn entries_at(
 
 // Numbers up to the largest, from a place on to the LF.
 fn numbers_at(s: &[u8], at: usize, largest: u64, list: &mut [u64; 64]) -> Option<Entries>
-    requires { length list.old ≡ 64 }
     ensures { (length list.new ≡ 64) × NumbersFound s.now at largest result list.new }
 {
     let mut p = at;
@@ -147,7 +146,6 @@ fn numbers_at(s: &[u8], at: usize, largest: u64, list: &mut [u64; 64]) -> Option
 
 // Rules: an even number of expressions.
 fn rules_at(s: &[u8], at: usize, list: &mut [u64; 64]) -> Option<Entries>
-    requires { length list.old ≡ 64 }
     ensures { (length list.new ≡ 64) × RulesFound s.now at list.old result list.new }
 {
     let entries = entries_at(s, at, 0, 64, list)?;
@@ -159,7 +157,6 @@ fn rules_at(s: &[u8], at: usize, list: &mut [u64; 64]) -> Option<Entries>
 
 // A mark, and expressions behind it.
 fn input_at(s: &[u8], at: usize, list: &mut [u64; 64]) -> Option<Entries>
-    requires { length list.old ≡ 64 }
     ensures { (length list.new ≡ 64) × InputFound s.now at list.old result list.new }
 {
     let mark = field_at(s, at)?;
@@ -178,10 +175,9 @@ pub(crate) fn list_at(
     c: Codes,
     list: &mut [u64; 64],
 ) -> Option<Entries>
-    requires { (length list.old ≡ 64) × (letter ≡ 10 → ⊥) }
     ensures { (length list.new ≡ 64) × ListFound c letter s.now at result list.new }
 {
-    if !stands(s, at, letter) {
+    if letter == b'\n' || !stands(s, at, letter) {
         return None;
     }
     let p = at + 1;

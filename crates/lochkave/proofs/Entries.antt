@@ -1,13 +1,10 @@
 -- What an entry point returns and leaves, by what was read of the sheet.
 -- Assumes nothing.
-use Prim.Native.Nat.{ℕ, zero, suc, ◌+◌, ◌*◌, ◌≤◌}
+use Prim.Native.Nat.{ℕ, ◌+◌, ◌*◌, ◌≤◌}
 use mathlib.Core.Path.{◌≡◌, refl, sym, ap, ◌∙◌}
-use mathlib.Core.Bool.{cond}
-use mathlib.Core.List.{List, [], ◌∷◌}
+use mathlib.Core.List.{List, []}
 use native.Mathlib.Omega.{arith}
-use borrow.Author.Tests.{ne_eqb}
-use lib.Dec.{eqb}
-use lib.ListN.{length, get_or, replicate, length-take}
+use lib.ListN.{length, get_or, length-take}
 use lib.Seq.{get_or-take}
 use Rattle.keys.specs.Adjust.{KeySheet, adjust_input_keys_ordering}
 use Rattle.keys.specs.Inputs.{JoinSheet, reorder_join_keys_to_inputs}
@@ -16,7 +13,6 @@ use Rattle.sheet.specs.KeySheets.{Reading, sheet, turned, read_key_sheet, read_j
 use Rattle.sheet.specs.KeyAnswers.{Outcome, refused, wrote, join_answer_text, adjusted, adjust_decision, inputs_decision}
 use Rattle.sheet.specs.Outcomes.{answer, after, within, FitsIn}
 use Rattle.sheet.specs.Held.{held_at, child_count}
-use Rattle.sheet.specs.SheetLines.{Full}
 use Rattle.sheet.proofs.AnswersFit.{Fits}
 use Rattle.sheet.proofs.KeyAccepted.{key_written_again, join_written_again}
 use Rattle.lochkave.specs.Entry.{key_again, join_again}
@@ -27,13 +23,6 @@ use Rattle.refusals.proofs.Judging.{number_again}
 use Rattle.refusals.specs.declared.Refused.{Refused}
 use Rattle.refusals.specs.Refusals.{refused_word}
 use Rattle.std.specs.Prelude.{Result, Ok, Err}
-
--- ---- rooms of zeros
-
-pub full_zeros : (n : ℕ) (x : List ℕ) → length x ≡ 64 → Full (replicate n x)
-full_zeros zero x h i e = absurd (omega arith)
-full_zeros (suc n) x h zero e = h
-full_zeros (suc n) x h (suc i) e = full_zeros n x h i (omega arith)
 
 -- ---- what reading answered
 

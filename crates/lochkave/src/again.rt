@@ -18,7 +18,7 @@ use plananswer::sheet_text::put_plan_sheet;
 use plansheet::plan::read_plan;
 use refusals::Refusal;
 use sheet::held::Lists;
-use sheet::sheets::{read_join_sheet, read_key_sheet};
+use sheet::sheets::read_sheet;
 
 // The sheet that is held, at the front of the output, where there is room for its bytes.
 fn put_again(bytes: usize, kind: SheetKind, n: usize, held: Lists, out: &mut [u8]) -> u64
@@ -40,7 +40,7 @@ pub(crate) fn rewrite_key_sheet(sheet: &[u8], out: &mut [u8]) -> u64
     let mut rows = [[0u64; 2]; 192];
     let mut lists = [[0u64; 64]; 17];
     let mut counts = [0usize; 17];
-    match read_key_sheet(sheet, &mut rows, &mut lists, &mut counts) {
+    match read_sheet(sheet, SheetKind::Key, &mut rows, &mut lists, &mut counts) {
         Err(refused) => refused.word(),
         Ok(()) => {
             let n = 9 + lists[0][6] as usize;
@@ -60,7 +60,7 @@ pub(crate) fn rewrite_join_sheet(sheet: &[u8], out: &mut [u8]) -> u64
     let mut rows = [[0u64; 2]; 192];
     let mut lists = [[0u64; 64]; 8];
     let mut counts = [0usize; 8];
-    match read_join_sheet(sheet, &mut rows, &mut lists, &mut counts) {
+    match read_sheet(sheet, SheetKind::Join, &mut rows, &mut lists, &mut counts) {
         Err(refused) => refused.word(),
         Ok(()) => {
             let held = Lists {

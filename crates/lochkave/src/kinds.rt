@@ -1,13 +1,13 @@
 // Decides a K or an I sheet, in the rooms lent.
 ghost use Rattle.std.specs.Prelude.{◌≡◌, ◌≤◌, length};
 ghost use Rattle.sheet.specs.Outcomes.{answer, after};
-ghost use Rattle.sheet.specs.SheetLines.{Full};
 ghost use Rattle.lochkave.specs.Entry.{adjust_outcome, inputs_outcome};
 
 use answers::join::answer_join_sheet;
 use answers::key::answer_key_sheet;
+use linekinds::lists::SheetKind;
 use sheet::held::Lists;
-use sheet::sheets::{read_join_sheet, read_key_sheet};
+use sheet::sheets::read_sheet;
 
 // So many bytes of output suffice for every answer.
 const ANSWER_MOST: usize = 65536;
@@ -19,12 +19,18 @@ pub(crate) fn adjust_in(
     lists: &mut [[u64; 64]],
     out: &mut [u8],
 ) -> u64
-    requires { (192 ≤ length fields.old) × (17 ≤ length lists.old) × Full lists.old }
+    requires { (192 ≤ length fields.old) × (17 ≤ length lists.old) }
     ensures result { result ≡ answer (adjust_outcome sheet.now (length out.old)) }
     ensures bytes { out.new ≡ after (adjust_outcome sheet.now (length out.old)) out.old }
 {
     let mut counts = [0usize; 17];
-    match read_key_sheet(sheet, &mut *fields, &mut *lists, &mut counts) {
+    match read_sheet(
+        sheet,
+        SheetKind::Key,
+        &mut *fields,
+        &mut *lists,
+        &mut counts,
+    ) {
         Err(refused) => refused.word(),
         Ok(()) => {
             let roomy = out.len() >= ANSWER_MOST;
@@ -45,12 +51,18 @@ pub(crate) fn follow_in(
     lists: &mut [[u64; 64]],
     out: &mut [u8],
 ) -> u64
-    requires { (192 ≤ length fields.old) × (32 ≤ length rules.old) × (8 ≤ length lists.old) × Full lists.old }
+    requires { (192 ≤ length fields.old) × (32 ≤ length rules.old) × (8 ≤ length lists.old) }
     ensures result { result ≡ answer (inputs_outcome sheet.now (length out.old)) }
     ensures bytes { out.new ≡ after (inputs_outcome sheet.now (length out.old)) out.old }
 {
     let mut counts = [0usize; 8];
-    match read_join_sheet(sheet, &mut *fields, &mut *lists, &mut counts) {
+    match read_sheet(
+        sheet,
+        SheetKind::Join,
+        &mut *fields,
+        &mut *lists,
+        &mut counts,
+    ) {
         Err(refused) => refused.word(),
         Ok(()) => {
             let roomy = out.len() >= ANSWER_MOST;

@@ -1,19 +1,11 @@
 // Whether rooms that are lent suffice for every sheet.
-ghost use Rattle.std.specs.Prelude.{◌≡◌, length};
 ghost use Rattle.lochkave.specs.Rooms.{Decides, KeyRooms, TreeRooms};
 
-// A list has room for 64 numbers, as its type says.
-fn list_fits(list: &[u64]) -> bool
-    ensures { Decides result (length list.now ≡ 64) }
-{
-    list.len() == 64
-}
-
-// The fields of a line, and the rules and lists of K and I sheets. The compiler knows each list's length, and leaves the last test out.
+// The fields of a line, and the rules and lists of K and I sheets.
 pub(crate) fn keys_fit(fields: usize, rules: usize, lists: &[[u64; 64]]) -> bool
     ensures { Decides result (KeyRooms fields rules lists.now) }
 {
-    fields >= 256 && rules >= 32 && lists.len() >= 17 && lists.iter().all(|list| list_fits(list))
+    fields >= 256 && rules >= 32 && lists.len() >= 17
 }
 
 // The rows, masks and index of a D sheet, and the rows of its answer.

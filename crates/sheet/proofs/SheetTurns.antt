@@ -21,13 +21,14 @@ use Rattle.linekinds.specs.ListLines.{line_letter, line_codes, line_kind, packed
 use Rattle.linekinds.specs.declared.kind.Codes.TheVariants as C
 use Rattle.linekinds.specs.declared.lists.SheetKind.{SheetKind}
 use Rattle.linekinds.specs.declared.lists.SheetKind.TheVariants.{Key, Join}
-use Rattle.std.specs.Prelude.{Result, Ok, Err}
+use Rattle.std.specs.Prelude.{Result, MatchResult, Ok, Err}
 use Rattle.linekinds.specs.declared.lists.Packed.{Packed}
 use Rattle.refusals.specs.declared.Refusal.{Refusal as Reason}
+use Rattle.refusals.specs.declared.Refused.{Refused}
 use Rattle.refusals.specs.Refusals.{refusal_of}
 use Rattle.linekinds.proofs.ReadLists.{good_small, good_fit, good_entries}
 use Rattle.sheet.specs.Held.{held_at}
-use Rattle.sheet.specs.SheetLines.{in_turn, line_kinds, lines_from, refused_on, lines_by, HeldLine, HeldLines, Full, HeadKept}
+use Rattle.sheet.specs.SheetLines.{in_turn, line_kinds, lines_from, refused_on, lines_by, HeldLine, HeldLines, HeadKept}
 
 -- ---- the letter of a line's kind
 
@@ -69,6 +70,10 @@ pub record Refusal (s : List ℕ) (k : SheetKind) (i p n : ℕ) : Type 0 where
   pub is : line_number (line_kind k i) 0 (after s p) (line_at (line_letter k i) s p) ≡ n
   pub wrong : n ≡ 0 → ⊥
 
+-- what was answered, a refusal put on a line
+abbrev pub OnLine : ℕ → Result Packed Reason → Result Packed Refused → Type 0
+OnLine line x y = MatchResult x (λ r. y ≡ Ok r) (λ w. y ≡ Err (record { refusal = w; line = line }))
+
 module _ (s : List ℕ) (k : SheetKind) (i p : ℕ) where
   abbrev N : Option (List Field) → ℕ
   N x = line_number (line_kind k i) 0 (after s p) x
@@ -95,7 +100,7 @@ module _ (s : List ℕ) (k : SheetKind) (i p : ℕ) where
       record { fs = fs; is = a; zero = z; goes = ap (λ (x : Packed). x.next) q; counts = c; room = fits_room r.count list _ f c g; held = g }
   taken_at x false r list a t e f h = let z : ◌≡◌ {A = ℕ} 0 1 = cc in absurd (omega arith)
 
-  pub taken : (x : Result Packed Reason) (r : Packed) (list : List ℕ) → ListRead s p k i x list → x ≡ Ok r → Taken s k i p r.count r.next list
+  taken : (x : Result Packed Reason) (r : Packed) (list : List ℕ) → ListRead s p k i x list → x ≡ Ok r → Taken s k i p r.count r.next list
   taken x r list h e = taken_at (line_at (line_letter k i) s p) _ r list refl refl (sym e ∙ h.answer) h.full h.held
 
   refusal_at : (x : Option (List Field)) (t : Bool) (w : Reason) → eqb (N x) 0 ≡ t →
@@ -104,8 +109,20 @@ module _ (s : List ℕ) (k : SheetKind) (i p : ℕ) where
   refusal_at x false w t e = (cc, eqb-false (N x) 0 t)
 
   -- the number of a line that was turned back, and what it was turned back for
-  pub refusal : (x : Result Packed Reason) (w : Reason) (list : List ℕ) → ListRead s p k i x list → x ≡ Err w → Refusal s k i p (N (line_at (line_letter k i) s p)) × (w ≡ refusal_of (N (line_at (line_letter k i) s p)))
+  refusal : (x : Result Packed Reason) (w : Reason) (list : List ℕ) → ListRead s p k i x list → x ≡ Err w → Refusal s k i p (N (line_at (line_letter k i) s p)) × (w ≡ refusal_of (N (line_at (line_letter k i) s p)))
   refusal x w list h e = let q = refusal_at (line_at (line_letter k i) s p) _ w refl (sym e ∙ h.answer) in (record { is = refl; wrong = q.1 }, q.0)
+
+  -- the same, where the refusal was put on a line
+  module _ (list : List ℕ) (line : ℕ) (y : Result Packed Refused) where
+    pub turned_here :
+        (x : Result Packed Reason) → ListRead s p k i x list → OnLine line x y → (w : Refused) → y ≡ Err w →
+        Refusal s k i p (N (line_at (line_letter k i) s p)) × (w ≡ refused_on (N (line_at (line_letter k i) s p)) line)
+    turned_here (Ok r) h z w e = let q : ◌≡◌ {A = ℕ} 0 1 = cc in absurd (omega arith)
+    turned_here (Err v) h z w e = let q = refusal (Err v) v list h refl in let f : w ≡ record { refusal = v; line = line } = cc in (q.0, f ∙ ap (λ (u : Reason). record { refusal = u; line = line }) q.1)
+
+    pub taken_here : (x : Result Packed Reason) → ListRead s p k i x list → OnLine line x y → (r : Packed) → y ≡ Ok r → Taken s k i p r.count r.next list
+    taken_here (Ok q) h z r e = taken (Ok q) r list h cc
+    taken_here (Err v) h z r e = let q : ◌≡◌ {A = ℕ} 0 1 = cc in absurd (omega arith)
 
   -- ---- and the lines from there on
 
@@ -158,22 +175,11 @@ module _ (k : SheetKind) (lists : List (List ℕ)) (counts : List ℕ) (i : ℕ)
         is = rw (a, b) t.held;
       }
 
-  pub full_more : length list ≡ 64 → Full lists → Full (set lists i list)
-  full_more h f j e = go (eqb j i) refl
-    where
-      e' : j < length lists
-      e' = rw (length-set lists i list) at e
-
-      go : (t : Bool) → eqb j i ≡ t → length (get_or (set lists i list) j []) ≡ 64
-      go true q = let z : j ≡ i = eqb-true j i q in rw (z, get_or-set_same lists i list [] (rw z at e')) h
-      go false q = rw (get_or-set_other lists i j list [] (eqb-false j i q)) (f j e')
-
   module _ (lists₀ : List (List ℕ)) (counts₀ : List ℕ) (h : 1 ≤ i) (e : HeadKept lists₀ counts₀ lists counts) where
-    pub kept_list : length list ≡ 64 → HeadKept lists₀ counts₀ (set lists i list) counts
-    kept_list w = record {
+    pub kept_list : HeadKept lists₀ counts₀ (set lists i list) counts
+    kept_list = record {
       lists_long = length-set lists i list ∙ e.lists_long;
       counts_long = e.counts_long;
-      full = full_more w e.full;
       list = get_or-set_other lists i 0 list [] (λ z. omega arith) ∙ e.list;
       count = e.count;
     }
@@ -182,7 +188,6 @@ module _ (k : SheetKind) (lists : List (List ℕ)) (counts : List ℕ) (i : ℕ)
     kept_count = record {
       lists_long = e.lists_long;
       counts_long = length-set counts i count ∙ e.counts_long;
-      full = e.full;
       list = e.list;
       count = get_or-set_other counts i 0 count 0 (λ z. omega arith) ∙ e.count;
     }

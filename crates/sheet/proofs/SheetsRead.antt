@@ -23,8 +23,8 @@ use Rattle.linekinds.specs.declared.lists.SheetKind.{SheetKind}
 use Rattle.linekinds.specs.declared.lists.SheetKind.TheVariants.{Key, Join}
 use Rattle.sheet.specs.KeySheets.{Reading, sheet, turned, ended, mark, row, head_of, pairs_serve, serves, unused_keys, key_lists_fit, join_lists_fit, key_whole, join_whole, read_key_sheet, read_join_sheet}
 use Rattle.sheet.specs.Held.{held_at, pair_rows, child_count, held_key_sheet, held_join_sheet, KeyHeld, JoinHeld, held_text}
-use Rattle.sheet.specs.SheetLines.{whole_lines, refused_on, lines_by, ended_by, HeldLine, HeldLines}
-use Rattle.sheet.specs.ListFits.{direction_counts, key_counts_fit, input_counts, join_counts_fit, sheet_by, KeyRead, JoinRead}
+use Rattle.sheet.specs.SheetLines.{most_lists, whole_lines, refused_on, lines_by, ended_by, HeldLine, HeldLines}
+use Rattle.sheet.specs.ListFits.{direction_counts, key_counts_fit, input_counts, join_counts_fit, lists_fit, sheet_by, KeyRead, JoinRead, SheetRead}
 use Rattle.std.specs.Prelude.{Ok, Err}
 use Rattle.refusals.specs.declared.Refused.{Refused}
 use Rattle.sheet.specs.declared.read.LinesRead.{LinesRead}
@@ -81,10 +81,10 @@ module _ {A : Type 0} (whole : List (List Field) → Reading A) where
   ended_all run next line a = rw (a.is, a.end)
 
 module _ (s : List ℕ) (r : Refused) where
-  pub key_turned : Err r ≡ ended_by (whole_lines Key s) → Back (read_key_sheet s) r
+  key_turned : Err r ≡ ended_by (whole_lines Key s) → Back (read_key_sheet s) r
   key_turned e = rw (key_whole_lem s) (ended_turned (whole_rows stages_of_key key_whole) (whole_lines Key s) r e)
 
-  pub join_turned : Err r ≡ ended_by (whole_lines Join s) → Back (read_join_sheet s) r
+  join_turned : Err r ≡ ended_by (whole_lines Join s) → Back (read_join_sheet s) r
   join_turned e = rw (join_whole_lem s) (ended_turned (whole_rows stages_of_input join_whole) (whole_lines Join s) r e)
 
 -- ---- lists by their counts
@@ -193,7 +193,7 @@ module _ (s : List ℕ) (lists : List (List ℕ)) (counts : List ℕ) (t : Lines
     key_head_lem : length (held_at lists counts 0) ≡ 7
     key_head_lem = head_long Key lists counts key_all.rows key_rows_lem (omega (arith, key_count)) refl ∙ (line Key lists counts key_all.rows key_rows_lem 0 (omega (arith, key_count))).fits
 
-    pub key_decided :
+    key_decided :
         read_key_sheet s ≡ cond (key_counts_fit (get_or (get_or lists 0 []) 0 0) (get_or (get_or lists 0 []) 1 0) counts) (sheet (held_key_sheet lists counts)) (turned 5 0)
     key_decided =
         let rs : List (List Field) = key_all.rows in
@@ -202,13 +202,13 @@ module _ (s : List ℕ) (lists : List (List ℕ)) (counts : List ℕ) (t : Lines
         key_whole_lem s ∙ ended_all (whole_rows stages_of_key key_whole) (whole_lines Key s) t.next t.line key_all
         ∙ rw (← key_held lists counts rs key_rows_lem key_count, key_counts lists counts (λ i g. (line Key lists counts rs key_rows_lem i (omega arith)).long), at_0 0 (omega arith), at_0 1 (omega arith))
 
-    pub key_stands : 17 ≤ length lists → 17 ≤ length counts → read_key_sheet s ≡ sheet (held_key_sheet lists counts) → KeyHeld lists counts
+    key_stands : 17 ≤ length lists → 17 ≤ length counts → read_key_sheet s ≡ sheet (held_key_sheet lists counts) → KeyHeld lists counts
     key_stands a b r =
         let rs : List (List Field) = key_all.rows in
         let c : child_count lists counts ≡ at (head_of rs) 6 = head_held Key lists counts rs key_rows_lem 6 (omega (arith, key_count)) refl in
         record { lines = (a, b); room = λ i g. (line Key lists counts rs key_rows_lem i (omega (arith, key_count, c))).room; head = key_head_lem; legal = key_read_legal s (held_key_sheet lists counts) r }
 
-    pub key_again_lem : held_text Key lists counts 0 (9 + child_count lists counts) ≡ s
+    key_again_lem : held_text Key lists counts 0 (9 + child_count lists counts) ≡ s
     unfolding whole_lines
     key_again_lem =
         let rs : List (List Field) = key_all.rows in
@@ -234,7 +234,7 @@ module _ (s : List ℕ) (lists : List (List ℕ)) (counts : List ℕ) (t : Lines
     join_head_lem : length (held_at lists counts 0) ≡ 2
     join_head_lem = head_long Join lists counts join_all.rows join_rows_lem (omega (arith, join_count)) refl ∙ (join_line 0 (omega arith)).fits
 
-    pub join_stands : 8 ≤ length lists → 8 ≤ length counts → read_join_sheet s ≡ sheet (held_join_sheet lists counts) → JoinHeld lists counts
+    join_stands : 8 ≤ length lists → 8 ≤ length counts → read_join_sheet s ≡ sheet (held_join_sheet lists counts) → JoinHeld lists counts
     join_stands a b r = record {
       lines = (a, b);
       room = λ i g. (join_line i g).room;
@@ -243,7 +243,7 @@ module _ (s : List ℕ) (lists : List (List ℕ)) (counts : List ℕ) (t : Lines
       legal = join_read_legal s (held_join_sheet lists counts) r;
     }
 
-    pub join_again_lem : held_text Join lists counts 0 8 ≡ s
+    join_again_lem : held_text Join lists counts 0 8 ≡ s
     unfolding whole_lines
     join_again_lem = text_again Join lists counts s 8 join_all.rows join_all.lines t.line t.next join_all.is join_count join_all.end join_rows_lem
 
@@ -260,7 +260,7 @@ module _ (s : List ℕ) (lists : List (List ℕ)) (counts : List ℕ) (t : Lines
         = rw (← row_is Join lists counts rs join_rows_lem 4) (input_used lists counts 5 (get_or rs 5 []) refl (join_line 5 (omega arith))) in
         rw (u, v, n 1 (omega arith), n 2 (omega arith), ← (join_line 3 (omega arith)).long)
 
-    pub join_decided :
+    join_decided :
         read_join_sheet s ≡
         cond (join_counts_fit (get_or (get_or lists 0 []) 0 0) counts (get_or (get_or lists 4 []) 0 0) (get_or (get_or lists 5 []) 0 0)) (sheet (held_join_sheet lists counts)) (turned 5 0)
     join_decided =
@@ -285,14 +285,31 @@ same_sheet : {A : Type 0} (r : Reading A) (x y : A) → r ≡ sheet x → r ≡ 
 same_sheet r x y e f = cc
 
 module _ (s : List ℕ) (lists : List (List ℕ)) (counts : List ℕ) where
-  pub key_refused : (n l : ℕ) → read_key_sheet s ≡ turned n l → KeyRead s (Err (refused_on n l)) lists counts
+  key_refused : (n l : ℕ) → read_key_sheet s ≡ turned n l → KeyRead s (Err (refused_on n l)) lists counts
   key_refused n l e = record { answer = ap sheet_by (sym e); held = λ x f. absurd (apart (read_key_sheet s) x n l e f); again = λ x f. absurd (apart (read_key_sheet s) x n l e f) }
 
-  pub key_whole_read : read_key_sheet s ≡ sheet (held_key_sheet lists counts) → KeyHeld lists counts → held_text Key lists counts 0 (9 + child_count lists counts) ≡ s → KeyRead s (Ok tt) lists counts
+  key_whole_read : read_key_sheet s ≡ sheet (held_key_sheet lists counts) → KeyHeld lists counts → held_text Key lists counts 0 (9 + child_count lists counts) ≡ s → KeyRead s (Ok tt) lists counts
   key_whole_read e h g = record { answer = ap sheet_by (sym e); held = λ x f. (h, same_sheet (read_key_sheet s) (held_key_sheet lists counts) x e f); again = λ x f. g }
 
-  pub join_refused : (n l : ℕ) → read_join_sheet s ≡ turned n l → JoinRead s (Err (refused_on n l)) lists counts
+  join_refused : (n l : ℕ) → read_join_sheet s ≡ turned n l → JoinRead s (Err (refused_on n l)) lists counts
   join_refused n l e = record { answer = ap sheet_by (sym e); held = λ x f. absurd (apart (read_join_sheet s) x n l e f); again = λ x f. absurd (apart (read_join_sheet s) x n l e f) }
 
-  pub join_whole_read : read_join_sheet s ≡ sheet (held_join_sheet lists counts) → JoinHeld lists counts → held_text Join lists counts 0 8 ≡ s → JoinRead s (Ok tt) lists counts
+  join_whole_read : read_join_sheet s ≡ sheet (held_join_sheet lists counts) → JoinHeld lists counts → held_text Join lists counts 0 8 ≡ s → JoinRead s (Ok tt) lists counts
   join_whole_read e h g = record { answer = ap sheet_by (sym e); held = λ x f. (h, same_sheet (read_join_sheet s) (held_join_sheet lists counts) x e f); again = λ x f. g }
+
+-- ---- the same of a sheet of either kind
+
+pub sheet_back : (k : SheetKind) (s : List ℕ) (lists : List (List ℕ)) (counts : List ℕ) (r : Refused) → Err r ≡ ended_by (whole_lines k s) → SheetRead k s (Err r) lists counts
+sheet_back Key s lists counts r e = let b = key_turned s r e in subst (λ (q : Refused). KeyRead s (Err q) lists counts) (sym b.refusal) (key_refused s lists counts b.number b.line b.is)
+sheet_back Join s lists counts r e = let b = join_turned s r e in subst (λ (q : Refused). JoinRead s (Err q) lists counts) (sym b.refusal) (join_refused s lists counts b.number b.line b.is)
+
+module _ (s : List ℕ) (lists : List (List ℕ)) (counts : List ℕ) (t : LinesRead) where
+  pub sheet_unfit : (k : SheetKind) → Ok t ≡ ended_by (whole_lines k s) → HeldLines s k 0 (whole_lines k s) lists counts → lists_fit k lists counts ≡ false → SheetRead k s (Err (refused_on 5 0)) lists counts
+  sheet_unfit Key e h f = let d = key_decided s lists counts t e h in key_refused s lists counts 5 0 (rw f at d)
+  sheet_unfit Join e h f = let d = join_decided s lists counts t e h in join_refused s lists counts 5 0 (rw f at d)
+
+  pub sheet_whole :
+      (k : SheetKind) → Ok t ≡ ended_by (whole_lines k s) → HeldLines s k 0 (whole_lines k s) lists counts → lists_fit k lists counts ≡ true →
+      most_lists k ≤ length lists → most_lists k ≤ length counts → SheetRead k s (Ok tt) lists counts
+  sheet_whole Key e h f a b = let d = key_decided s lists counts t e h in let r = rw f at d in key_whole_read s lists counts r (key_stands s lists counts t e h a b r) (key_again_lem s lists counts t e h)
+  sheet_whole Join e h f a b = let d = join_decided s lists counts t e h in let r = rw f at d in join_whole_read s lists counts r (join_stands s lists counts t e h a b r) (join_again_lem s lists counts t e h)

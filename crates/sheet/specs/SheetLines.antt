@@ -96,6 +96,5 @@ Full lists = (i : ℕ) → i < length lists → length (get_or lists i []) ≡ 6
 pub record HeadKept (lists₀ : List (List ℕ)) (counts₀ : List ℕ) (lists : List (List ℕ)) (counts : List ℕ) : Type 0 where
   pub lists_long : length lists ≡ length lists₀
   pub counts_long : length counts ≡ length counts₀
-  pub full : Full lists
   pub list : get_or lists 0 [] ≡ get_or lists₀ 0 []
   pub count : get_or counts 0 0 ≡ get_or counts₀ 0 0

@@ -3,6 +3,7 @@ ghost use Rattle.std.specs.Prelude.{◌≡◌, ◌≤◌, length};
 ghost use Rattle.sheet.specs.KeySheets.{serves};
 ghost use Rattle.sheet.specs.ListFits.{direction_counts, pair_counts, key_counts_fit, input_counts, join_counts_fit};
 
+use keys::codes::Op;
 use keys::inputs::order_tried;
 
 // A list that does not serve is empty.
@@ -15,7 +16,10 @@ fn serves(b: bool, n: usize) -> bool
 fn directions_fit(op: u64, s: usize, l: usize) -> bool
     ensures { result ≡ direction_counts op s l }
 {
-    if op == 2 { s == l } else { s == 0 }
+    match Op::from(op) {
+        Op::SortMergeJoin => s == l,
+        _ => s == 0,
+    }
 }
 
 // The counts of L, G, S and W of a K sheet.
@@ -33,9 +37,9 @@ pub fn key_lists_fit(op: u64, mode: u64, counts: &[usize]) -> bool
     ensures { result ≡ key_counts_fit op mode counts.now }
 {
     pairs_fit(op, mode, counts[2], counts[3], counts[4], counts[5])
-        && serves(op == 3, counts[6])
-        && serves(op == 3, counts[7])
-        && serves(op == 4, counts[8])
+        && serves(Op::from(op) == Op::Aggregate, counts[6])
+        && serves(Op::from(op) == Op::Aggregate, counts[7])
+        && serves(Op::from(op) == Op::Projection, counts[8])
 }
 
 // H or N: a mark, and no keys after mark 0.

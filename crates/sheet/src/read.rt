@@ -1,8 +1,8 @@
 // Reads the lines of a K or I sheet, one after the other.
 ghost use Rattle.std.specs.Prelude.{◌≡◌, ◌-◌, ◌≤◌, length};
-ghost use Rattle.sheet.specs.SheetLines.{most_lists, count_by, FewChildren, lines_from, lines_by, whole_lines, ended_by, HeldLines, Full, HeadKept};
+ghost use Rattle.sheet.specs.SheetLines.{most_lists, count_by, FewChildren, lines_from, lines_by, whole_lines, ended_by, HeldLines, HeadKept};
 
-use linekinds::lists::{SheetKind, judged_list, read_list};
+use linekinds::lists::{SheetKind, read_list};
 use refusals::{Refusal, Refused};
 
 // The place after lines that were read, and the number of the next line.
@@ -22,24 +22,20 @@ fn read_lists(
     lists: &mut [[u64; 64]],
     counts: &mut [usize],
 ) -> Result<LinesRead, Refused>
-    requires { (192 ≤ length rows.old) × (1 ≤ n) × (n ≤ 17) × (n ≤ length lists.old) × (n ≤ length counts.old) × Full lists.old }
+    requires { (192 ≤ length rows.old) × (1 ≤ n) × (n ≤ 17) × (n ≤ length lists.old) × (n ≤ length counts.old) }
     ensures answer { result ≡ lines_by (lines_from s.now k 1 (n - 1) at) }
     ensures held { HeldLines s.now k 1 (lines_from s.now k 1 (n - 1) at) lists.new counts.new }
     ensures kept { HeadKept lists.old counts.old lists.new counts.new }
 {
     let mut next = at;
+    let mut line: u64 = 2;
     for i in 1..n {
-        let packed = match read_list(s, next, k, i, rows, &mut lists[i]) {
-            Ok(packed) => packed,
-            Err(refusal) => return Err(refusal.on_line(i as u64 + 1)),
-        };
+        let packed = read_list(s, next, k, i, rows, &mut lists[i]).map_err(|r| r.on_line(line))?;
         counts[i] = packed.count;
         next = packed.next;
+        line += 1;
     }
-    Ok(LinesRead {
-        next,
-        line: n as u64 + 1,
-    })
+    Ok(LinesRead { next, line })
 }
 
 // How many lines a sheet has; of a K sheet by its children.
@@ -48,6 +44,7 @@ fn line_count(k: SheetKind, children: u64) -> usize
     ensures { result ≡ count_by k children }
 {
     match k {
+        // No From goes between u64 and usize.
         SheetKind::Key => 9 + children as usize,
         SheetKind::Join => 8,
     }
@@ -61,14 +58,11 @@ fn read_lines(
     lists: &mut [[u64; 64]],
     counts: &mut [usize],
 ) -> Result<LinesRead, Refused>
-    requires { (192 ≤ length rows.old) × (most_lists k ≤ length lists.old) × (most_lists k ≤ length counts.old) × Full lists.old }
+    requires { (192 ≤ length rows.old) × (most_lists k ≤ length lists.old) × (most_lists k ≤ length counts.old) }
     ensures answer { result ≡ lines_by (whole_lines k s.now) }
     ensures held { HeldLines s.now k 0 (whole_lines k s.now) lists.new counts.new }
 {
-    let head = match judged_list(s, 0, k, 0, rows, &mut lists[0]) {
-        Ok(head) => head,
-        Err(refusal) => return Err(refusal.on_line(1)),
-    };
+    let head = read_list(s, 0, k, 0, rows, &mut lists[0]).map_err(|r| r.on_line(1))?;
     counts[0] = head.count;
     let n = line_count(k, lists[0][6]);
     read_lists(s, head.next, k, n, rows, lists, counts)
@@ -82,7 +76,7 @@ pub fn read_whole(
     lists: &mut [[u64; 64]],
     counts: &mut [usize],
 ) -> Result<LinesRead, Refused>
-    requires { (192 ≤ length rows.old) × (most_lists k ≤ length lists.old) × (most_lists k ≤ length counts.old) × Full lists.old }
+    requires { (192 ≤ length rows.old) × (most_lists k ≤ length lists.old) × (most_lists k ≤ length counts.old) }
     ensures answer { result ≡ ended_by (whole_lines k s.now) }
     ensures held { HeldLines s.now k 0 (whole_lines k s.now) lists.new counts.new }
 {

@@ -61,24 +61,6 @@ pub struct Scanned {
     pub field: Field,
 }
 
-fn number_to(end: usize, n: u64) -> Scanned
-    ensures { result ≡ field_to end (number n) }
-{
-    Scanned {
-        end,
-        field: Field::Number(n),
-    }
-}
-
-fn empty_to(end: usize) -> Scanned
-    ensures { result ≡ field_to end empty }
-{
-    Scanned {
-        end,
-        field: Field::Empty,
-    }
-}
-
 // The place of the first comma or LF from `at` on, or the length.
 fn field_end(s: &[u8], at: usize) -> usize
     ensures place { result ≡ at + span (drop at s.now) }
@@ -110,7 +92,10 @@ fn more_digits(s: &[u8], at: usize, begun: u64) -> Scanned
     for i in at..s.len() {
         let b = s[i];
         if b == b',' || b == b'\n' {
-            return number_to(i, n);
+            return Scanned {
+                end: i,
+                field: Field::Number(n),
+            };
         }
         if b < b'0' || b > b'9' || n == 0 || n > TENTH {
             return malformed_at(s, i);
@@ -122,20 +107,23 @@ fn more_digits(s: &[u8], at: usize, begun: u64) -> Scanned
         }
         n = m + d;
     }
-    number_to(s.len().max(at), n)
+    Scanned {
+        end: s.len().max(at),
+        field: Field::Number(n),
+    }
 }
 
 // The field that begins at `at`.
 pub(crate) fn field_at(s: &[u8], at: usize) -> Scanned
     ensures { result ≡ field_to (at + span (drop at s.now)) (first (drop at s.now)) }
 {
-    if s.len() <= at {
-        return empty_to(at);
+    if s.len() <= at || s[at] == b',' || s[at] == b'\n' {
+        return Scanned {
+            end: at,
+            field: Field::Empty,
+        };
     }
     let b = s[at];
-    if b == b',' || b == b'\n' {
-        return empty_to(at);
-    }
     if b < b'0' || b > b'9' {
         return malformed_at(s, at);
     }

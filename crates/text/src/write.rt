@@ -54,6 +54,7 @@ fn digit(d: u64) -> u8
     requires { d < 10 }
     ensures { result ≡ 48 + d }
 {
+    // No From goes from u64 to u8, and one digit needs no other way out.
     b'0' + d as u8
 }
 
@@ -83,15 +84,6 @@ fn put_two(out: &mut [u8], at: usize, n: u64) -> usize
     put_byte(out, p, digit(n % 10))
 }
 
-// A number of three digits.
-fn put_three(out: &mut [u8], at: usize, n: u64) -> usize
-    requires { (100 ≤ n) × (n < 1000) × (at + length (decimal n) ≤ length out.old) }
-    ensures { Wrote out.old at (decimal n) out.new result }
-{
-    let p = put_two(out, at, n / 10);
-    put_byte(out, p, digit(n % 10))
-}
-
 pub fn put_number(out: &mut [u8], at: usize, n: u64) -> usize
     requires { at + length (decimal n) ≤ length out.old }
     ensures { Wrote out.old at (decimal n) out.new result }
@@ -103,7 +95,8 @@ pub fn put_number(out: &mut [u8], at: usize, n: u64) -> usize
         return put_two(out, at, n);
     }
     if n < 1000 {
-        return put_three(out, at, n);
+        let p = put_two(out, at, n / 10);
+        return put_byte(out, p, digit(n % 10));
     }
     let end = at + number_length(n);
     put_digits(out, end, n);

@@ -1,16 +1,13 @@
--- `undefined_exprs` meets its contract: the rows that are left decide.
-use Rattle.std.proofs.Common.{◌∙◌, sym, arith, length-take, length-drop}
-use Rattle.linekinds.proofs.Defined.{exprs_here, exprs_later, exprs_none}
+-- `undefined_exprs` meets its contract: three rows that are no expression are three numbers that are none.
+use Rattle.std.proofs.Common.{rules, ◌≡◌, ◌∙◌, ◌/◌, true, length, refl, ap}
+use mathlib.Core.Bool.{not}
+use Rattle.std.specs.Prelude.{◌↔◌, IsTrue}
+use Rattle.std.specs.List.{Any, list_any}
+use Rattle.linekinds.proofs.Defined.{any_is, first_three, threes_any}
 use Rattle.linekinds.proofs.kind.undefined_exprs.Goals as goal
 
-pub returns-then-not-defined_expr : goal.returns-then-not-defined_expr
-returns-then-not-defined_expr c = sym (c.loop-rest.invariant ∙ exprs_here c.loop-rest.rest.now c.in-len3-up.len_at_least (sym c.defined_expr.ensures ∙ c.if-not-defined_expr.true))
-
-pub loop-rest-smaller : goal.loop-rest-smaller
-loop-rest-smaller c = simp (length-take, length-drop) (omega (arith, c.in-len3-up.len_at_least))
-
-pub loop-rest-preserved : goal.loop-rest-preserved
-loop-rest-preserved c = c.loop-rest.invariant ∙ exprs_later c.loop-rest.rest.now c.in-len3-up.len_at_least (sym c.defined_expr.ensures ∙ c.if-not-defined_expr.false)
-
 pub returns : goal.returns
-returns c = sym (c.loop-rest.invariant ∙ exprs_none c.loop-rest.rest.now (omega (arith, c.in_default.len_below)))
+returns c =
+    let rs = c.args.rows.now in
+    let e : IsTrue c.any.result ↔ Any (λ x. not (first_three x) ≡ true) c.as_chunks.result.0.now = search rules in
+    any_is _ _ _ e ∙ ap (list_any (λ x. not (first_three x))) c.as_chunks.ensures.front ∙ threes_any (length rs / 3) rs refl

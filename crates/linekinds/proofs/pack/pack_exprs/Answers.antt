@@ -10,9 +10,9 @@ use Rattle.linekinds.proofs.pack.pack_exprs.Goals as goal
 pub loop-rest-init : goal.loop-rest-init
 loop-rest-init c =
     let rs = c.args.rows.now in let i = c.args.from in (
-      c.requires.3,
+      c.told-out,
       simp (length-take, length-drop) (omega (arith, c.requires.0, c.requires.1, c.requires.2)),
-      small_from rs i c.requires.4,
+      small_from rs i c.requires.3,
       ap (λ (ns : List ℕ). take i c.args.out.now ++ ns) (packs_from rs i),
     )
 
@@ -42,4 +42,4 @@ loop-rest-preserved c =
 
 pub returns : goal.returns
 returns c =
-    let v = c.loop-rest.invariant in (v.0, omega (arith, v.1), rest_none c.loop-rest.rest.now c.loop-rest.out _ c.loop-rest.n v.3 (omega (arith, c.in_default.len_below)))
+    let v = c.loop-rest.invariant in (omega (arith, v.1), rest_none c.loop-rest.rest.now c.loop-rest.out _ c.loop-rest.n v.3 (omega (arith, c.in_default.len_below)))

@@ -12,7 +12,6 @@ use Rattle.linekinds.proofs.pack.pack_input.Goals as goal
 pub returns : goal.returns
 returns c = let rs = c.args.rows.now in let e = c.pack_exprs.ensures in (
   e.0,
-  e.1,
-  e.2 ∙ ap (λ (xs : List ℕ). xs ++ packs (drop 1 (row_values rs)))
-      (first_put c.args.out.now (row_values rs) (get_or (get_or rs 0 []) 1 0) (omega (arith, c.requires.2)) (rw (length-map rs row_value) c.requires.0) (sym (row_value_lem rs 0))),
+  e.1 ∙ ap (λ (xs : List ℕ). xs ++ packs (drop 1 (row_values rs)))
+      (first_put c.args.out.now (row_values rs) (get_or (get_or rs 0 []) 1 0) (omega (arith, c.told-out)) (rw (length-map rs row_value) c.requires.0) (sym (row_value_lem rs 0))),
 )

@@ -6,7 +6,7 @@ use Rattle.linekinds.proofs.PlainText.{entries_none, entries_more, entry_goes, e
 use Rattle.linekinds.proofs.plain.entries_at.Goals as goal
 
 pub loop-at-init : goal.loop-at-init
-loop-at-init c = (c.requires.0, c.requires.1, entries_none _ _ _ _)
+loop-at-init c = (c.told-list, c.requires.0, entries_none _ _ _ _)
 
 pub loop-at-smaller : goal.loop-at-smaller
 loop-at-smaller c =
@@ -17,7 +17,7 @@ loop-at-smaller c =
 pub loop-at-preserved : goal.loop-at-preserved
 loop-at-preserved c =
     let v = c.loop-at.invariant in
-    let free : c.loop-at.n < 64 = omega (arith, v.1, c.requires.2) in
+    let free : c.loop-at.n < 64 = omega (arith, v.1, c.requires.1) in
     (simp length-set v.0, omega (arith, v.1), entries_more _ _ _ _ _ _ _ _ c.loop-at.list v.2 c.in_ok-entry.ensures (omega (arith, v.0, free)))
 
 pub returns : goal.returns

@@ -6,7 +6,7 @@ use Rattle.linekinds.proofs.PlainText.{numbers_none, numbers_more, field_goes, n
 use Rattle.linekinds.proofs.plain.numbers_at.Goals as goal
 
 pub loop-at-init : goal.loop-at-init
-loop-at-init c = (c.requires, omega arith, numbers_none _ _ _ _)
+loop-at-init c = (c.told-list, omega arith, numbers_none _ _ _ _)
 
 pub loop-at-smaller : goal.loop-at-smaller
 loop-at-smaller c =

@@ -1,7 +1,6 @@
 -- `rewrite_plan_sheet` meets its contract: a refusal, or the sheet that is held.
-use Rattle.std.proofs.Common.{arith, ◌≡◌, sym, ap, ◌∙◌, length}
+use Rattle.std.proofs.Common.{arith, sym, ap, ◌∙◌, length}
 use Rattle.plansheet.specs.PlanSheets.{read_plan}
-use Rattle.plansheet.specs.PlanTexts.{plan_text}
 use Rattle.plantheorems.proofs.PlanRoundTrip.{plan_written_again}
 use Rattle.lochkave.specs.Entry.{plan_again}
 use Rattle.lochkave.proofs.PlanBounded.{plan_turned_few}

@@ -11,29 +11,26 @@ use Rattle.sheet.specs.Outcomes.{FitsIn}
 use Rattle.lochkave.proofs.Entries.{was_turned, turned_line, turned_word, worded, was_read, leaves_refused, adjust_turned, adjust_held, has_room}
 use Rattle.lochkave.proofs.kinds.adjust_in.Goals as goal
 
-pub read_key_sheet-requires : goal.read_key_sheet-requires
-read_key_sheet-requires c = let p = c.requires in (omega (arith, p.0), omega (arith, p.1), omega arith, p.2)
-
 pub word-requires : goal.word-requires
-word-requires c = let a = c.args in let q = c.read_key_sheet in let t = was_turned (read_key_sheet a.sheet.now) q.result _ q.ensures.answer c.in-Err.is in
+word-requires c = let a = c.args in let q = c.read_sheet in let t = was_turned (read_key_sheet a.sheet.now) q.result _ q.ensures.answer c.in-Err.is in
     omega (arith, turned_line t (worded _ _ (key_turned_few a.sheet.now _ _ t.is)))
 
 pub returns-in-Err : goal.returns-in-Err
-returns-in-Err c = let a = c.args in let q = c.read_key_sheet in let t = was_turned (read_key_sheet a.sheet.now) q.result _ q.ensures.answer c.in-Err.is in
+returns-in-Err c = let a = c.args in let q = c.read_sheet in let t = was_turned (read_key_sheet a.sheet.now) q.result _ q.ensures.answer c.in-Err.is in
     let both = leaves_refused (adjust_decision a.sheet.now) a.out.now _ _ _ (adjust_turned a.sheet.now _ _ t.is) (turned_word t (worded _ _ (key_turned_few a.sheet.now _ _ t.is)) _ c.word.ensures) in
     record { result = both.0; bytes = both.1 }
 
 pub answer_key_sheet-requires : goal.answer_key_sheet-requires
-answer_key_sheet-requires c = let a = c.args in let q = c.read_key_sheet in let w = was_read (read_key_sheet a.sheet.now) q.result _ q.ensures.answer c.in-Ok.is in (
+answer_key_sheet-requires c = let a = c.args in let q = c.read_sheet in let w = was_read (read_key_sheet a.sheet.now) q.result _ q.ensures.answer c.in-Ok.is in (
   (q.ensures.held w.x w.is).0,
   omega (arith, c.requires.0, q.auto.rows),
   λ e. subst (λ (o : Outcome). FitsIn (length a.out.now) o) (adjust_held a.sheet.now w.x _ w.is (q.ensures.held w.x w.is).1) (has_room (adjust_decision a.sheet.now) (length a.out.now) (adjust_fits a.sheet.now) (leb-true _ _ e)),
 )
 
 pub returns-in-Ok-clause-result : goal.returns-in-Ok-clause-result
-returns-in-Ok-clause-result c = let a = c.args in let q = c.read_key_sheet in let w = was_read (read_key_sheet a.sheet.now) q.result _ q.ensures.answer c.in-Ok.is in
+returns-in-Ok-clause-result c = let a = c.args in let q = c.read_sheet in let w = was_read (read_key_sheet a.sheet.now) q.result _ q.ensures.answer c.in-Ok.is in
     rw (adjust_held a.sheet.now w.x _ w.is (q.ensures.held w.x w.is).1) c.answer_key_sheet.ensures.0
 
 pub returns-in-Ok-clause-bytes : goal.returns-in-Ok-clause-bytes
-returns-in-Ok-clause-bytes c = let a = c.args in let q = c.read_key_sheet in let w = was_read (read_key_sheet a.sheet.now) q.result _ q.ensures.answer c.in-Ok.is in
+returns-in-Ok-clause-bytes c = let a = c.args in let q = c.read_sheet in let w = was_read (read_key_sheet a.sheet.now) q.result _ q.ensures.answer c.in-Ok.is in
     rw (adjust_held a.sheet.now w.x _ w.is (q.ensures.held w.x w.is).1) c.answer_key_sheet.ensures.1

@@ -11,20 +11,17 @@ use Rattle.sheet.specs.Outcomes.{FitsIn}
 use Rattle.lochkave.proofs.Entries.{was_turned, turned_line, turned_word, worded, was_read, leaves_refused, inputs_turned, inputs_held, has_room}
 use Rattle.lochkave.proofs.kinds.follow_in.Goals as goal
 
-pub read_join_sheet-requires : goal.read_join_sheet-requires
-read_join_sheet-requires c = let p = c.requires in (omega (arith, p.0), omega (arith, p.2), omega arith, p.3)
-
 pub word-requires : goal.word-requires
-word-requires c = let a = c.args in let q = c.read_join_sheet in let t = was_turned (read_join_sheet a.sheet.now) q.result _ q.ensures.answer c.in-Err.is in
+word-requires c = let a = c.args in let q = c.read_sheet in let t = was_turned (read_join_sheet a.sheet.now) q.result _ q.ensures.answer c.in-Err.is in
     omega (arith, turned_line t (worded _ _ (join_turned_few a.sheet.now _ _ t.is)))
 
 pub returns-in-Err : goal.returns-in-Err
-returns-in-Err c = let a = c.args in let q = c.read_join_sheet in let t = was_turned (read_join_sheet a.sheet.now) q.result _ q.ensures.answer c.in-Err.is in
+returns-in-Err c = let a = c.args in let q = c.read_sheet in let t = was_turned (read_join_sheet a.sheet.now) q.result _ q.ensures.answer c.in-Err.is in
     let both = leaves_refused (inputs_decision a.sheet.now) a.out.now _ _ _ (inputs_turned a.sheet.now _ _ t.is) (turned_word t (worded _ _ (join_turned_few a.sheet.now _ _ t.is)) _ c.word.ensures) in
     record { result = both.0; bytes = both.1 }
 
 pub answer_join_sheet-requires : goal.answer_join_sheet-requires
-answer_join_sheet-requires c = let a = c.args in let q = c.read_join_sheet in let w = was_read (read_join_sheet a.sheet.now) q.result _ q.ensures.answer c.in-Ok.is in (
+answer_join_sheet-requires c = let a = c.args in let q = c.read_sheet in let w = was_read (read_join_sheet a.sheet.now) q.result _ q.ensures.answer c.in-Ok.is in (
   (q.ensures.held w.x w.is).0,
   omega (arith, c.requires.0, q.auto.rows),
   omega (arith, c.requires.1),
@@ -32,9 +29,9 @@ answer_join_sheet-requires c = let a = c.args in let q = c.read_join_sheet in le
 )
 
 pub returns-in-Ok-clause-result : goal.returns-in-Ok-clause-result
-returns-in-Ok-clause-result c = let a = c.args in let q = c.read_join_sheet in let w = was_read (read_join_sheet a.sheet.now) q.result _ q.ensures.answer c.in-Ok.is in
+returns-in-Ok-clause-result c = let a = c.args in let q = c.read_sheet in let w = was_read (read_join_sheet a.sheet.now) q.result _ q.ensures.answer c.in-Ok.is in
     rw (inputs_held a.sheet.now w.x _ w.is (q.ensures.held w.x w.is).1) c.answer_join_sheet.ensures.0
 
 pub returns-in-Ok-clause-bytes : goal.returns-in-Ok-clause-bytes
-returns-in-Ok-clause-bytes c = let a = c.args in let q = c.read_join_sheet in let w = was_read (read_join_sheet a.sheet.now) q.result _ q.ensures.answer c.in-Ok.is in
+returns-in-Ok-clause-bytes c = let a = c.args in let q = c.read_sheet in let w = was_read (read_join_sheet a.sheet.now) q.result _ q.ensures.answer c.in-Ok.is in
     rw (inputs_held a.sheet.now w.x _ w.is (q.ensures.held w.x w.is).1) c.answer_join_sheet.ensures.1
