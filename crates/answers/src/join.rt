@@ -9,7 +9,7 @@ ghost use Rattle.sheet.specs.Held.{held_join_sheet, JoinHeld};
 ghost use Rattle.lines.specs.AnswerTexts.{join_text_of};
 ghost use Rattle.answers.specs.AnswerLists.{JoinFew, ReadyJoin};
 
-use keys::inputs::{Attempt, side_number};
+use keys::inputs::Attempt;
 use lines::join_text::{JoinLists, join_lists_length, put_join_lists};
 use moves::chosen::followed_or;
 use moves::decide::follow;
@@ -49,7 +49,7 @@ fn answer_lists(
 {
     let x = JoinLists {
         report: o.report(),
-        followed: side_number(o.side()),
+        followed: o.followed(),
         positions: moved.positions,
         left: followed_or(o, moved.left, held.list(1)),
         right: followed_or(o, moved.right, held.list(2)),

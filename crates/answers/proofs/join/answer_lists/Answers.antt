@@ -1,7 +1,6 @@
 -- The lists that were chosen make the answer's text (`chosen_join_text`).
 use mathlib.Core.Path.{refl, ap, ◌∙◌}
 use native.Mathlib.Omega.{arith}
-use Rattle.keys.specs.InputValues.{side_number}
 use Rattle.lines.specs.declared.join_text.JoinLists.{JoinLists}
 use Rattle.moves.specs.Chosen.{followed_or}
 use Rattle.moves.proofs.HeldJoins.{join_there}
@@ -21,7 +20,7 @@ list-requires-3 c = join_there c.args.held.lists.now c.args.held.counts.now c.re
 unfoldable the_lists : After-followed_or-3 → JoinLists
 the_lists c = record {
   report = c.report.result;
-  followed = c.side_number.result;
+  followed = c.followed.result;
   positions = c.args.moved.now.positions;
   left = c.followed_or.result;
   right = c.followed_or-2.result;
@@ -32,7 +31,7 @@ chosen : (c : After-followed_or-3) → JoinChosen c.args.held.lists.now c.args.h
 unfolding the_lists
 chosen c = let o = c.args.o.now in let m = c.args.moved.now in record {
   reports = c.report.ensures;
-  follows = c.side_number.ensures ∙ ap side_number c.side.ensures;
+  follows = c.followed.ensures;
   positions = refl;
   left_is = c.followed_or.ensures ∙ ap (followed_or o m.left.now) c.list.ensures;
   right_is = c.followed_or-2.ensures ∙ ap (followed_or o m.right.now) c.list-2.ensures;
