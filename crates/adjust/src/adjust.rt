@@ -9,21 +9,22 @@ use crate::aggregate::aggregate;
 use crate::sheet::Sheet;
 use keys::answer::{Adjusted, Handed, Outcome};
 use keys::codes::{HashMode, Join, Op};
-use keys::expr::{index_of, kind_of};
+use keys::expr::{COLUMN, Expr};
 use keys::reorder::try_reorder;
 
-// The index less `columns` in every key, into the room lent, and how many there are; none where one is no column or its index too small.
-pub fn shift_right_required(required: &[u64], columns: u64, out: &mut [u64; 32]) -> usize
+// The index less `columns` in every key, in the room lent; nothing where one is no column or its index too small.
+pub fn shift_right_required<'a>(required: &[u64], columns: u64, out: &'a mut [u64; 32]) -> &'a [u64]
     requires { length required.now ≤ 32 }
-    ensures { (result ≤ 32) × (expressions (take result out.new) ≡ shift_right_required columns (expressions required.now)) }
+    ensures { (length result.now ≤ 32) × (expressions result.now ≡ shift_right_required columns (expressions required.now)) }
 {
-    for (i, &key) in required.iter().enumerate() {
-        if kind_of(key) != 0 || index_of(key) < columns {
-            return 0;
+    for (i, &number) in required.iter().enumerate() {
+        let key = Expr { number };
+        if key.kind() != COLUMN || key.index() < columns {
+            return &[];
         }
-        out[i] = key - columns;
+        out[i] = number - columns;
     }
-    required.len()
+    &out[..required.len()]
 }
 
 // The second child's list is R shifted.

@@ -1,1 +1,2 @@
 pub mod AnswerLists
+pub mod Words

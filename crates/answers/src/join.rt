@@ -2,18 +2,21 @@
 ghost use Rattle.std.specs.Prelude.{◌≡◌, true, ◌≤◌, leb, length};
 ghost use Rattle.keys.specs.Expressions.{same_expr};
 ghost use Rattle.keys.specs.Inputs.{reorder_join_keys_to_inputs};
-ghost use Rattle.keys.specs.InputValues.{attempt_of, positions_by};
+ghost use Rattle.keys.specs.InputValues.{attempt_of};
 ghost use Rattle.sheet.specs.KeyAnswers.{wrote, join_answer_text};
 ghost use Rattle.sheet.specs.Outcomes.{answer, after, within};
 ghost use Rattle.sheet.specs.Held.{held_join_sheet, JoinHeld};
 ghost use Rattle.lines.specs.AnswerTexts.{join_text_of};
-ghost use Rattle.answers.specs.AnswerLists.{JoinFew, ReadyJoin};
+ghost use Rattle.answers.specs.AnswerLists.{JoinFew};
+ghost use Rattle.answers.specs.Words.{word_of};
 
-use keys::inputs::{Attempt, side_number};
+use crate::word::word;
+use keys::inputs::Attempt;
 use lines::join_text::{JoinLists, join_lists_length, put_join_lists};
 use moves::chosen::followed_or;
 use moves::decide::follow;
-use moves::moved::{MovedPairs, moved_pairs, wide_positions};
+use moves::held::HeldJoin;
+use moves::moved::{PairRooms, moved_pairs};
 use refusals::Refusal;
 use sheet::held::Lists;
 
@@ -26,36 +29,33 @@ fn text_fits(roomy: bool, room: usize, x: &JoinLists<'_>) -> bool
 }
 
 // The lists, where there is room for them; else refusal 12.
-fn write_join(roomy: bool, x: &JoinLists<'_>, out: &mut [u8]) -> u64
+fn write_join(roomy: bool, x: &JoinLists<'_>, out: &mut [u8]) -> Result<usize, Refusal>
     requires { JoinFew x.now × (roomy ≡ true → length (join_text_of x.now) ≤ length out.old) }
-    ensures { let t = within (length out.old) (wrote (join_text_of x.now)) in (result ≡ answer t) × (out.new ≡ after t out.old) }
+    ensures { let t = within (length out.old) (wrote (join_text_of x.now)) in (word_of result ≡ answer t) × (out.new ≡ after t out.old) }
 {
     if !text_fits(roomy, out.len(), x) {
-        return Refusal::OutputTooShort.on_line(0).word();
+        return Err(Refusal::OutputTooShort);
     }
-    put_join_lists(out, x) as u64
+    Ok(put_join_lists(out, x))
 }
 
-// The lists of an answer, chosen and written.
-fn answer_lists(
-    roomy: bool,
-    held: Lists<'_>,
-    o: &Attempt,
-    moved: &MovedPairs<'_>,
-    out: &mut [u8],
-) -> u64
-    requires { JoinHeld held.lists.now held.counts.now × ReadyJoin held.lists.now held.counts.now (positions_by o.now) moved.now × (roomy ≡ true → length (join_answer_text (attempt_of (held_join_sheet held.lists.now held.counts.now) o.now)) ≤ length out.old) }
-    ensures { let t = within (length out.old) (wrote (join_answer_text (attempt_of (held_join_sheet held.entry.lists.now held.entry.counts.now) o.now))) in (result ≡ answer t) × (out.new ≡ after t out.old) }
+// The lists of an answer, in the rooms lent.
+fn chosen<'a>(sheet: HeldJoin<'a>, o: &Attempt, rooms: &'a mut PairRooms) -> JoinLists<'a>
+    ensures few { JoinFew result }
+    ensures text { join_text_of result ≡ join_answer_text (attempt_of (held_join_sheet sheet.entry.held.lists.now sheet.entry.held.counts.now) o.now) }
 {
-    let x = JoinLists {
+    let left = sheet.list(1);
+    let right = sheet.list(2);
+    let directions = sheet.list(3);
+    let moved = moved_pairs(left, right, directions, o.positions(), rooms);
+    JoinLists {
         report: o.report(),
-        followed: side_number(o.side()),
+        followed: o.followed(),
         positions: moved.positions,
-        left: followed_or(o, moved.left, held.list(1)),
-        right: followed_or(o, moved.right, held.list(2)),
-        directions: followed_or(o, moved.directions, held.list(3)),
-    };
-    write_join(roomy, &x, out)
+        left: followed_or(o, moved.left, left),
+        right: followed_or(o, moved.right, right),
+        directions: followed_or(o, moved.directions, directions),
+    }
 }
 
 // The decision on an I sheet and its answer's bytes; `w` and `v` are room for the rewritings, `roomy` says that the answer fits.
@@ -69,28 +69,9 @@ pub fn answer_join_sheet(
     requires { JoinHeld held.lists.now held.counts.now × (32 ≤ length w.old) × (32 ≤ length v.old) × (roomy ≡ true → length (join_answer_text (reorder_join_keys_to_inputs (held_join_sheet held.lists.now held.counts.now) same_expr)) ≤ length out.old) }
     ensures { let t = within (length out.old) (wrote (join_answer_text (reorder_join_keys_to_inputs (held_join_sheet held.entry.lists.now held.entry.counts.now) same_expr))) in (result ≡ answer t) × (out.new ≡ after t out.old) }
 {
-    let attempt = follow(held, w, v);
-    let at = attempt.positions();
-    let n = at.len();
-    let mut positions = [0u64; 32];
-    let mut left = [0u64; 32];
-    let mut right = [0u64; 32];
-    let mut turned = [0u64; 32];
-    wide_positions(at, &mut positions);
-    let m = moved_pairs(
-        held.list(1),
-        held.list(2),
-        held.list(3),
-        at,
-        &mut left,
-        &mut right,
-        &mut turned,
-    );
-    let moved = MovedPairs {
-        positions: &positions[..n],
-        left: &left[..n],
-        right: &right[..n],
-        directions: &turned[..m],
-    };
-    answer_lists(roomy, held, &attempt, &moved, out)
+    let sheet = HeldJoin { held };
+    let attempt = follow(sheet, w, v);
+    let mut rooms = PairRooms::EMPTY;
+    let lists = chosen(sheet, &attempt, &mut rooms);
+    word(write_join(roomy, &lists, out))
 }

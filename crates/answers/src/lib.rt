@@ -3,3 +3,4 @@
 
 pub mod join;
 pub mod key;
+mod word;

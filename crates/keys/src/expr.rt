@@ -2,32 +2,39 @@
 ghost use Rattle.std.specs.Prelude.{◌≡◌, ◌<◌};
 ghost use Rattle.keys.specs.Expressions.{packed, expression};
 
+// The kind of a column.
+pub const COLUMN: u64 = 0;
+
 #[derive(Clone, Copy, PartialEq, Eq, Debug)]
 pub struct Expr {
     pub number: u64,
 }
 
-pub fn pack(kind: u64, name: u64, index: u64) -> u64
-    requires { (kind < 65536) × (name < 65536) × (index < 65536) }
-    ensures { result ≡ packed kind name index }
-{
-    kind * 4294967296 + (name * 65536 + index)
-}
+impl Expr {
+    pub fn pack(kind: u64, name: u64, index: u64) -> Expr
+        requires { (kind < 65536) × (name < 65536) × (index < 65536) }
+        ensures { result.number ≡ packed kind name index }
+    {
+        Expr {
+            number: kind * 4294967296 + (name * 65536 + index),
+        }
+    }
 
-pub fn kind_of(number: u64) -> u64
-    ensures { result ≡ (expression number).kind }
-{
-    number / 4294967296
-}
+    pub fn kind(self) -> u64
+        ensures { result ≡ (expression self.number).kind }
+    {
+        self.number / 4294967296
+    }
 
-pub fn name_of(number: u64) -> u64
-    ensures { result ≡ (expression number).name }
-{
-    number / 65536 % 65536
-}
+    pub fn name(self) -> u64
+        ensures { result ≡ (expression self.number).name }
+    {
+        self.number / 65536 % 65536
+    }
 
-pub fn index_of(number: u64) -> u64
-    ensures { result ≡ (expression number).index }
-{
-    number % 65536
+    pub fn index(self) -> u64
+        ensures { result ≡ (expression self.number).index }
+    {
+        self.number % 65536
+    }
 }

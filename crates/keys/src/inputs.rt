@@ -1,14 +1,26 @@
 // What is answered of a join's inputs: which side was followed, and what came of it.
-ghost use Rattle.std.specs.Prelude.{◌≡◌};
+ghost use Rattle.std.specs.Prelude.{◌≡◌, Some};
 ghost use Rattle.keys.specs.Kept.{order_tried};
 ghost use Rattle.keys.specs.InputValues.{side_number, report_by, side_by, positions_by};
 
+use crate::codes::{HashMode, Op};
 use crate::reorder::Reordered;
 
 #[derive(Clone, Copy, PartialEq, Eq, Debug)]
 pub enum Side {
     Left,
     Right,
+}
+
+impl From<Side> for u64 {
+    ghost from_gives = { λ side r. r ≡ side_number (Some side) };
+
+    fn from(side: Side) -> u64 {
+        match side {
+            Side::Left => 1,
+            Side::Right => 2,
+        }
+    }
 }
 
 // No side is hash partitioned, one was followed, or none could be.
@@ -39,6 +51,13 @@ impl Attempt {
         }
     }
 
+    // Document 01's number of the side that was followed, 0 for none.
+    pub fn followed(self) -> u64
+        ensures { result ≡ side_number (side_by self) }
+    {
+        self.side().map_or(0, u64::from)
+    }
+
     // The positions of the pairs that moved.
     pub fn positions(&self) -> &[u8]
         ensures { result.now ≡ positions_by self.now }
@@ -50,20 +69,13 @@ impl Attempt {
     }
 }
 
-// Document 01's number of the side that was followed, 0 for none.
-pub fn side_number(side: Option<Side>) -> u64
-    ensures { result ≡ side_number side }
-{
-    match side {
-        None => 0,
-        Some(Side::Left) => 1,
-        Some(Side::Right) => 2,
-    }
-}
-
 // A sort-merge join, or a Partitioned hash join.
 pub fn order_tried(op: u64, mode: u64) -> bool
     ensures { result ≡ order_tried op mode }
 {
-    op == 2 || (op == 0 && mode == 0)
+    match Op::from(op) {
+        Op::SortMergeJoin => true,
+        Op::HashJoin => HashMode::from(mode) == HashMode::Partitioned,
+        _ => false,
+    }
 }

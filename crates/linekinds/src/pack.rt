@@ -3,6 +3,7 @@ ghost use Rattle.std.specs.Prelude.{◌≡◌, ◌++◌, ◌+◌, ◌≤◌, ◌
 ghost use Rattle.linekinds.specs.Reading.{row_values, packs, packed_by, Small, Fits};
 
 use crate::kind::Codes;
+use keys::expr::Expr;
 
 // The numbers from a place on, three by three, each three packed in one, from a place of the output on.
 fn pack_exprs(rows: &[[u64; 2]], from: usize, out: &mut [u64; 64]) -> usize
@@ -12,7 +13,7 @@ fn pack_exprs(rows: &[[u64; 2]], from: usize, out: &mut [u64; 64]) -> usize
     let mut n = from;
     let mut rest = &rows[from..];
     while let [kind, name, index, later @ ..] = rest {
-        out[n] = keys::expr::pack(kind[1], name[1], index[1]);
+        out[n] = Expr::pack(kind[1], name[1], index[1]).number;
         n += 1;
         rest = later;
     }

@@ -4,6 +4,7 @@ ghost use Rattle.std.specs.Prelude.{◌≡◌, IsTrue, ◌↔◌, ◌≤◌, len
 ghost use Rattle.linekinds.specs.PlainText.{StandsAt, DigitAt, DigitsFound, FieldFound, EntryFound, EndFound, EntriesFound, NumbersFound, RulesFound, InputFound, ListFound};
 
 use crate::kind::{Codes, defined_expr};
+use keys::expr::Expr;
 
 // A number, and the place after it.
 #[derive(Clone, Copy)]
@@ -78,7 +79,7 @@ fn entry_at(s: &[u8], at: usize) -> Option<Number>
         return None;
     }
     Some(Number {
-        value: keys::expr::pack(kind.value, name.value, index.value),
+        value: Expr::pack(kind.value, name.value, index.value).number,
         end: index.end,
     })
 }

@@ -6,7 +6,7 @@ ghost use Rattle.keys.specs.Expressions.{expressions};
 ghost use Rattle.sheet.specs.KeyAnswers.{numbers_line, expr_numbers, exprs_line};
 ghost use Rattle.lines.specs.Fields.{number_field, expr_fields};
 
-use keys::expr::{index_of, kind_of, name_of};
+use keys::expr::Expr;
 use text::write::{number_length, put_byte, put_number};
 
 // The length of the numbers' line, whatever its letter.
@@ -31,11 +31,11 @@ pub fn pair_length(a: u64, b: u64) -> usize
 }
 
 // The length of an expression's three fields, each with its comma.
-fn expr_length(e: u64) -> usize
-    ensures exact { result ≡ length (expr_fields e) }
+fn expr_length(e: Expr) -> usize
+    ensures exact { result ≡ length (expr_fields e.number) }
     ensures few { result ≤ 63 }
 {
-    3 + number_length(kind_of(e)) + number_length(name_of(e)) + number_length(index_of(e))
+    3 + number_length(e.kind()) + number_length(e.name()) + number_length(e.index())
 }
 
 // The length of the expressions' line, whatever its letter.
@@ -46,7 +46,7 @@ pub fn exprs_length(list: &[u64]) -> usize
 {
     let mut length = 2;
     for &e in list {
-        length += expr_length(e);
+        length += expr_length(Expr { number: e });
     }
     length
 }
@@ -72,13 +72,13 @@ pub fn put_number_fields(out: &mut [u8], at: usize, list: &[u64]) -> usize
     p
 }
 
-fn put_expr(out: &mut [u8], at: usize, e: u64) -> usize
-    requires { at + length (expr_fields e) ≤ length out.old }
-    ensures { Wrote out.old at (expr_fields e) out.new result }
+fn put_expr(out: &mut [u8], at: usize, e: Expr) -> usize
+    requires { at + length (expr_fields e.number) ≤ length out.old }
+    ensures { Wrote out.old at (expr_fields e.number) out.new result }
 {
-    let p = put_number_field(out, at, kind_of(e));
-    let q = put_number_field(out, p, name_of(e));
-    put_number_field(out, q, index_of(e))
+    let p = put_number_field(out, at, e.kind());
+    let q = put_number_field(out, p, e.name());
+    put_number_field(out, q, e.index())
 }
 
 // The fields of the expressions, and a comma before each.
@@ -88,7 +88,7 @@ pub fn put_expr_fields(out: &mut [u8], at: usize, list: &[u64]) -> usize
 {
     let mut p = at;
     for &e in list {
-        p = put_expr(out, p, e);
+        p = put_expr(out, p, Expr { number: e });
     }
     p
 }

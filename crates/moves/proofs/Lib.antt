@@ -4,3 +4,4 @@ pub mod HeldKeys
 pub mod HeldJoins
 pub mod Projections
 pub mod Choices
+pub mod SamePairs

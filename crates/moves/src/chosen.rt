@@ -64,18 +64,18 @@ pub fn handed_list<'a>(
 }
 
 // R shifted, where a child is handed it; else nothing.
-pub fn shifted_keys(
+pub fn shifted_keys<'a>(
     first: Handed,
     others: Handed,
     required: &[u64],
     columns: u64,
-    out: &mut [u64; 32],
-) -> usize
+    out: &'a mut [u64; 32],
+) -> &'a [u64]
     requires { length required.now ≤ 32 }
-    ensures { (result ≤ 32) × (expressions (take result out.new) ≡ shifted_for first others columns (expressions required.now)) }
+    ensures { (length result.now ≤ 32) × (expressions result.now ≡ shifted_for first others columns (expressions required.now)) }
 {
     if matches!(first, Handed::Shifted) || matches!(others, Handed::Shifted) {
         return shift_right_required(required, columns, out);
     }
-    0
+    &[]
 }

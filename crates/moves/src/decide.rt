@@ -5,15 +5,15 @@ ghost use Rattle.keys.specs.Adjust.{adjust_input_keys_ordering};
 ghost use Rattle.keys.specs.Answers.{adjusted_of};
 ghost use Rattle.keys.specs.Inputs.{reorder_join_keys_to_inputs};
 ghost use Rattle.keys.specs.InputValues.{attempt_of};
-ghost use Rattle.sheet.specs.Held.{pair_rows, operator_of, held_key_sheet, held_join_sheet, KeyHeld, JoinHeld};
+ghost use Rattle.sheet.specs.Held.{pair_rows, operator_of, held_key_sheet, held_join_sheet};
 
+use crate::held::{HeldJoin, HeldKey};
 use adjust::adjust::adjust_input_keys_ordering;
 use adjust::sheet::Sheet;
 use inputs::current::join_keys_to_inputs;
 use inputs::sheet::{Input, Inputs};
 use keys::answer::{Adjusted, Operator};
 use keys::inputs::Attempt;
-use sheet::held::Lists;
 
 // Every two numbers a row.
 fn rule_rows(list: &[u64], rows: &mut [[u64; 2]]) -> usize
@@ -43,42 +43,42 @@ fn operator(h: &[u64]) -> Operator
 }
 
 // R, L, G, W, O, A and M of a K sheet; W as rows in the room lent.
-pub fn adjust(held: Lists<'_>, rules: &mut [[u64; 2]]) -> Option<Adjusted>
-    requires { KeyHeld held.lists.now held.counts.now × (32 ≤ length rules.old) }
-    ensures { let s = held_key_sheet held.entry.lists.now held.entry.counts.now in adjusted_of s result ≡ adjust_input_keys_ordering same_expr s }
+pub fn adjust(sheet: HeldKey<'_>, rules: &mut [[u64; 2]]) -> Option<Adjusted>
+    requires { 32 ≤ length rules.old }
+    ensures { let s = held_key_sheet sheet.entry.held.lists.now sheet.entry.held.counts.now in adjusted_of s result ≡ adjust_input_keys_ordering same_expr s }
 {
-    let n = rule_rows(held.list(5), rules);
+    let n = rule_rows(sheet.list(5), rules);
     adjust_input_keys_ordering(&Sheet {
-        operator: operator(held.list(0)),
-        required: held.list(1),
-        left: held.list(2),
-        right: held.list(3),
+        operator: operator(sheet.list(0)),
+        required: sheet.list(1),
+        left: sheet.list(2),
+        right: sheet.list(3),
         rewriting: &rules[..n],
-        groups: held.list(6),
-        aggregates: held.list(7),
-        mapped: held.list(8),
+        groups: sheet.list(6),
+        aggregates: sheet.list(7),
+        mapped: sheet.list(8),
     })
 }
 
 // Op, mode, L, G, H and N of an I sheet; W and V as rows in the rooms lent.
-pub fn follow(held: Lists<'_>, w: &mut [[u64; 2]], v: &mut [[u64; 2]]) -> Attempt
-    requires { JoinHeld held.lists.now held.counts.now × (32 ≤ length w.old) × (32 ≤ length v.old) }
-    ensures { let s = held_join_sheet held.entry.lists.now held.entry.counts.now in attempt_of s result ≡ reorder_join_keys_to_inputs s same_expr }
+pub fn follow(sheet: HeldJoin<'_>, w: &mut [[u64; 2]], v: &mut [[u64; 2]]) -> Attempt
+    requires { (32 ≤ length w.old) × (32 ≤ length v.old) }
+    ensures { let s = held_join_sheet sheet.entry.held.lists.now sheet.entry.held.counts.now in attempt_of s result ≡ reorder_join_keys_to_inputs s same_expr }
 {
-    let head = held.list(0);
-    let p = rule_rows(held.list(6), w);
-    let q = rule_rows(held.list(7), v);
+    let head = sheet.list(0);
+    let p = rule_rows(sheet.list(6), w);
+    let q = rule_rows(sheet.list(7), v);
     join_keys_to_inputs(Inputs {
         op: head[0],
         mode: head[1],
-        left: held.list(1),
-        right: held.list(2),
+        left: sheet.list(1),
+        right: sheet.list(2),
         left_input: Input {
-            list: held.list(4),
+            list: sheet.list(4),
             rewriting: &w[..p],
         },
         right_input: Input {
-            list: held.list(5),
+            list: sheet.list(5),
             rewriting: &v[..q],
         },
     })

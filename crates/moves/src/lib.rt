@@ -3,5 +3,6 @@
 
 pub mod chosen;
 pub mod decide;
+pub mod held;
 pub mod moved;
 pub mod projection;

@@ -3,6 +3,7 @@ ghost use Rattle.std.specs.Prelude.{◌≡◌, ◌≤◌, length, take};
 ghost use Rattle.keys.specs.Lists.{permute};
 ghost use Rattle.keys.specs.Expressions.{gone_number};
 ghost use Rattle.keys.specs.Adjust.{moved_directions};
+ghost use Rattle.moves.specs.Moved.{MovedBy};
 
 use keys::list::{KeyList, permute};
 
@@ -13,6 +14,24 @@ pub struct MovedPairs<'a> {
     pub left: &'a [u64],
     pub right: &'a [u64],
     pub directions: &'a [u64],
+}
+
+// Room for what stands at up to thirty-two positions.
+#[derive(Drop)]
+pub struct PairRooms {
+    pub positions: [u64; 32],
+    pub left: [u64; 32],
+    pub right: [u64; 32],
+    pub directions: [u64; 32],
+}
+
+impl PairRooms {
+    pub const EMPTY: PairRooms = PairRooms {
+        positions: [0; 32],
+        left: [0; 32],
+        right: [0; 32],
+        directions: [0; 32],
+    };
 }
 
 // A side's keys at the positions: built in a key list, and laid as numbers in the front of the room lent.
@@ -46,20 +65,26 @@ fn moved_directions(s: &[u64], at: &[u8], out: &mut [u64; 32]) -> usize
     n
 }
 
-// The keys of both sides, as many as there are positions, and the directions; how many of these.
-pub fn moved_pairs(
+// The pairs at the positions, in the room lent.
+pub fn moved_pairs<'a>(
     l: &[u64],
     g: &[u64],
     s: &[u64],
     at: &[u8],
-    left: &mut [u64; 32],
-    right: &mut [u64; 32],
-    turned: &mut [u64; 32],
-) -> usize
+    rooms: &'a mut PairRooms,
+) -> MovedPairs<'a>
     requires { length at.now ≤ 32 }
-    ensures { (result ≤ 32) × (take (length at.now) left.new ≡ permute gone_number l.now at.now) × (take (length at.now) right.new ≡ permute gone_number g.now at.now) × (take result turned.new ≡ moved_directions s.now at.now) }
+    ensures { MovedBy l.now g.now s.now at.now result }
 {
-    moved_side(l, at, left);
-    moved_side(g, at, right);
-    moved_directions(s, at, turned)
+    let n = at.len();
+    wide_positions(at, &mut rooms.positions);
+    moved_side(l, at, &mut rooms.left);
+    moved_side(g, at, &mut rooms.right);
+    let m = moved_directions(s, at, &mut rooms.directions);
+    MovedPairs {
+        positions: &rooms.positions[..n],
+        left: &rooms.left[..n],
+        right: &rooms.right[..n],
+        directions: &rooms.directions[..m],
+    }
 }

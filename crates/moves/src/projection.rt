@@ -26,27 +26,26 @@ fn names_from(first: usize, a: &[u64], out: &mut [u64; 128], at: usize) -> usize
 {
     for (i, &name) in a.iter().enumerate() {
         out[at + 2 * i] = name;
+        // No From goes from usize to u64.
         out[at + 2 * i + 1] = (first + i) as u64;
     }
     at + 2 * a.len()
 }
 
-// The group names at their places, and the aggregate names after them.
-fn projected(o: &[u64], places: &[u8], a: &[u64], out: &mut [u64; 128]) -> usize
+// The group names at their places, and the aggregate names after them; only an aggregate that acts has a projection.
+pub fn projected_by<'a>(
+    outcome: &Outcome,
+    o: &[u64],
+    a: &[u64],
+    out: &'a mut [u64; 128],
+) -> &'a [u64]
     requires { (length o.now ≤ 32) × (length a.now ≤ 32) }
-    ensures { (result ≤ 128) × (take result out.new ≡ projected_numbers (placed_names o.now places.now ++ names_from (length o.now) a.now)) }
+    ensures { (length result.now ≤ 128) × (result.now ≡ projected_numbers (projected_by outcome.now (placed_names o.now (places_by outcome.now) ++ names_from (length o.now) a.now))) }
 {
-    let n = placed_names(o, places, out);
-    names_from(o.len(), a, out, n)
-}
-
-// Only an aggregate that acts has a projection.
-pub fn projected_by(outcome: &Outcome, o: &[u64], a: &[u64], out: &mut [u64; 128]) -> usize
-    requires { (length o.now ≤ 32) × (length a.now ≤ 32) }
-    ensures { (result ≤ 128) × (take result out.new ≡ projected_numbers (projected_by outcome.now (placed_names o.now (places_by outcome.now) ++ names_from (length o.now) a.now))) }
-{
-    match outcome {
-        Outcome::Regrouped { places, .. } => projected(o, places.numbers(), a, out),
-        _ => 0,
-    }
+    let Outcome::Regrouped { places, .. } = outcome else {
+        return &[];
+    };
+    let at = placed_names(o, places.numbers(), &mut *out);
+    let n = names_from(o.len(), a, &mut *out, at);
+    &out[..n]
 }

@@ -1,46 +1,10 @@
--- What was followed is the sheet's answer, and its pairs are at the positions.
-use mathlib.Core.Path.{ap, ◌∙◌}
-use native.Mathlib.Omega.{arith}
-use lib.ListN.{length}
-use Rattle.keys.specs.Lists.{permute}
-use Rattle.keys.specs.Expressions.{gone_number}
-use Rattle.keys.specs.Adjust.{moved_directions}
-use Rattle.keys.specs.Inputs.{JoinAnswer}
-use Rattle.keys.proofs.Few.{attempt_few}
-use Rattle.sheet.specs.KeyAnswers.{Outcome, wrote, join_answer_text}
-use Rattle.sheet.specs.Outcomes.{answer, after, within}
-use Rattle.moves.proofs.HeldJoins.{join_there}
+-- What was followed is the sheet's answer.
+use mathlib.Core.Path.{◌∙◌}
 use Rattle.answers.proofs.join.answer_join_sheet.Goals as goal
 
-pub list-requires : goal.list-requires
-list-requires c = join_there c.args.held.lists.now c.args.held.counts.now c.requires.0 1 (omega arith)
-
-pub list-requires-2 : goal.list-requires-2
-list-requires-2 c = join_there c.args.held.lists.now c.args.held.counts.now c.requires.0 2 (omega arith)
-
-pub list-requires-3 : goal.list-requires-3
-list-requires-3 c = join_there c.args.held.lists.now c.args.held.counts.now c.requires.0 3 (omega arith)
-
-pub wide_positions-requires : goal.wide_positions-requires
-wide_positions-requires c = rw c.positions-at.ensures (attempt_few c.follow-attempt.result)
-
-pub moved_pairs-m-requires : goal.moved_pairs-m-requires
-moved_pairs-m-requires c = rw c.positions-at.ensures (attempt_few c.follow-attempt.result)
-
-pub answer_lists-requires : goal.answer_lists-requires
-answer_lists-requires c = let f = c.follow-attempt in let p = c.moved_pairs-m.ensures in let at = c.positions-at.ensures in (
-  c.requires.0,
-  record {
-    few = attempt_few f.result;
-    positions = c.wide_positions.ensures ∙ at;
-    left = p.1 ∙ (λ i. permute gone_number (c.list.ensures i) (at i));
-    right = p.2 ∙ (λ i. permute gone_number (c.list-2.ensures i) (at i));
-    directions = p.3 ∙ (λ i. moved_directions (c.list-3.ensures i) (at i));
-  },
-  λ e. rw f.ensures (c.requires.3 e),
-)
+pub write_join-requires : goal.write_join-requires
+write_join-requires c = (c.chosen-lists.ensures.few, λ e. rw (c.chosen-lists.ensures.text, c.follow-attempt.ensures) (c.requires.3 e))
 
 pub returns : goal.returns
-returns c = let f = c.follow-attempt in let e = c.answer_lists.ensures in
-    let z = ap (λ (a : JoinAnswer). within (length c.args.out.now) (wrote (join_answer_text a))) f.ensures in
-    (e.0 ∙ ap answer z, e.1 ∙ ap (λ (t : Outcome). after t c.args.out.now) z)
+returns c = let w = c.write_join.ensures in
+    rw (← c.follow-attempt.ensures, ← c.chosen-lists.ensures.text) (c.word.ensures ∙ w.0, w.1)

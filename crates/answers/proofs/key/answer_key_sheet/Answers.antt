@@ -1,6 +1,5 @@
 -- Whether a name was not found (`key_refused`) or an answer is written (`key_written`).
-use mathlib.Core.Path.{refl, ap, subst, ◌∙◌}
-use Rattle.refusals.specs.Refusals.{refused_word}
+use mathlib.Core.Path.{refl, subst, ◌∙◌}
 use lib.ListN.{length}
 use Rattle.sheet.specs.KeyAnswers as A
 use Rattle.sheet.specs.Held.{held_key_sheet}
@@ -9,11 +8,13 @@ use Rattle.answers.proofs.KeyLists.{key_refused, key_written}
 use Rattle.answers.proofs.key.answer_key_sheet.Goals as goal
 
 pub returns-in_default : goal.returns-in_default
-returns-in_default c = let d = c.adjust in rw (key_refused (held_key_sheet c.args.held.lists.now c.args.held.counts.now) d.result d.ensures c.in_default.is) (c.word.ensures ∙ ap refused_word c.on_line.ensures, refl)
+returns-in_default c = let d = c.adjust in rw (key_refused (held_key_sheet c.args.held.lists.now c.args.held.counts.now) d.result d.ensures c.in_default.is) (c.word.ensures, refl)
 
-pub answer_adjusted-requires : goal.answer_adjusted-requires
-answer_adjusted-requires c = let d = c.adjust in
-    (c.requires.0, λ e. subst (λ (t : A.Outcome). FitsIn (length c.args.out.now) t) (key_written (held_key_sheet c.args.held.lists.now c.args.held.counts.now) d.result c.in-Some.x d.ensures c.in-Some.is) (c.requires.2 e))
+pub write_key-requires : goal.write_key-requires
+write_key-requires c = let d = c.adjust in
+    λ e. rw c.chosen-answer.ensures
+    (subst (λ (t : A.Outcome). FitsIn (length c.args.out.now) t) (key_written (held_key_sheet c.args.held.lists.now c.args.held.counts.now) d.result c.in-Some.x d.ensures c.in-Some.is) (c.requires.2 e))
 
 pub returns : goal.returns
-returns c = let d = c.adjust in rw (key_written (held_key_sheet c.args.held.lists.now c.args.held.counts.now) d.result c.in-Some.x d.ensures c.in-Some.is) c.answer_adjusted.ensures
+returns c = let d = c.adjust in let w = c.write_key.ensures in
+    rw (key_written (held_key_sheet c.args.held.lists.now c.args.held.counts.now) d.result c.in-Some.x d.ensures c.in-Some.is, ← c.chosen-answer.ensures) (c.word-2.ensures ∙ w.0, w.1)

@@ -37,7 +37,7 @@ loop-rest-preserved c =
       simp length-set v.0,
       simp (length-take, length-drop) (omega (arith, v.1, h)),
       small_later rs h v.2,
-      rest_more rs c.loop-rest.out _ c.loop-rest.n v.3 h (omega (arith, v.0, v.1, h)) c.pack.result c.pack.ensures,
+      rest_more rs c.loop-rest.out _ c.loop-rest.n v.3 h (omega (arith, v.0, v.1, h)) c.pack.result.number c.pack.ensures,
     )
 
 pub returns : goal.returns

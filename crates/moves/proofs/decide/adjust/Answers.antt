@@ -3,45 +3,19 @@ use mathlib.Core.Path.{ap, ◌∙◌}
 use native.Mathlib.Omega.{arith}
 use lib.ListN.{length}
 use Rattle.sheet.specs.Held.{operator_of, pair_rows}
-use Rattle.moves.proofs.HeldKeys.{key_there, key_short, key_suited, key_decided}
+use Rattle.moves.proofs.HeldKeys.{key_suited, key_decided}
 use Rattle.moves.proofs.decide.adjust.Goals as goal
 
-pub list-requires : goal.list-requires
-list-requires c = key_there c.args.held.lists.now c.args.held.counts.now c.requires.0 5 (omega arith)
-
-pub rule_rows-n-requires : goal.rule_rows-n-requires
-rule_rows-n-requires c = (rw c.list.ensures (key_short c.args.held.lists.now c.args.held.counts.now c.requires.0 5 (omega arith)), c.requires.1)
-
-pub list-requires-2 : goal.list-requires-2
-list-requires-2 c = key_there c.args.held.lists.now c.args.held.counts.now c.requires.0 0 (omega arith)
-
 pub operator-requires : goal.operator-requires
-operator-requires c = omega (arith, ap length c.list-2.ensures, c.requires.0.head)
-
-pub list-requires-3 : goal.list-requires-3
-list-requires-3 c = key_there c.args.held.lists.now c.args.held.counts.now c.requires.0 1 (omega arith)
-
-pub list-requires-4 : goal.list-requires-4
-list-requires-4 c = key_there c.args.held.lists.now c.args.held.counts.now c.requires.0 2 (omega arith)
-
-pub list-requires-5 : goal.list-requires-5
-list-requires-5 c = key_there c.args.held.lists.now c.args.held.counts.now c.requires.0 3 (omega arith)
-
-pub list-requires-6 : goal.list-requires-6
-list-requires-6 c = key_there c.args.held.lists.now c.args.held.counts.now c.requires.0 6 (omega arith)
-
-pub list-requires-7 : goal.list-requires-7
-list-requires-7 c = key_there c.args.held.lists.now c.args.held.counts.now c.requires.0 7 (omega arith)
-
-pub list-requires-8 : goal.list-requires-8
-list-requires-8 c = key_there c.args.held.lists.now c.args.held.counts.now c.requires.0 8 (omega arith)
+operator-requires c = omega (arith, ap length c.list-2.ensures.line, c.args.sheet.bounds.head)
 
 pub invariant_of-adjust_input_keys_ordering : goal.invariant_of-adjust_input_keys_ordering
-invariant_of-adjust_input_keys_ordering c =
-    let s = key_suited c.args.held.lists.now c.args.held.counts.now c.requires.0 c.list-3.ensures c.list-4.ensures c.list-5.ensures c.list-6.ensures c.list-7.ensures in
+invariant_of-adjust_input_keys_ordering c = let x = c.args.sheet in
+    let s = key_suited x.held.lists.now x.held.counts.now x.bounds c.list-3.ensures.line c.list-4.ensures.line c.list-5.ensures.line c.list-6.ensures.line c.list-7.ensures.line in
     record { few_required = s.0; few_pairs = s.1; even = s.2; few_groups = s.3; few_aggregates = s.4; named = s.5 }
 
 pub returns : goal.returns
-returns c = let d = c.adjust_input_keys_ordering in
-    key_decided c.args.held.lists.now c.args.held.counts.now d.result (c.operator.ensures ∙ ap operator_of c.list-2.ensures)
-    c.list-3.ensures c.list-4.ensures c.list-5.ensures (c.rule_rows-n.ensures.2 ∙ ap pair_rows c.list.ensures) c.list-6.ensures c.list-7.ensures c.list-8.ensures d.ensures
+returns c = let x = c.args.sheet in let d = c.adjust_input_keys_ordering in
+    key_decided x.held.lists.now x.held.counts.now d.result (c.operator.ensures ∙ ap operator_of c.list-2.ensures.line)
+    c.list-3.ensures.line c.list-4.ensures.line c.list-5.ensures.line (c.rule_rows-n.ensures.2 ∙ ap pair_rows c.list.ensures.line)
+    c.list-6.ensures.line c.list-7.ensures.line c.list-8.ensures.line d.ensures

@@ -5,49 +5,22 @@ use mathlib.Core.List.{List}
 use native.Mathlib.Omega.{arith}
 use lib.ListN.{length, get_or}
 use Rattle.sheet.specs.Held.{pair_rows}
-use Rattle.moves.proofs.HeldJoins.{join_there, join_short, join_suited, join_decided}
+use Rattle.moves.proofs.HeldJoins.{join_suited, join_decided}
 use Rattle.moves.proofs.decide.follow.Goals as goal
 
-pub list-head-requires : goal.list-head-requires
-list-head-requires c = join_there c.args.held.lists.now c.args.held.counts.now c.requires.0 0 (omega arith)
-
-pub list-requires : goal.list-requires
-list-requires c = join_there c.args.held.lists.now c.args.held.counts.now c.requires.0 6 (omega arith)
-
-pub rule_rows-p-requires : goal.rule_rows-p-requires
-rule_rows-p-requires c = (rw c.list.ensures (join_short c.args.held.lists.now c.args.held.counts.now c.requires.0 6 (omega arith)), c.requires.1)
-
-pub list-requires-2 : goal.list-requires-2
-list-requires-2 c = join_there c.args.held.lists.now c.args.held.counts.now c.requires.0 7 (omega arith)
-
-pub rule_rows-q-requires : goal.rule_rows-q-requires
-rule_rows-q-requires c = (rw c.list-2.ensures (join_short c.args.held.lists.now c.args.held.counts.now c.requires.0 7 (omega arith)), c.requires.2)
-
 pub bounds-head-0 : goal.bounds-head-0
-bounds-head-0 c = omega (arith, ap length c.list-head.ensures, c.requires.0.head)
+bounds-head-0 c = omega (arith, ap length c.list-head.ensures.line, c.args.sheet.bounds.head)
 
 pub bounds-head-1 : goal.bounds-head-1
-bounds-head-1 c = omega (arith, ap length c.list-head.ensures, c.requires.0.head)
-
-pub list-requires-3 : goal.list-requires-3
-list-requires-3 c = join_there c.args.held.lists.now c.args.held.counts.now c.requires.0 1 (omega arith)
-
-pub list-requires-4 : goal.list-requires-4
-list-requires-4 c = join_there c.args.held.lists.now c.args.held.counts.now c.requires.0 2 (omega arith)
-
-pub list-requires-5 : goal.list-requires-5
-list-requires-5 c = join_there c.args.held.lists.now c.args.held.counts.now c.requires.0 4 (omega arith)
-
-pub list-requires-6 : goal.list-requires-6
-list-requires-6 c = join_there c.args.held.lists.now c.args.held.counts.now c.requires.0 5 (omega arith)
+bounds-head-1 c = omega (arith, ap length c.list-head.ensures.line, c.args.sheet.bounds.head)
 
 pub invariant_of-join_keys_to_inputs-3 : goal.invariant_of-join_keys_to_inputs-3
-invariant_of-join_keys_to_inputs-3 c =
-    let s = join_suited c.args.held.lists.now c.args.held.counts.now c.requires.0 c.list-3.ensures c.list-4.ensures c.list-5.ensures c.list-6.ensures in
+invariant_of-join_keys_to_inputs-3 c = let x = c.args.sheet in
+    let s = join_suited x.held.lists.now x.held.counts.now x.bounds c.list-3.ensures.line c.list-4.ensures.line c.list-5.ensures.line c.list-6.ensures.line in
     record { few = s.0; even = s.1 }
 
 pub returns : goal.returns
-returns c = let d = c.join_keys_to_inputs in let e = c.list-head.ensures in
-    join_decided c.args.held.lists.now c.args.held.counts.now d.result (ap (λ (l : List ℕ). get_or l 0 0) e) (ap (λ (l : List ℕ). get_or l 1 0) e)
-    c.list-3.ensures c.list-4.ensures c.list-5.ensures c.list-6.ensures
-    (c.rule_rows-p.ensures.2 ∙ ap pair_rows c.list.ensures) (c.rule_rows-q.ensures.2 ∙ ap pair_rows c.list-2.ensures) d.ensures
+returns c = let x = c.args.sheet in let d = c.join_keys_to_inputs in let e = c.list-head.ensures.line in
+    join_decided x.held.lists.now x.held.counts.now d.result (ap (λ (l : List ℕ). get_or l 0 0) e) (ap (λ (l : List ℕ). get_or l 1 0) e)
+    c.list-3.ensures.line c.list-4.ensures.line c.list-5.ensures.line c.list-6.ensures.line
+    (c.rule_rows-p.ensures.2 ∙ ap pair_rows c.list.ensures.line) (c.rule_rows-q.ensures.2 ∙ ap pair_rows c.list-2.ensures.line) d.ensures

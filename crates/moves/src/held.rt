@@ -1,0 +1,40 @@
+// A K or I sheet that is held, within its bounds.
+ghost use Rattle.std.specs.Prelude.{◌≡◌, ◌<◌, ◌≤◌, length};
+ghost use Rattle.sheet.specs.Held.{held_at, KeyHeld, JoinHeld};
+ghost use Rattle.moves.specs.Bounds.{KeyHeld-prop, JoinHeld-prop};
+
+use sheet::held::Lists;
+
+#[derive(Clone, Copy)]
+pub struct HeldKey<'a> {
+    pub held: Lists<'a>,
+    pub ghost bounds: { KeyHeld held.lists.now held.counts.now } by { KeyHeld-prop held.lists.now held.counts.now },
+}
+
+#[derive(Clone, Copy)]
+pub struct HeldJoin<'a> {
+    pub held: Lists<'a>,
+    pub ghost bounds: { JoinHeld held.lists.now held.counts.now } by { JoinHeld-prop held.lists.now held.counts.now },
+}
+
+impl<'a> HeldKey<'a> {
+    // The numbers of line i, of those before the children's.
+    pub fn list(self, i: usize) -> &'a [u64]
+        requires { i < 9 }
+        ensures line { result.now ≡ held_at self.entry.held.lists.now self.entry.held.counts.now i }
+        ensures few { length result.now ≤ 64 }
+    {
+        self.held.list(i)
+    }
+}
+
+impl<'a> HeldJoin<'a> {
+    // The numbers of line i.
+    pub fn list(self, i: usize) -> &'a [u64]
+        requires { i < 8 }
+        ensures line { result.now ≡ held_at self.entry.held.lists.now self.entry.held.counts.now i }
+        ensures few { length result.now ≤ 64 }
+    {
+        self.held.list(i)
+    }
+}
