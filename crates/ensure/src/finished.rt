@@ -1,7 +1,7 @@
 // The answer, once the forms of the worked node's children are known.
 ghost use Rattle.std.specs.Prelude.{◌≡◌, cond, ◌&&◌, List, ◌++◌, ℕ, ◌+◌, ◌<◌, ◌≤◌, eqb, length, drop, set, Ok};
 ghost use Rattle.exchange.specs.Trees.{root, Plan};
-ghost use Rattle.exchange.specs.Settings.{is_set};
+ghost use Rattle.exchange.specs.Settings.{is_set as is_set_mark};
 ghost use Rattle.exchange.specs.States.{ChildState};
 ghost use Rattle.exchange.specs.Standings.{form_numbers};
 ghost use Rattle.exchange.specs.Relationships.{enforced};
@@ -17,6 +17,7 @@ use crate::outcome::Answered;
 use exchange::facts::{Finishing, PlanFacts};
 use exchange::finish::finish_children;
 use exchange::kind;
+use exchange::mark::is_set;
 use exchange::partitioning::{self, NodeRow};
 use exchange::row::{self, Node, Row};
 use exchange::settings::Settings;
@@ -36,9 +37,9 @@ fn put_worked(rows: &mut [Row], worked: Node, children: u64, interleaves: bool)
 
 // Whether a better window was found, of a worked node that is one.
 fn window_mark(kind: u64, b: NodeRow) -> u64
-    ensures { result ≡ mark (eqb kind 7 && is_set (node_facts b).window) }
+    ensures { result ≡ mark (eqb kind 7 && is_set_mark (node_facts b).window) }
 {
-    u64::from(kind == kind::WINDOW && b[partitioning::WINDOW] == 1)
+    u64::from(kind == kind::WINDOW && is_set(b[partitioning::WINDOW]))
 }
 
 // The answer of the worked node at `at` and its children in their forms, at the front of `dst`.

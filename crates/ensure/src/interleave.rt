@@ -25,6 +25,7 @@ fn all_layouts(layout: u64, xs: FactRows, forms: &[u64]) -> bool
 {
     for (i, form) in forms.iter().enumerate() {
         let c = ChildForm {
+            // No From goes from usize to u64.
             child: i as u64 + 1,
             form: *form,
         };

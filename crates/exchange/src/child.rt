@@ -11,6 +11,7 @@ use crate::form::{
     SPLIT, TOP_KEYED, TOP_MERGE, TOP_NONE, form_of, relationship_of, split_of, top_of,
 };
 use crate::kind;
+use crate::mark::is_set;
 use crate::operator::{new_exchange, new_merge, split_operator};
 use crate::row::{self, Node, Row, Step};
 
@@ -29,7 +30,7 @@ fn built_root(xs: FactRows, c: ChildForm, o: Node) -> Node
     requires o_value { node_of (operator_of o) ≡ o }
     ensures { result ≡ node_of (built_root (map fact_row xs.entry.rows.now) c.child (form_of c.form) (operator_of o)) }
 {
-    if split_of(c.form) != 1 {
+    if !is_set(split_of(c.form)) {
         return o;
     }
     let split = ChildForm {
@@ -100,7 +101,7 @@ fn put_new(xs: FactRows, c: ChildForm, root: Node, dst: &mut [Row], to: usize) -
     requires root_in_bounds { to + length (new_rows (map fact_row xs.rows.now) c.child (form_of c.form) (operator_of root)) ≤ length dst.old }
     ensures { Put to (new_rows (map fact_row xs.entry.rows.now) c.child (form_of c.form) (operator_of root)) dst.old dst.new result }
 {
-    if relationship_of(c.form) != 1 {
+    if !is_set(relationship_of(c.form)) {
         return put_top(xs, c, root, dst, to);
     }
     row::put_node(&mut *dst, to, built_relationship(xs, c, root), 1);

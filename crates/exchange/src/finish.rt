@@ -13,7 +13,7 @@ use crate::fact::{self, ChildForm, FactRow};
 use crate::facts::Finishing;
 use crate::order::{Known, handle_order};
 use crate::ordered::put_handled;
-use crate::row::{self, Node, Row, Step};
+use crate::row::{self, NO_LIMIT, Node, Row, Step};
 use crate::status::{self, ChildRow};
 use crate::{kind, partitioning};
 
@@ -48,7 +48,7 @@ fn output_fetch(worked: Node) -> Node
         return worked;
     }
     Node {
-        limited: 0,
+        limited: NO_LIMIT,
         limit: 0,
         ..worked
     }
@@ -72,6 +72,7 @@ pub fn finish_child(
 {
     let read = build_child(w.facts.xs, c, src, at, &mut *mid, 0);
     let x = row_in(w.facts.xs, c);
+    // No From goes from u64 to usize.
     let f = w.facts.children[(c.child - 1) as usize];
     let top = row::node_at(&*mid, 0);
     let h = handle_order(known(w, need, top.tracked, f, x));
@@ -104,6 +105,7 @@ pub fn finish_children(
     let need = row::node_at(src, at).need;
     let c = ChildForm {
         child,
+        // No From goes from u64 to usize.
         form: forms[(child - 1) as usize],
     };
     let m = finish_child(w, c, need, src, at, &mut *mid, &mut *dst, to);

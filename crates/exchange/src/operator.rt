@@ -9,7 +9,7 @@ ghost use Rattle.exchange.specs.Step.{split_operator};
 
 use crate::fact::{COUNT, FactRow, ORDER};
 use crate::kind;
-use crate::row::Node;
+use crate::row::{NO_LIMIT, Node};
 
 // New merges and exchanges are tracked.
 pub const NEW_MARK: u64 = 1;
@@ -30,7 +30,7 @@ pub struct New {
 pub fn limit_of(n: Node) -> Option<u64>
     ensures { result ≡ limit_for n }
 {
-    if n.limited == 0 {
+    if n.limited == NO_LIMIT {
         return None;
     }
     Some(n.limit)

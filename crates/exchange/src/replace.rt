@@ -7,8 +7,9 @@ ghost use Rattle.exchange.specs.Replace.{coalesced as coalesced_of, replace_orde
 ghost use Rattle.exchange.specs.ReplaceRows.{merge_sort, relaxed_or, heads};
 
 use crate::kind;
+use crate::mark::is_set;
 use crate::operator::{self, New};
-use crate::row::{self, Node, Row, Step};
+use crate::row::{self, NO_LIMIT, Node, Row, Step};
 
 // A merge that keeps neither the order nor the limit.
 pub fn coalesced(n: Node) -> Node
@@ -16,7 +17,7 @@ pub fn coalesced(n: Node) -> Node
 {
     Node {
         kind: kind::COALESCE,
-        limited: 0,
+        limited: NO_LIMIT,
         limit: 0,
         order: 0,
         ..n
@@ -45,7 +46,7 @@ pub fn relaxed(n: Node) -> Node
     requires { node_of (operator_of n) ≡ n }
     ensures { result ≡ node_of (relaxed_or (operator_of n)) }
 {
-    if kind::exchanges(n.kind) && n.keeps == 1 {
+    if kind::exchanges(n.kind) && is_set(n.keeps) {
         return Node {
             keeps: 0,
             order: 0,
@@ -65,7 +66,7 @@ fn put_in_place(dst: &mut [Row], to: usize, n: Node, children: u64) -> usize
         row::put_node(dst, to, relaxed(n), children);
         return to + 1;
     }
-    if n.limited == 0 {
+    if n.limited == NO_LIMIT {
         row::put_node(dst, to, coalesced(n), children);
         return to + 1;
     }
@@ -96,15 +97,10 @@ fn replace_children(src: &[Row], at: usize, left: u64, dst: &mut [Row], to: usiz
     if left == 0 {
         return Step { at, to };
     }
-    if src[at][row::TRACKED] != 1 {
-        let s = row::copy_tree(src, at, dst, to);
-        let a = s.at;
-        let b = s.to;
-        replace_children(src, a, left - 1, dst, b)
+    let s = if is_set(src[at][row::TRACKED]) {
+        replace_order_preserving_variants(src, at, &mut *dst, to)
     } else {
-        let s = replace_order_preserving_variants(src, at, dst, to);
-        let a = s.at;
-        let b = s.to;
-        replace_children(src, a, left - 1, dst, b)
-    }
+        row::copy_tree(src, at, &mut *dst, to)
+    };
+    replace_children(src, s.at, left - 1, dst, s.to)
 }

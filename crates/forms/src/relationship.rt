@@ -1,5 +1,5 @@
 // The relationship rounds: while children are unsatisfied together, those that can be are given a keyed exchange.
-ghost use Rattle.std.specs.Prelude.{◌≡◌, List, map, ℕ, ◌≤◌, ◌<◌, length, get_or};
+ghost use Rattle.std.specs.Prelude.{◌≡◌, List, map, ℕ, ◌≤◌, ◌<◌, ◌%◌, length, get_or};
 ghost use Rattle.exchange.specs.Forms.{form_number, form_of, with_relationship};
 ghost use Rattle.exchange.specs.Facts.{row_of, unsatisfied_at};
 ghost use Rattle.exchange.specs.States.{ChildState};
@@ -11,6 +11,7 @@ ghost use Rattle.exchange.specs.Turns.{row_already, turn_givable, turn_form, any
 use crate::step::pass;
 use exchange::fact::{ATHASH, ChildForm, EXACT, Fact, FactRows};
 use exchange::form::{form_of, relationship_of, split_of, top_of};
+use exchange::mark::is_set;
 use exchange::need;
 use exchange::relationship::{Turn, Unenforced};
 use exchange::status::Asked;
@@ -19,6 +20,7 @@ use exchange::status::Asked;
 fn unsatisfied_at(masks: &[u64], set: u64) -> u64
     ensures { result ≡ unsatisfied_at masks.now set }
 {
+    // No From goes from u64 to usize.
     masks.get(set as usize).copied().unwrap_or(0)
 }
 
@@ -41,7 +43,19 @@ fn already_target_hash(xs: FactRows, c: ChildForm) -> bool
         return true;
     };
     let x = xs.rows[place];
-    x[ATHASH] == 1 && x[EXACT] == 1
+    is_set(x[ATHASH]) && is_set(x[EXACT])
+}
+
+// The turn of a child whose bit is the lowest of the mask.
+fn turn(a: &Asked, form: u64, mask: u64) -> Turn
+    ensures { result ≡ record { number = a.now.number; need = a.now.need; form = form; bit = mask % 2 } }
+{
+    Turn {
+        number: a.number,
+        need: a.need,
+        form,
+        bit: mask % 2,
+    }
 }
 
 // A child that is asked is given one, unless it has it, its need is not keyed, or nothing would change.
@@ -53,8 +67,8 @@ fn is_givable(x: Turn, xs: FactRows) -> bool
         child: x.number,
         form: x.form,
     };
-    x.bit == 1
-        && relationship_of(x.form) != 1
+    is_set(x.bit)
+        && !is_set(relationship_of(x.form))
         && x.need == need::KEYED
         && !already_target_hash(xs, at)
 }
@@ -83,12 +97,7 @@ fn any_givable(mask: u64, asks: &[Asked], forms: &[u64], xs: FactRows) -> bool
 {
     let mut m = mask;
     for (i, a) in asks.iter().enumerate() {
-        let x = Turn {
-            number: a.number,
-            need: a.need,
-            form: forms[i],
-            bit: m % 2,
-        };
+        let x = turn(a, forms[i], m);
         if is_givable(x, xs) {
             return true;
         }
@@ -107,12 +116,7 @@ fn round(mask: u64, asks: &[Asked], forms: &mut [u64], xs: FactRows) -> Option<(
 {
     let mut m = mask;
     for (i, a) in asks.iter().enumerate() {
-        let x = Turn {
-            number: a.number,
-            need: a.need,
-            form: forms[i],
-            bit: m % 2,
-        };
+        let x = turn(a, forms[i], m);
         forms[i] = give(x, xs)?;
         m /= 2;
     }

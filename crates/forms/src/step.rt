@@ -2,7 +2,7 @@
 ghost use Rattle.std.specs.Prelude.{◌≡◌, Bool, cond, ◌&&◌, List, map, ◌≤◌, length};
 ghost use Rattle.std.proofs.Math.Option.{some};
 ghost use Rattle.exchange.specs.Trees.{Operator};
-ghost use Rattle.exchange.specs.Settings.{is_set};
+ghost use Rattle.exchange.specs.Settings.{is_set as is_set_mark};
 ghost use Rattle.exchange.specs.Forms.{form_number, form_of, split_form, with_top};
 ghost use Rattle.exchange.specs.Facts.{NodeFacts, Row};
 ghost use Rattle.exchange.specs.States.{Child, pass, and_then};
@@ -15,6 +15,7 @@ use exchange::fact::{COUNT, ChildForm, Fact, FactRows};
 use exchange::form::{
     PLAIN, SPLIT, TOP_KEYED, TOP_MERGE, TOP_ROUND_ROBIN, form_of, relationship_of, split_of,
 };
+use exchange::mark::is_set;
 use exchange::need;
 use exchange::partitioning::{Standing, Worked};
 use exchange::settings::Settings;
@@ -108,9 +109,9 @@ fn satisfy_unspecified(s: Settings, w: Worked, a: Asked, c: Standing, xs: FactRo
 }
 
 fn splits_at_source(s: Settings, a: Asked) -> bool
-    ensures { result ≡ (is_set s.split && (rows_gain s (child_facts a.facts) && is_set (child_facts a.facts).splits)) }
+    ensures { result ≡ (is_set_mark s.split && (rows_gain s (child_facts a.facts) && is_set_mark (child_facts a.facts).splits)) }
 {
-    s.split == 1 && rows_gain(s, a) && a.facts[SPLITS] == 1
+    is_set(s.split) && rows_gain(s, a) && is_set(a.facts[SPLITS])
 }
 
 // A child that is split at its source, from there on.

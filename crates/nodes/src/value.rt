@@ -31,10 +31,12 @@ pub fn zero() -> Node
 fn settle(n: Node) -> Node
     ensures { result ≡ settled n }
 {
-    if n.limited == 0 {
-        return Node { limit: 0, ..n };
+    let limit = operator::limit_of(n);
+    Node {
+        limited: u64::from(limit.is_some()),
+        limit: limit.unwrap_or(0),
+        ..n
     }
-    Node { limited: 1, ..n }
 }
 
 pub fn track(n: Node, m: u64) -> Node
