@@ -18,5 +18,6 @@ pub mod relationship;
 pub mod replace;
 pub mod row;
 pub mod settings;
+pub mod settled;
 pub mod status;
 pub mod worked;

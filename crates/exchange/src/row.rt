@@ -51,6 +51,13 @@ pub struct Node {
     pub need: u64,
 }
 
+// Rows, and a place among them.
+#[derive(Clone, Copy)]
+pub struct Place<'a> {
+    pub rows: &'a [Row],
+    pub at: usize,
+}
+
 // Past what was read, and past what was written.
 #[derive(Clone, Copy)]
 pub struct Step {

@@ -52,28 +52,28 @@ replace_children-returns t c =
     many_wrote (read_in_place c.args.src.now c.args.at) replace_tracked replace_tracked _ _ _ c.if-left-eq0.false (first_replaced c.args.src.now c.args.at) _ _ _ _ m _ _ c.replace_children.ensures
 
 -- ---- the node function
-pub replace_order_preserving_variants-node_at-n-requires : goal.replace_order_preserving_variants-node_at-n-requires
-replace_order_preserving_variants-node_at-n-requires t c = Headed.ready_row replace_order_preserving_variants heads replace_tracked rows_replace _ _ _ _ c.requires
+pub replace_order_preserving_variants-node_at-requires : goal.replace_order_preserving_variants-node_at-requires
+replace_order_preserving_variants-node_at-requires t c = Headed.ready_row replace_order_preserving_variants heads replace_tracked rows_replace _ _ _ _ c.requires
 
 pub replace_order_preserving_variants-children_at-children-requires : goal.replace_order_preserving_variants-children_at-children-requires
 replace_order_preserving_variants-children_at-children-requires t c = Headed.ready_row replace_order_preserving_variants heads replace_tracked rows_replace _ _ _ _ c.requires
 
-pub replace_order_preserving_variants-put_in_place-next-requires-clause-n_value : goal.replace_order_preserving_variants-put_in_place-next-requires-clause-n_value
-replace_order_preserving_variants-put_in_place-next-requires-clause-n_value t c = rw c.node_at-n.ensures (Headed.ready_legal replace_order_preserving_variants heads replace_tracked rows_replace _ _ _ _ c.requires)
+pub replace_order_preserving_variants-invariant_of-n : goal.replace_order_preserving_variants-invariant_of-n
+replace_order_preserving_variants-invariant_of-n t c = record { legal = rw c.node_at.ensures (Headed.ready_legal replace_order_preserving_variants heads replace_tracked rows_replace _ _ _ _ c.requires) }
 
-pub replace_order_preserving_variants-put_in_place-next-requires-clause-children_in_bounds : goal.replace_order_preserving_variants-put_in_place-next-requires-clause-children_in_bounds
-replace_order_preserving_variants-put_in_place-next-requires-clause-children_in_bounds t c = rw (c.node_at-n.ensures, c.children_at-children.ensures) (Headed.ready_heads replace_order_preserving_variants heads replace_tracked rows_replace _ _ _ _ c.requires)
+pub replace_order_preserving_variants-put_in_place-next-requires : goal.replace_order_preserving_variants-put_in_place-next-requires
+replace_order_preserving_variants-put_in_place-next-requires t c = rw (c.node_at.ensures, c.children_at-children.ensures) (Headed.ready_heads replace_order_preserving_variants heads replace_tracked rows_replace _ _ _ _ c.requires)
 
 pub replace_order_preserving_variants-overflow_add-at : goal.replace_order_preserving_variants-overflow_add-at
 replace_order_preserving_variants-overflow_add-at t c = omega (arith, Headed.ready_row replace_order_preserving_variants heads replace_tracked rows_replace _ _ _ _ c.requires)
 
 pub replace_order_preserving_variants-replace_children-requires : goal.replace_order_preserving_variants-replace_children-requires
-replace_order_preserving_variants-replace_children-requires t c = let k = c.children_at-children.ensures in let e = rw (c.node_at-n.ensures, k) at c.put_in_place-next.ensures in
+replace_order_preserving_variants-replace_children-requires t c = let k = c.children_at-children.ensures in let e = rw (c.node_at.ensures, k) at c.put_in_place-next.ensures in
     (omega (arith, c.decreases, Headed.ready_row replace_order_preserving_variants heads replace_tracked rows_replace _ _ _ _ c.requires), rw (c.put_in_place-next.auto.dst, k) (Headed.ready_below replace_order_preserving_variants heads replace_tracked rows_replace _ _ _ _ c.requires _ e.0))
 
 pub replace_order_preserving_variants-shape_of-dst : goal.replace_order_preserving_variants-shape_of-dst
 replace_order_preserving_variants-shape_of-dst t c = c.replace_children.auto.dst ∙ c.put_in_place-next.auto.dst
 
 pub replace_order_preserving_variants-returns : goal.replace_order_preserving_variants-returns
-replace_order_preserving_variants-returns t c = let k = c.children_at-children.ensures in let e = rw (c.node_at-n.ensures, k) at c.put_in_place-next.ensures in
+replace_order_preserving_variants-returns t c = let k = c.children_at-children.ensures in let e = rw (c.node_at.ensures, k) at c.put_in_place-next.ensures in
     Headed.node_wrote replace_order_preserving_variants heads replace_tracked rows_replace _ _ _ _ _ _ _ _ e.0 e.1 (rw k at c.replace_children.ensures)
