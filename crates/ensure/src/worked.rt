@@ -40,24 +40,6 @@ fn worked_forms(s: Settings, f: PlanFacts, src: Place, forms: &mut [u64]) -> Res
     child_forms(s, w, f, &*asks, forms)
 }
 
-// Decides on the worked node that stands there, with a place for each of its children in `forms`.
-fn ensure_by_forms(
-    s: Settings,
-    f: PlanFacts,
-    src: Place,
-    forms: &mut [u64],
-    mid: &mut [Row],
-    dst: &mut [Row],
-) -> Result<Answered, Unenforced>
-    requires forms_len { length forms.old ≡ length f.children.now }
-    requires roomy { length src.rows.now + 2 ≤ length mid.old }
-    requires worked_at { WorkedAt s (facts_of f) src.rows.now src.at (length f.children.now) (length dst.old) }
-    ensures { (t : Plan) (rest : List (List ℕ)) → drop src.entry.at src.entry.rows.now ≡ flatten t ++ rest → Ends (ensure_worked s (facts_of f.entry) t) result dst.old dst.new }
-{
-    worked_forms(s, f, src, &mut *forms)?;
-    Ok(finish_worked(s, f, &*forms, src, mid, dst))
-}
-
 // Decides on the worked node that stands there, which has as many children as there are facts.
 pub fn ensure_worked(
     s: Settings,
@@ -70,7 +52,8 @@ pub fn ensure_worked(
     requires worked_at { WorkedAt s (facts_of f) src.rows.now src.at (length f.children.now) (length dst.old) }
     ensures { (t : Plan) (rest : List (List ℕ)) → drop src.entry.at src.entry.rows.now ≡ flatten t ++ rest → Ends (ensure_worked s (facts_of f.entry) t) result dst.old dst.new }
 {
-    let k = f.children.len();
-    let mut forms = [0u64; 8];
-    ensure_by_forms(s, f, src, &mut forms[..k], mid, dst)
+    let mut room = [0u64; 8];
+    let forms = &mut room[..f.children.len()];
+    worked_forms(s, f, src, &mut *forms)?;
+    Ok(finish_worked(s, f, &*forms, src, mid, dst))
 }
