@@ -17,6 +17,7 @@ use crate::outcome::Answered;
 use exchange::facts::{Finishing, PlanFacts, Unfinished};
 use exchange::finish::finish_children;
 use exchange::kind;
+use exchange::lists::Forms;
 use exchange::mark::is_set;
 use exchange::partitioning::{self, NodeRow};
 use exchange::row::{self, Place, Row};
@@ -60,7 +61,7 @@ pub fn finish_worked(
         node: row::node_at(src.rows, src.at),
     };
     let k = row::children_at(src.rows, src.at);
-    let i = becomes_interleave(s, worked.node.kind, f.xs, forms);
+    let i = becomes_interleave(s, worked.node.kind, f.xs, Forms { list: forms });
     put_worked(&mut *dst, worked, k, i);
     let w = Finishing {
         settings: s,

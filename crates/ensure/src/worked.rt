@@ -10,6 +10,7 @@ ghost use Rattle.ensure.specs.Lent.{Stood, Worked as WorkedAt};
 use crate::finished::finish_worked;
 use crate::outcome::Answered;
 use exchange::facts::PlanFacts;
+use exchange::lists::Asks;
 use exchange::partitioning::Worked;
 use exchange::places::asked_children;
 use exchange::relationship::Unenforced;
@@ -37,7 +38,7 @@ fn worked_forms(s: Settings, f: PlanFacts, src: Place, forms: &mut [u64]) -> Res
     let mut room = [no_child; 8];
     let asks = &mut room[..f.children.len()];
     asked_children(src.rows, src.at + 1, f.children, &mut *asks);
-    child_forms(s, w, f, &*asks, forms)
+    child_forms(s, w, f, Asks { list: &*asks }, forms)
 }
 
 // Decides on the worked node that stands there, which has as many children as there are facts.

@@ -7,6 +7,7 @@ pub mod facts;
 pub mod finish;
 pub mod form;
 pub mod kind;
+pub mod lists;
 pub mod mark;
 pub mod need;
 pub mod operator;

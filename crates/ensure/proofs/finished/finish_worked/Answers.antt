@@ -13,12 +13,12 @@ node_at-requires c = let a = c.args in let p = c.requires.came in root_in a.src.
 pub children_at-k-requires : goal.children_at-k-requires
 children_at-k-requires c = let a = c.args in let p = c.requires.came in root_in a.src.rows.now a.src.at p.tree p.rest p.stands
 
-pub becomes_interleave-i-requires-clause-few : goal.becomes_interleave-i-requires-clause-few
-becomes_interleave-i-requires-clause-few c = let a = c.args in let p = c.requires.came in
-    omega (arith, (came_shape a.s a.f.node a.f.children.now a.f.xs.rows.now a.f.masks.now a.src.rows.now a.src.at a.forms.now _ p).long, came_counted a.s a.f.node a.f.children.now a.f.xs.rows.now a.f.masks.now a.src.rows.now a.src.at a.forms.now _ p, a.f.few)
-
-pub becomes_interleave-i-requires-clause-small : goal.becomes_interleave-i-requires-clause-small
-becomes_interleave-i-requires-clause-small c = let a = c.args in (came_shape a.s a.f.node a.f.children.now a.f.xs.rows.now a.f.masks.now a.src.rows.now a.src.at a.forms.now _ c.requires.came).small
+pub invariant_of-becomes_interleave : goal.invariant_of-becomes_interleave
+invariant_of-becomes_interleave c = let a = c.args in let p = c.requires.came in
+    let shape = came_shape a.s a.f.node a.f.children.now a.f.xs.rows.now a.f.masks.now a.src.rows.now a.src.at a.forms.now _ p in record {
+      few = omega (arith, shape.long, came_counted a.s a.f.node a.f.children.now a.f.xs.rows.now a.f.masks.now a.src.rows.now a.src.at a.forms.now _ p, a.f.few);
+      small = shape.small;
+    }
 
 pub invariant_of-worked : goal.invariant_of-worked
 invariant_of-worked c = let a = c.args in let p = c.requires.came in record { legal = rw c.node_at.ensures (root_legal a.src.rows.now a.src.at p.tree p.rest p.stands) }
