@@ -14,7 +14,7 @@ use crate::update::update_children;
 use crate::worked::ensure_worked;
 use exchange::facts::PlanFacts;
 use exchange::relationship::Unenforced;
-use exchange::row::{self, Row};
+use exchange::row::{self, Place, Row};
 use exchange::settings::Settings;
 use exchange::worked::remove_dist_changing_operators;
 
@@ -52,5 +52,6 @@ pub fn ensure_distribution(
         return Ok(leave_unchanged(&*src, dst));
     }
     let at = remove_dist_changing_operators(&*src, 0);
-    ensure_worked(s, f, &*src, at, mid, dst)
+    let worked = Place { rows: &*src, at };
+    ensure_worked(s, f, worked, mid, dst)
 }

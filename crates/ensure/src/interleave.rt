@@ -1,5 +1,5 @@
 // A union over children that are hashed alike becomes an interleave.
-ghost use Rattle.std.specs.Prelude.{◌≡◌, ◌&&◌, map, ℕ, ◌≤◌, ◌<◌, eqb, length, get_or};
+ghost use Rattle.std.specs.Prelude.{◌≡◌, ◌&&◌, map, eqb};
 ghost use Rattle.exchange.specs.FactRows.{fact_row};
 ghost use Rattle.exchange.specs.Forms.{form_of};
 ghost use Rattle.exchange.specs.Built.{row_in};
@@ -8,6 +8,7 @@ ghost use Rattle.exchange.specs.Layouts.{layouts_by, same_layouts, hashed_alike}
 use exchange::child::row_in;
 use exchange::fact::{ChildForm, FactRows, LAYOUT};
 use exchange::kind;
+use exchange::lists::Forms;
 use exchange::settings::Settings;
 
 fn layout_in(xs: FactRows, c: ChildForm) -> u64
@@ -18,13 +19,12 @@ fn layout_in(xs: FactRows, c: ChildForm) -> u64
 }
 
 // Whether every child has the layout.
-fn all_layouts(layout: u64, xs: FactRows, forms: &[u64]) -> bool
-    requires few { length forms.now ≤ 8 }
-    requires small { (k : ℕ) → k < length forms.now → get_or forms.now k 0 ≤ 15 }
-    ensures { result ≡ same_layouts layout (layouts_by (map fact_row xs.entry.rows.now) 1 forms.now) }
+fn all_layouts(layout: u64, xs: FactRows, forms: Forms) -> bool
+    ensures { result ≡ same_layouts layout (layouts_by (map fact_row xs.entry.rows.now) 1 forms.entry.list.now) }
 {
-    for (i, form) in forms.iter().enumerate() {
+    for (i, form) in forms.list.iter().enumerate() {
         let c = ChildForm {
+            // No From goes from usize to u64.
             child: i as u64 + 1,
             form: *form,
         };
@@ -36,27 +36,23 @@ fn all_layouts(layout: u64, xs: FactRows, forms: &[u64]) -> bool
 }
 
 // Whether there are children, and they are hashed alike.
-fn can_interleave(xs: FactRows, forms: &[u64]) -> bool
-    requires few { length forms.now ≤ 8 }
-    requires small { (k : ℕ) → k < length forms.now → get_or forms.now k 0 ≤ 15 }
-    ensures { result ≡ hashed_alike (layouts_by (map fact_row xs.entry.rows.now) 1 forms.now) }
+fn can_interleave(xs: FactRows, forms: Forms) -> bool
+    ensures { result ≡ hashed_alike (layouts_by (map fact_row xs.entry.rows.now) 1 forms.entry.list.now) }
 {
-    if forms.is_empty() {
+    if forms.list.is_empty() {
         return false;
     }
     let c = ChildForm {
         child: 1,
-        form: forms[0],
+        form: forms.list[0],
     };
     let layout = layout_in(xs, c);
     layout != 0 && all_layouts(layout, xs, forms)
 }
 
 // A union becomes an interleave unless the settings keep it.
-pub fn becomes_interleave(s: Settings, kind: u64, xs: FactRows, forms: &[u64]) -> bool
-    requires few { length forms.now ≤ 8 }
-    requires small { (k : ℕ) → k < length forms.now → get_or forms.now k 0 ≤ 15 }
-    ensures { result ≡ (eqb kind 9 && (eqb s.union 0 && hashed_alike (layouts_by (map fact_row xs.entry.rows.now) 1 forms.now))) }
+pub fn becomes_interleave(s: Settings, kind: u64, xs: FactRows, forms: Forms) -> bool
+    ensures { result ≡ (eqb kind 9 && (eqb s.union 0 && hashed_alike (layouts_by (map fact_row xs.entry.rows.now) 1 forms.entry.list.now))) }
 {
     kind == kind::UNION && s.union == 0 && can_interleave(xs, forms)
 }

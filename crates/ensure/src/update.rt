@@ -5,6 +5,7 @@ ghost use Rattle.exchange.specs.Runs.{Stands, Becomes, BecomeAll, Says, SaysAll,
 ghost use Rattle.exchange.specs.Children.{any_unspecified, update_each, update_children};
 ghost use Rattle.exchange.specs.Update.{is_unspecified, marks_below, marks_child};
 
+use exchange::mark::is_set;
 use exchange::row::{self, Node, Row};
 use exchange::{kind, need};
 
@@ -12,7 +13,7 @@ use exchange::{kind, need};
 fn unspecified(n: Node) -> bool
     ensures { result ≡ is_unspecified (operator_of n) }
 {
-    n.tracked == 1 && n.need == need::UNSPECIFIED
+    is_set(n.tracked) && n.need == need::UNSPECIFIED
 }
 
 // Whether any of the `left` trees from `at` on is tracked, with nothing required of it.
@@ -37,7 +38,7 @@ fn marks_below(rows: &[Row], at: usize, left: u64) -> bool
     if left == 0 {
         return true;
     }
-    if rows[at][row::TRACKED] == 1 {
+    if is_set(rows[at][row::TRACKED]) {
         return true;
     }
     any_unspecified(rows, at, left)

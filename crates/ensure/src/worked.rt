@@ -10,29 +10,23 @@ ghost use Rattle.ensure.specs.Lent.{Stood, Worked as WorkedAt};
 use crate::finished::finish_worked;
 use crate::outcome::Answered;
 use exchange::facts::PlanFacts;
+use exchange::lists::Asks;
 use exchange::partitioning::Worked;
 use exchange::places::asked_children;
 use exchange::relationship::Unenforced;
-use exchange::row::{self, Row};
+use exchange::row::{self, Place, Row};
 use exchange::settings::Settings;
 use exchange::status::{Asked, WIDTH};
 use forms::decide::child_forms;
 
-// The forms of the children of the worked node at `at`, a place for each in `forms`.
-fn worked_forms(
-    s: Settings,
-    f: PlanFacts,
-    src: &[Row],
-    at: usize,
-    forms: &mut [u64],
-) -> Result<(), Unenforced>
+// The forms of the children of the worked node that stands there, a place for each in `forms`.
+fn worked_forms(s: Settings, f: PlanFacts, src: Place, forms: &mut [u64]) -> Result<(), Unenforced>
     requires forms_len { length forms.old ≡ length f.children.now }
-    requires stood { Stood src.now at (length f.children.now) }
-    ensures { (t : Plan) (rest : List (List ℕ)) → drop at src.now ≡ flatten t ++ rest → answer result forms.new ≡ told (child_states s (facts_of f.entry) t) }
+    requires stood { Stood src.rows.now src.at (length f.children.now) }
+    ensures { (t : Plan) (rest : List (List ℕ)) → drop src.entry.at src.entry.rows.now ≡ flatten t ++ rest → answer result forms.new ≡ told (child_states s (facts_of f.entry) t) }
 {
-    let below = at + 1;
     let w = Worked {
-        kind: row::node_at(src, at).kind,
+        kind: row::node_at(src.rows, src.at).kind,
         facts: f.node,
     };
     let no_child = Asked {
@@ -43,43 +37,24 @@ fn worked_forms(
     };
     let mut room = [no_child; 8];
     let asks = &mut room[..f.children.len()];
-    asked_children(src, below, f.children, &mut *asks);
-    child_forms(s, w, f, &*asks, forms)
+    asked_children(src.rows, src.at + 1, f.children, &mut *asks);
+    child_forms(s, w, f, Asks { list: &*asks }, forms)
 }
 
-// Decides on the worked node at `at`, with a place for each of its children in `forms`.
-fn ensure_by_forms(
-    s: Settings,
-    f: PlanFacts,
-    src: &[Row],
-    at: usize,
-    forms: &mut [u64],
-    mid: &mut [Row],
-    dst: &mut [Row],
-) -> Result<Answered, Unenforced>
-    requires forms_len { length forms.old ≡ length f.children.now }
-    requires roomy { length src.now + 2 ≤ length mid.old }
-    requires worked_at { WorkedAt s (facts_of f) src.now at (length f.children.now) (length dst.old) }
-    ensures { (t : Plan) (rest : List (List ℕ)) → drop at src.now ≡ flatten t ++ rest → Ends (ensure_worked s (facts_of f.entry) t) result dst.old dst.new }
-{
-    worked_forms(s, f, src, at, &mut *forms)?;
-    Ok(finish_worked(s, f, &*forms, src, at, mid, dst))
-}
-
-// Decides on the worked node at `at`, which has as many children as there are facts.
+// Decides on the worked node that stands there, which has as many children as there are facts.
 pub fn ensure_worked(
     s: Settings,
     f: PlanFacts,
-    src: &[Row],
-    at: usize,
+    src: Place,
     mid: &mut [Row],
     dst: &mut [Row],
 ) -> Result<Answered, Unenforced>
-    requires roomy { length src.now + 2 ≤ length mid.old }
-    requires worked_at { WorkedAt s (facts_of f) src.now at (length f.children.now) (length dst.old) }
-    ensures { (t : Plan) (rest : List (List ℕ)) → drop at src.now ≡ flatten t ++ rest → Ends (ensure_worked s (facts_of f.entry) t) result dst.old dst.new }
+    requires roomy { length src.rows.now + 2 ≤ length mid.old }
+    requires worked_at { WorkedAt s (facts_of f) src.rows.now src.at (length f.children.now) (length dst.old) }
+    ensures { (t : Plan) (rest : List (List ℕ)) → drop src.entry.at src.entry.rows.now ≡ flatten t ++ rest → Ends (ensure_worked s (facts_of f.entry) t) result dst.old dst.new }
 {
-    let k = f.children.len();
-    let mut forms = [0u64; 8];
-    ensure_by_forms(s, f, src, at, &mut forms[..k], mid, dst)
+    let mut room = [0u64; 8];
+    let forms = &mut room[..f.children.len()];
+    worked_forms(s, f, src, &mut *forms)?;
+    Ok(finish_worked(s, f, &*forms, src, mid, dst))
 }

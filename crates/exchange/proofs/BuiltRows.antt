@@ -45,14 +45,14 @@ module _ (rows : List (List ℕ)) (child form : ℕ) (small : form ≤ 15) where
 -- ---- the operators
 
 module _ (rows : List Row) (child : ℕ) (f : Form) where
-  pub root_kept : (n : Node) → node_of (operator_of n) ≡ n → (f.split ≡ 1 → ⊥) → n ≡ node_of (built_root rows child f (operator_of n))
+  pub root_kept : (n : Node) → node_of (operator_of n) ≡ n → is_set f.split ≡ false → n ≡ node_of (built_root rows child f (operator_of n))
   unfolding built_root
-  root_kept n legal h = rw (ne_eqb _ _ h) (sym legal)
+  root_kept n legal h = rw h (sym legal)
 
-  pub root_split : (n r : Node) (x : Row) → f.split ≡ 1 → x ≡ row_in rows child split_form → r ≡ node_of (split_operator x (operator_of n))
+  pub root_split : (n r : Node) (x : Row) → is_set f.split ≡ true → x ≡ row_in rows child split_form → r ≡ node_of (split_operator x (operator_of n))
       → r ≡ node_of (built_root rows child f (operator_of n))
   unfolding built_root
-  root_split n r x h e g = rw (eq-eqb _ _ h) (g ∙ ap (λ (y : Row). node_of (split_operator y (operator_of n))) e)
+  root_split n r x h e g = rw h (g ∙ ap (λ (y : Row). node_of (split_operator y (operator_of n))) e)
 
   pub top_built : (top : ℕ) (x : Row) (n r : Node) → top ≡ f.top → x ≡ row_in rows child (before_relationship f) → r ≡ node_of (top_operator top x (operator_of n))
       → r ≡ node_of (built_top rows child f (operator_of n))
@@ -86,13 +86,13 @@ module _ (rows : List Row) (child : ℕ) (f : Form) where
   unfolding top_rows
   top_one o h = rw (ne_eqb _ _ h)
 
-  pub new_none : (o : Operator) → (f.relationship ≡ 1 → ⊥) → new_rows rows child f o ≡ top_rows rows child f o
+  pub new_none : (o : Operator) → is_set f.relationship ≡ false → new_rows rows child f o ≡ top_rows rows child f o
   unfolding new_rows
-  new_none o h = rw (ne_eqb _ _ h)
+  new_none o h = rw h
 
-  pub new_one : (o : Operator) → f.relationship ≡ 1 → new_rows rows child f o ≡ row_of (built_relationship rows child f o) 1 ∷ top_rows rows child f o
+  pub new_one : (o : Operator) → is_set f.relationship ≡ true → new_rows rows child f o ≡ row_of (built_relationship rows child f o) 1 ∷ top_rows rows child f o
   unfolding new_rows
-  new_one o h = rw (eq-eqb _ _ h)
+  new_one o h = rw h
 
 -- the form before its relationship exchange, put together and taken apart
 pub before_apart : (form split top before : ℕ) → form ≤ 15 → split ≡ (form_of form).split → top ≡ (form_of form).top

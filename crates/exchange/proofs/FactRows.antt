@@ -4,17 +4,14 @@ use mathlib.Core.Path.{◌≡◌, refl, sym, ap, ◌∙◌}
 use mathlib.Core.Bool.{Bool, true, false, cond, ◌&&◌}
 use mathlib.Core.Option.{Option, none, some}
 use mathlib.Core.List.{List, [], ◌∷◌, map}
-use Prim.Native.Nat.{ℕ, suc, ◌+◌, ◌≤◌, ◌<◌}
-use native.Mathlib.Numerals.{add-one}
+use Prim.Native.Nat.{ℕ, suc, ◌<◌}
 use native.Mathlib.Omega.{arith}
 use lib.Dec.{eqb}
-use lib.ListN.{length, drop, get_or, drop_of_length-le}
-use lib.Seq.{drop-cons}
+use lib.ListN.{length, get_or}
 use Rattle.exchange.specs.Forms.{Form, form_number}
 use Rattle.exchange.specs.Facts.{Row, row_of}
 use Rattle.exchange.specs.Found.{child_of, later, row_for}
-use Rattle.exchange.specs.FactRows.{fact_row, row_at, asked_by}
-use Rattle.exchange.specs.declared.status.Asked.{Asked}
+use Rattle.exchange.specs.FactRows.{fact_row, row_at}
 
 row_later : (x : List ℕ) (xs : List (List ℕ)) (p : Option ℕ) → row_at xs p ≡ row_at (x ∷ xs) (later p)
 row_later x xs none = refl

@@ -6,6 +6,7 @@ use mathlib.Core.List.{List, [], ◌++◌}
 use native.Mathlib.Nat.{add-zero}
 use native.Mathlib.Omega.{arith}
 use lib.ListN.{length, drop, get_or, length-append}
+use Rattle.exchange.specs.declared.row.Step.{Step}
 use Rattle.exchange.specs.declared.settings.Settings.{Settings}
 use Rattle.exchange.specs.Trees.{node, none, ◌∷ᶠ◌, trees, root, Operator, Plan, Plans}
 use Rattle.exchange.specs.Forms.{Form, form_of}
@@ -14,19 +15,20 @@ use Rattle.exchange.specs.FactRows.{child_facts}
 use Rattle.exchange.specs.Built.{built_root, built_rows, built}
 use Rattle.exchange.specs.LastForm.{finished_child, finished_each}
 use Rattle.exchange.specs.Rows.{node_at, flatten, flattens}
-use Rattle.exchange.specs.Runs.{Ready, Stands, MapsAll}
+use Rattle.exchange.specs.Runs.{Ready, Readys, Stands, Maps, MapsAll}
 use Rattle.exchange.proofs.TreeRows.{flatten_node, flattens_none, flattens_cons, tree_in}
 use Rattle.exchange.proofs.Marking.{root_read}
+use Rattle.exchange.proofs.FirstAndOthers.{first_stands, first_ready, others_ready, many_wrote}
 use Rattle.exchange.proofs.BuiltRows.{built_rows_lem, built_long, new_long}
 
 module _ (rows : List Row) (forms : List ℕ) (facts : List (List ℕ)) (s : Settings) (b : NodeFacts) (worked : Operator) (children child : ℕ) where
-  abbrev pub each : Plans → Plans
+  abbrev each : Plans → Plans
   each = finished_each rows forms facts s b worked children child
 
-  abbrev pub others : Plans → Plans
+  abbrev others : Plans → Plans
   others = finished_each rows forms facts s b worked children (child + 1)
 
-  abbrev pub one : ℕ → Plan → Plan
+  abbrev one : ℕ → Plan → Plan
   one need = finished_child rows child (form_of (get_or forms (child - 1) 0)) need (child_facts (get_or facts (child - 1) [])) s b worked children
 
   each_none : each none ≡ none
@@ -42,11 +44,25 @@ module _ (rows : List Row) (forms : List ℕ) (facts : List (List ℕ)) (s : Set
   each_done src at left to d z (t ∷ᶠ ts) rest e h = absurd (omega arith)
 
   -- the need is that of the row
-  pub each_first : (src : List (List ℕ)) (at need : ℕ) → need ≡ (node_at src at).need → (t : Plan) (ts : Plans) (rest : List (List ℕ)) → drop at src ≡ flatten t ++ (flattens ts ++ rest)
+  each_first : (src : List (List ℕ)) (at need : ℕ) → need ≡ (node_at src at).need → (t : Plan) (ts : Plans) (rest : List (List ℕ)) → drop at src ≡ flatten t ++ (flattens ts ++ rest)
       → flattens (each (t ∷ᶠ ts)) ≡ flatten (one need t) ++ flattens (others ts)
   each_first src at need n t ts rest h =
       let is : (root t).need ≡ need = sym (n ∙ ap (λ (o : Operator). o.need) (root_read src at t _ h)) in
       ap flattens (each_cons t ts) ∙ flattens_cons _ (others ts) ∙ ap (λ (k : ℕ). flatten (one k t) ++ flattens (others ts)) is
+
+  -- the first of several, by the need of its row
+  module _ (src : List (List ℕ)) (at left need : ℕ) (more : left ≡ 0 → ⊥) (n : need ≡ (node_at src at).need) where
+    pub each_stands : (room to : ℕ) → Readys each src at left room to → Stands src at
+    each_stands = first_stands (one need) each others src at left more (each_first src at need n)
+
+    pub each_ready : (room to : ℕ) → Readys each src at left room to → Ready (one need) src at room to
+    each_ready = first_ready (one need) each others src at left more (each_first src at need n)
+
+    pub each_others : (to : ℕ) (d d₁ : List (List ℕ)) (m : Step) → Maps (one need) src at d to d₁ m → (room : ℕ) → Readys each src at left room to → Readys others src m.at (left - 1) room m.to
+    each_others = others_ready (one need) each others src at left more (each_first src at need n)
+
+    pub each_wrote : (to : ℕ) (d d₁ : List (List ℕ)) (m : Step) → Maps (one need) src at d to d₁ m → (d₂ : List (List ℕ)) (r : Step) → MapsAll others src m.at (left - 1) d₁ m.to d₂ r → MapsAll each src at left d to d₂ r
+    each_wrote = many_wrote (one need) each others src at left more (each_first src at need n)
 
 -- a child in a form has at most two rows more
 built_two : (rows : List Row) (child : ℕ) (f : Form) (t : Plan) → length (flatten (built rows child f t)) ≤ length (flatten t) + 2

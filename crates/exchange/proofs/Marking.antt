@@ -9,6 +9,7 @@ use lib.Dec.{eqb}
 use lib.ListN.{length, drop, get_or}
 use borrow.Author.Tests.{eq-eqb, ne_eqb}
 use Rattle.exchange.specs.Trees.{node, none, ◌∷ᶠ◌, trees, root, Operator, Plan, Plans}
+use Rattle.exchange.specs.Settings.{is_set}
 use Rattle.exchange.specs.Rows.{unpacked, children_of, operator_of, node_at, children_at, row_of, flatten, flattens}
 use Rattle.exchange.specs.Runs.{Stands, Says, SaysAll, StandAll}
 use Rattle.exchange.specs.Operators.{is_tracked}
@@ -111,18 +112,18 @@ below_none src at left z none rest e h = refl
 below_none src at left z (t ∷ᶠ ts) rest e h = absurd (omega arith)
 
 module _ (src : List (List ℕ)) (at left : ℕ) (more : left ≡ 0 → ⊥) where
-  pub below_first : get_or (get_or src at []) 8 0 ≡ 1 → SaysAll marks_below src at left true
+  pub below_first : is_set (get_or (get_or src at []) 8 0) ≡ true → SaysAll marks_below src at left true
   below_first k none rest e h = absurd (more (sym e))
   below_first k (t ∷ᶠ ts) rest e h =
       let r = tracked_read src at t _ (head_stands src at t ts rest h) in
-      let is : eqb (root t).tracked 1 ≡ true = eq-eqb _ _ (sym r ∙ k) in
+      let is : is_set (root t).tracked ≡ true = rw r at k in
       sym (marks_below_cons t ts ∙ ap (λ (b : Bool). b || any_unspecified (t ∷ᶠ ts)) is)
 
-  pub below_unspecified : (r : Bool) → (get_or (get_or src at []) 8 0 ≡ 1 → ⊥) → SaysAll any_unspecified src at left r → SaysAll marks_below src at left r
+  pub below_unspecified : (r : Bool) → is_set (get_or (get_or src at []) 8 0) ≡ false → SaysAll any_unspecified src at left r → SaysAll marks_below src at left r
   below_unspecified r k s none rest e h = absurd (more (sym e))
   below_unspecified r k s (t ∷ᶠ ts) rest e h =
       let q = tracked_read src at t _ (head_stands src at t ts rest h) in
-      let is : eqb (root t).tracked 1 ≡ false = ne_eqb _ _ (λ z. k (q ∙ z)) in
+      let is : is_set (root t).tracked ≡ false = rw q at k in
       s (t ∷ᶠ ts) rest e h ∙ sym (marks_below_cons t ts ∙ ap (λ (b : Bool). b || any_unspecified (t ∷ᶠ ts)) is)
 
 -- ---- a child's own mark, by its kind

@@ -3,11 +3,11 @@
 use mathlib.Core.Path.{◌≡◌, refl, sym, ap, ◌∙◌}
 use mathlib.Core.List.{List, [], ◌∷◌, ◌++◌, map, append_assoc, append-nil}
 use native.Mathlib.Nat.{add-zero}
-use Prim.Native.Nat.{ℕ, zero, suc, ◌+◌, ◌-◌, ◌≤◌, ◌<◌}
+use Prim.Native.Nat.{ℕ, zero, suc, ◌+◌, ◌≤◌, ◌<◌}
 use native.Mathlib.Numerals.{add-one}
 use native.Mathlib.Omega.{arith}
 use lib.ListN.{length, take, drop, get_or, set}
-use lib.Seq.{sets, take_at, take_all, take-suc-set, drop-cons}
+use lib.Seq.{take_all, take-suc-set, drop-cons}
 use Rattle.exchange.specs.declared.row.Node.{Node}
 use Rattle.exchange.specs.declared.status.Asked.{Asked}
 use Rattle.exchange.specs.Trees.{none, ◌∷ᶠ◌, root, trees, Operator, Plan, Plans}
@@ -16,9 +16,8 @@ use Rattle.exchange.specs.States.{children_from}
 use Rattle.exchange.specs.FactRows.{child_facts, asked_by}
 use Rattle.exchange.specs.Standings.{SameChildren, done, also, no_child}
 use Rattle.exchange.specs.Runs.{Stands}
-use Rattle.exchange.specs.Places.{places_of, needs_of, counts_of, ListsAll}
+use Rattle.exchange.specs.Places.{places_of, needs_of, counts_of}
 use Rattle.exchange.proofs.Stored.{past}
-use Rattle.exchange.proofs.OrderWritten.{stored_there}
 use Rattle.exchange.proofs.Marking.{root_read, head_stands, tail_stands, PastTree}
 
 one_more : {A : Type 0} (l : List A) (i : ℕ) (x : A) → i < length l → take (i + 1) (set l i x) ≡ take i l ++ (x ∷ [])

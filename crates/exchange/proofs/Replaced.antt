@@ -1,6 +1,6 @@
 -- The rows of a replaced tree, clause by clause: those in the operator's place, then the children's (`rows_replace`).
 -- Assumes nothing.
-use mathlib.Core.Path.{◌≡◌, refl, sym, ap, ◌∙◌}
+use mathlib.Core.Path.{◌≡◌, refl, ap, ◌∙◌}
 use mathlib.Core.Bool.{Bool, true, false, cond, ◌&&◌}
 use mathlib.Core.List.{List, [], ◌∷◌, ◌++◌}
 use Prim.Native.Nat.{ℕ, suc, ◌+◌, ◌*◌, ◌≤◌}
@@ -11,10 +11,11 @@ use lib.Seq.{sets}
 use borrow.Author.Tests.{eq-eqb, ne_eqb}
 use Rattle.exchange.specs.declared.row.Node.{Node}
 use Rattle.exchange.specs.Trees.{node, none, ◌∷ᶠ◌, trees, root, Operator, Plan, Plans}
+use Rattle.exchange.specs.Settings.{is_set}
 use Rattle.exchange.specs.Rows.{packed, node_of, operator_of, row_of, flatten, flattens}
 use Rattle.exchange.specs.Operators.{is_sort_preserving_merge, is_repartition, has_limit}
 use Rattle.exchange.specs.Replace.{coalesced, relaxed, replace_operator, replace_order_preserving_variants, replace_tracked}
-use Rattle.exchange.specs.ReplaceRows.{exchanges, merge_sort, relaxed_or, heads}
+use Rattle.exchange.specs.ReplaceRows.{merge_sort, relaxed_or, heads}
 use Rattle.exchange.proofs.Stored.{then}
 use Rattle.exchange.proofs.TreeRows.{row_packed, flatten_node, flattens_none, flattens_cons, flattens_one}
 
@@ -75,13 +76,9 @@ pub replaces_none : replace_tracked none ≡ none
 unfolding replace_order_preserving_variants
 replaces_none = refl
 
-pub replaces_same : (t : Plan) (ts : Plans) → ((root t).tracked ≡ 1 → ⊥) → replace_tracked (t ∷ᶠ ts) ≡ t ∷ᶠ replace_tracked ts
+pub replaces_turn : (t : Plan) (ts : Plans) → replace_tracked (t ∷ᶠ ts) ≡ cond (is_set (root t).tracked) (replace_order_preserving_variants t) t ∷ᶠ replace_tracked ts
 unfolding replace_order_preserving_variants
-replaces_same t ts h = rw (ne_eqb (root t).tracked 1 h)
-
-pub replaces_other : (t : Plan) (ts : Plans) → (root t).tracked ≡ 1 → replace_tracked (t ∷ᶠ ts) ≡ replace_order_preserving_variants t ∷ᶠ replace_tracked ts
-unfolding replace_order_preserving_variants
-replaces_other t ts h = rw (eq-eqb (root t).tracked 1 h)
+replaces_turn t ts = refl
 
 trees_replaces : (ts : Plans) → trees (replace_tracked ts) ≡ trees ts
 unfolding replace_order_preserving_variants

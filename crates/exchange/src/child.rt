@@ -11,8 +11,10 @@ use crate::form::{
     SPLIT, TOP_KEYED, TOP_MERGE, TOP_NONE, form_of, relationship_of, split_of, top_of,
 };
 use crate::kind;
+use crate::mark::is_set;
 use crate::operator::{new_exchange, new_merge, split_operator};
 use crate::row::{self, Node, Row, Step};
+use crate::settled::Settled;
 
 // The row of a child in a form, or one of zeros.
 pub fn row_in(xs: FactRows, c: ChildForm) -> FactRow
@@ -25,18 +27,19 @@ pub fn row_in(xs: FactRows, c: ChildForm) -> FactRow
 }
 
 // The root of the child's tree.
-fn built_root(xs: FactRows, c: ChildForm, o: Node) -> Node
-    requires o_value { node_of (operator_of o) ≡ o }
-    ensures { result ≡ node_of (built_root (map fact_row xs.entry.rows.now) c.child (form_of c.form) (operator_of o)) }
+fn built_root(xs: FactRows, c: ChildForm, o: Settled) -> Settled
+    ensures { result.node ≡ node_of (built_root (map fact_row xs.entry.rows.now) c.child (form_of c.form) (operator_of o.node)) }
 {
-    if split_of(c.form) != 1 {
+    if !is_set(split_of(c.form)) {
         return o;
     }
     let split = ChildForm {
         child: c.child,
         form: SPLIT,
     };
-    split_operator(row_in(xs, split), o)
+    Settled {
+        node: split_operator(row_in(xs, split), o),
+    }
 }
 
 // A merge, a keyed exchange or a round robin.
@@ -64,19 +67,17 @@ fn built_top(xs: FactRows, c: ChildForm, root: Node) -> Node
 }
 
 // What stands topmost before a relationship exchange.
-fn under_relationship(xs: FactRows, c: ChildForm, root: Node) -> Node
-    requires root_value { node_of (operator_of root) ≡ root }
-    ensures { result ≡ node_of (under_relationship (map fact_row xs.entry.rows.now) c.child (form_of c.form) (operator_of root)) }
+fn under_relationship(xs: FactRows, c: ChildForm, root: Settled) -> Node
+    ensures { result ≡ node_of (under_relationship (map fact_row xs.entry.rows.now) c.child (form_of c.form) (operator_of root.node)) }
 {
     if top_of(c.form) == TOP_NONE {
-        return root;
+        return root.node;
     }
-    built_top(xs, c, root)
+    built_top(xs, c, root.node)
 }
 
-fn built_relationship(xs: FactRows, c: ChildForm, root: Node) -> Node
-    requires root_value { node_of (operator_of root) ≡ root }
-    ensures { result ≡ node_of (built_relationship (map fact_row xs.entry.rows.now) c.child (form_of c.form) (operator_of root)) }
+fn built_relationship(xs: FactRows, c: ChildForm, root: Settled) -> Node
+    ensures { result ≡ node_of (built_relationship (map fact_row xs.entry.rows.now) c.child (form_of c.form) (operator_of root.node)) }
 {
     let under = under_relationship(xs, c, root);
     new_exchange(kind::KEYED, row_in(xs, c), under)
@@ -95,34 +96,32 @@ fn put_top(xs: FactRows, c: ChildForm, root: Node, dst: &mut [Row], to: usize) -
 }
 
 // Writes the operators above the root, and returns the place past them.
-fn put_new(xs: FactRows, c: ChildForm, root: Node, dst: &mut [Row], to: usize) -> usize
-    requires root_value { node_of (operator_of root) ≡ root }
-    requires root_in_bounds { to + length (new_rows (map fact_row xs.rows.now) c.child (form_of c.form) (operator_of root)) ≤ length dst.old }
-    ensures { Put to (new_rows (map fact_row xs.entry.rows.now) c.child (form_of c.form) (operator_of root)) dst.old dst.new result }
+fn put_new(xs: FactRows, c: ChildForm, root: Settled, dst: &mut [Row], to: usize) -> usize
+    requires root_in_bounds { to + length (new_rows (map fact_row xs.rows.now) c.child (form_of c.form) (operator_of root.node)) ≤ length dst.old }
+    ensures { Put to (new_rows (map fact_row xs.entry.rows.now) c.child (form_of c.form) (operator_of root.node)) dst.old dst.new result }
 {
-    if relationship_of(c.form) != 1 {
-        return put_top(xs, c, root, dst, to);
+    if !is_set(relationship_of(c.form)) {
+        return put_top(xs, c, root.node, dst, to);
     }
     row::put_node(&mut *dst, to, built_relationship(xs, c, root), 1);
-    put_top(xs, c, root, dst, to + 1)
+    put_top(xs, c, root.node, dst, to + 1)
 }
 
 // Writes the rows that the form makes of a child's root, and returns the place past them.
 fn put_built(
     xs: FactRows,
     c: ChildForm,
-    o: Node,
+    o: Settled,
     children: u64,
     dst: &mut [Row],
     to: usize,
 ) -> usize
-    requires o_value { node_of (operator_of o) ≡ o }
-    requires children_in_bounds { to + length (built_rows (map fact_row xs.rows.now) c.child (form_of c.form) (operator_of o) children) ≤ length dst.old }
-    ensures { Put to (built_rows (map fact_row xs.entry.rows.now) c.child (form_of c.form) (operator_of o) children) dst.old dst.new result }
+    requires { to + length (built_rows (map fact_row xs.rows.now) c.child (form_of c.form) (operator_of o.node) children) ≤ length dst.old }
+    ensures { Put to (built_rows (map fact_row xs.entry.rows.now) c.child (form_of c.form) (operator_of o.node) children) dst.old dst.new result }
 {
     let root = built_root(xs, c, o);
     let next = put_new(xs, c, root, &mut *dst, to);
-    row::put_node(&mut *dst, next, root, children);
+    row::put_node(&mut *dst, next, root.node, children);
     next + 1
 }
 
@@ -138,7 +137,9 @@ pub fn build_child(
     requires ready { Ready (built (map fact_row xs.rows.now) c.child (form_of c.form)) src.now at (length dst.old) to }
     ensures { Maps (built (map fact_row xs.entry.rows.now) c.child (form_of c.form)) src.now at dst.old to dst.new result }
 {
-    let o = row::node_at(src, at);
+    let o = Settled {
+        node: row::node_at(src, at),
+    };
     let children = row::children_at(src, at);
     let next = put_built(xs, c, o, children, &mut *dst, to);
     row::copy_trees(src, at + 1, children, dst, next)

@@ -33,6 +33,11 @@ pub const WIDTH: usize = 13;
 
 pub type FactRow = [u64; WIDTH];
 
+// Children are numbered from 1 to this.
+const LAST_CHILD: u64 = 8;
+
+const LAST_FORM: u64 = 15;
+
 // A place for each child and form, and one for rows of neither.
 pub const PLACES: usize = 129;
 
@@ -65,7 +70,8 @@ pub enum Fact {
 fn slot(child: u64, form: u64) -> usize
     ensures { result ≡ slot_at child form }
 {
-    if 1 <= child && child <= 8 && form <= 15 {
+    if 1 <= child && child <= LAST_CHILD && form <= LAST_FORM {
+        // No From goes from u64 to usize.
         return ((child - 1) * 16 + form) as usize;
     }
     NOWHERE
@@ -79,6 +85,7 @@ pub fn index_rows(rows: &[FactRow], index: &mut [u64])
     index.fill(0);
     for i in (0..rows.len()).rev() {
         let at = slot(rows[i][CHILD], rows[i][FORM]);
+        // No From goes from usize to u64.
         index[at] = i as u64 + 1;
     }
 }
@@ -93,6 +100,7 @@ impl<'a> FactRows<'a> {
             return Fact::Missing;
         }
         Fact::Row {
+            // No From goes from u64 to usize.
             place: (mark - 1) as usize,
         }
     }

@@ -1,12 +1,11 @@
 // What a sheet says beside the tree, and the worked node whose children are finished by it.
-ghost use Rattle.std.specs.Prelude.{◌≡◌, ℕ, ◌≤◌, ◌<◌, length, get_or, []};
+ghost use Rattle.std.specs.Prelude.{ℕ, ◌≤◌, ◌<◌, length, get_or, []};
 ghost use Rattle.exchange.specs.FactRows.{child_facts};
-ghost use Rattle.exchange.specs.Rows.{node_of, operator_of};
 
-use crate::fact::FactRows;
+use crate::fact::{ChildForm, FactRows};
 use crate::partitioning::NodeRow;
-use crate::row::Node;
 use crate::settings::Settings;
+use crate::settled::Settled;
 use crate::status::ChildRow;
 
 // The B row of the worked node, the F rows of its children, the X rows with their index, and the masks of unsatisfied children.
@@ -25,7 +24,21 @@ pub struct PlanFacts<'a> {
 pub struct Finishing<'a> {
     pub settings: Settings,
     pub facts: PlanFacts<'a>,
-    pub node: Node,
+    pub worked: Settled,
     pub children: u64,
-    pub ghost legal: { node_of (operator_of node) ≡ node },
+}
+
+// A child of the worked node in its form, with its need.
+#[derive(Clone, Copy)]
+pub struct Needing {
+    pub at: ChildForm,
+    pub need: u64,
+}
+
+// The children still to be finished: `left` of them, from number `child` on, with the forms of all.
+#[derive(Clone, Copy)]
+pub struct Unfinished<'a> {
+    pub forms: &'a [u64],
+    pub child: u64,
+    pub left: u64,
 }

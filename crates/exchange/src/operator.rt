@@ -9,7 +9,8 @@ ghost use Rattle.exchange.specs.Step.{split_operator};
 
 use crate::fact::{COUNT, FactRow, ORDER};
 use crate::kind;
-use crate::row::Node;
+use crate::row::{NO_LIMIT, Node};
+use crate::settled::Settled;
 
 // New merges and exchanges are tracked.
 pub const NEW_MARK: u64 = 1;
@@ -30,7 +31,7 @@ pub struct New {
 pub fn limit_of(n: Node) -> Option<u64>
     ensures { result ≡ limit_for n }
 {
-    if n.limited == 0 {
+    if n.limited == NO_LIMIT {
         return None;
     }
     Some(n.limit)
@@ -102,15 +103,14 @@ pub fn new_exchange(kind: u64, x: FactRow, under: Node) -> Node
 }
 
 // A sort by the entries that were kept, with the limit of `limiting`.
-pub fn required_sort(limiting: Node, entries: u64, under: Node) -> Node
-    requires { node_of (operator_of limiting) ≡ limiting }
-    ensures { result ≡ node_of (required_sort (operator_of limiting).limit entries (operator_of under)) }
+pub fn required_sort(limiting: Settled, entries: u64, under: Node) -> Node
+    ensures { result ≡ node_of (required_sort (operator_of limiting.node).limit entries (operator_of under)) }
 {
     let n = New {
         kind: kind::SORT,
         count: under.count.max(1),
         keeps: 0,
-        limit: limit_of(limiting),
+        limit: limit_of(limiting.node),
         order: 0,
         mask: entries,
         tracked: 0,
@@ -119,33 +119,33 @@ pub fn required_sort(limiting: Node, entries: u64, under: Node) -> Node
 }
 
 // The operator with the count and the order of a row.
-pub fn split_operator(x: FactRow, n: Node) -> Node
-    requires { node_of (operator_of n) ≡ n }
-    ensures { result ≡ node_of (split_operator (fact_row x) (operator_of n)) }
+pub fn split_operator(x: FactRow, n: Settled) -> Node
+    ensures { result ≡ node_of (split_operator (fact_row x) (operator_of n.node)) }
 {
     Node {
         count: x[COUNT],
         order: x[ORDER],
-        ..n
+        ..n.node
     }
 }
 
 // The operator with another mark.
-pub fn track(m: u64, n: Node) -> Node
-    requires { node_of (operator_of n) ≡ n }
-    ensures { result ≡ node_of (track_to m (operator_of n)) }
+pub fn track(m: u64, n: Settled) -> Node
+    ensures { result ≡ node_of (track_to m (operator_of n.node)) }
 {
-    Node { tracked: m, ..n }
+    Node {
+        tracked: m,
+        ..n.node
+    }
 }
 
 // A union dealt in turn: its order is lost.
-pub fn interleaved(n: Node) -> Node
-    requires { node_of (operator_of n) ≡ n }
-    ensures { result ≡ node_of (interleaved_of (operator_of n)) }
+pub fn interleaved(n: Settled) -> Node
+    ensures { result ≡ node_of (interleaved_of (operator_of n.node)) }
 {
     Node {
         kind: kind::INTERLEAVE,
         order: 0,
-        ..n
+        ..n.node
     }
 }

@@ -1,9 +1,10 @@
 // The order handling of a child, by what is known of it.
 ghost use Rattle.std.specs.Prelude.{◌≡◌, ◌||◌, ◌≤◌};
-ghost use Rattle.exchange.specs.Settings.{is_set};
+ghost use Rattle.exchange.specs.Settings.{is_set as is_set_mark};
 ghost use Rattle.exchange.specs.Order.{kept_entries};
 ghost use Rattle.exchange.specs.Handling.{enables_streaming, required_replaced, sorted_entries, free_replaced, streams as streams_by, required_handling, free_handling, handling_of};
 
+use crate::mark::is_set;
 use crate::{kind, need};
 
 // Whether order-preserving operators give way, the entries of the sort above (0: none), and whether the child's mark is cleared.
@@ -33,7 +34,7 @@ fn kept_entries(n: u64, constants: u64) -> u64
 fn preserving_order_enables_streaming(children: u64, maintains: u64, ford: u64, fplain: u64) -> bool
     ensures { result ≡ enables_streaming children maintains ford fplain }
 {
-    children == 1 && maintains == 1 && ford != 1 && fplain == 1
+    children == 1 && is_set(maintains) && !is_set(ford) && is_set(fplain)
 }
 
 fn required_replaced(met: bool, desirable: bool, streaming: bool, tracked: bool) -> bool
@@ -91,28 +92,35 @@ pub struct Known {
 fn streams(k: Known) -> bool
     ensures { result ≡ streams_by k }
 {
-    k.tracked == 1 && preserving_order_enables_streaming(k.children, k.maintains, k.ford, k.fplain)
+    is_set(k.tracked)
+        && preserving_order_enables_streaming(k.children, k.maintains, k.ford, k.fplain)
 }
 
 // Either of the two marks is set.
 fn desirable(friendly: u64, sort: u64) -> bool
-    ensures { result ≡ (is_set friendly || is_set sort) }
+    ensures { result ≡ (is_set_mark friendly || is_set_mark sort) }
 {
-    friendly == 1 || sort == 1
+    is_set(friendly) || is_set(sort)
 }
 
 fn order_required(k: Known) -> Handling
     requires { k.entries ≤ 8 }
     ensures { result ≡ required_handling k }
 {
-    let met = k.met == 1;
+    let met = is_set(k.met);
     let replaced = required_replaced(
         met,
         desirable(k.friendly, k.sort),
         streams(k),
-        k.tracked == 1,
+        is_set(k.tracked),
     );
-    let entries = add_sort_above_with_check(replaced, met, k.aftermet == 1, k.entries, k.constants);
+    let entries = add_sort_above_with_check(
+        replaced,
+        met,
+        is_set(k.aftermet),
+        k.entries,
+        k.constants,
+    );
     Handling {
         replaced,
         entries,
@@ -125,7 +133,7 @@ fn order_not_required(k: Known) -> Handling
 {
     let replaced = free_replaced(
         k.need,
-        k.maintains == 1,
+        is_set(k.maintains),
         streams(k),
         k.kind == kind::OUTPUT_REQUIREMENT,
     );

@@ -1,11 +1,12 @@
 // A child's tree after its order handling, written as rows.
 ghost use Rattle.std.specs.Prelude.{◌≡◌, length};
-ghost use Rattle.exchange.specs.Rows.{node_of, operator_of};
+ghost use Rattle.exchange.specs.Rows.{operator_of};
 ghost use Rattle.exchange.specs.Runs.{Ready, Maps};
 ghost use Rattle.exchange.specs.Handling.{given_up, sorted_by, handled_by};
 
 use crate::order::Handling;
-use crate::row::{self, Node, Row, Step};
+use crate::row::{self, Row, Step};
+use crate::settled::Settled;
 use crate::{operator, replace};
 
 // The tree at `at`, its order-preserving operators replaced or not.
@@ -19,29 +20,27 @@ fn put_given_up(replaced: bool, src: &[Row], at: usize, dst: &mut [Row], to: usi
     row::copy_tree(src, at, dst, to)
 }
 
-// The same below a sort by the entries, if there are any, with the limit of `limiting`.
+// The same below a sort by the handling's entries, if there are any, with the limit of `limiting`.
 fn add_sort_above(
-    entries: u64,
-    limiting: Node,
-    replaced: bool,
+    h: Handling,
+    limiting: Settled,
     src: &[Row],
     at: usize,
     dst: &mut [Row],
     to: usize,
 ) -> Step
-    requires limiting_value { node_of (operator_of limiting) ≡ limiting }
-    requires ready { Ready (sorted_by entries (operator_of limiting).limit replaced) src.now at (length dst.old) to }
-    ensures { Maps (sorted_by entries (operator_of limiting).limit replaced) src.now at dst.old to dst.new result }
+    requires { Ready (sorted_by h.entries (operator_of limiting.node).limit h.replaced) src.now at (length dst.old) to }
+    ensures { Maps (sorted_by h.entries (operator_of limiting.node).limit h.replaced) src.now at dst.old to dst.new result }
 {
-    if entries == 0 {
-        return put_given_up(replaced, src, at, dst, to);
+    if h.entries == 0 {
+        return put_given_up(h.replaced, src, at, dst, to);
     }
-    let s = put_given_up(replaced, src, at, &mut *dst, to + 1);
+    let s = put_given_up(h.replaced, src, at, &mut *dst, to + 1);
     let under = row::node_at(&*dst, to + 1);
     row::put_node(
         &mut *dst,
         to,
-        operator::required_sort(limiting, entries, under),
+        operator::required_sort(limiting, h.entries, under),
         1,
     );
     s
@@ -50,17 +49,16 @@ fn add_sort_above(
 // The child's tree, by what its order handling is.
 pub fn put_handled(
     h: Handling,
-    limiting: Node,
+    limiting: Settled,
     src: &[Row],
     at: usize,
     dst: &mut [Row],
     to: usize,
 ) -> Step
-    requires limiting_value { node_of (operator_of limiting) ≡ limiting }
-    requires ready { Ready (handled_by h (operator_of limiting).limit) src.now at (length dst.old) to }
-    ensures { Maps (handled_by h (operator_of limiting).limit) src.now at dst.old to dst.new result }
+    requires { Ready (handled_by h (operator_of limiting.node).limit) src.now at (length dst.old) to }
+    ensures { Maps (handled_by h (operator_of limiting.node).limit) src.now at dst.old to dst.new result }
 {
-    let s = add_sort_above(h.entries, limiting, h.replaced, src, at, &mut *dst, to);
+    let s = add_sort_above(h, limiting, src, at, &mut *dst, to);
     if h.cleared {
         row::set_mark(&mut *dst, to, 0);
     }

@@ -31,6 +31,7 @@ pub fn asked_children(rows: &[Row], at: usize, facts: &[ChildRow], asks: &mut [A
     for (i, row) in facts.iter().enumerate() {
         let child = row::node_at(rows, next);
         asks[i] = Asked {
+            // No From goes from usize to u64.
             number: i as u64 + 1,
             need: child.need,
             count: child.count,

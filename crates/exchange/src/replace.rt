@@ -7,8 +7,10 @@ ghost use Rattle.exchange.specs.Replace.{coalesced as coalesced_of, replace_orde
 ghost use Rattle.exchange.specs.ReplaceRows.{merge_sort, relaxed_or, heads};
 
 use crate::kind;
+use crate::mark::is_set;
 use crate::operator::{self, New};
-use crate::row::{self, Node, Row, Step};
+use crate::row::{self, NO_LIMIT, Node, Row, Step};
+use crate::settled::Settled;
 
 // A merge that keeps neither the order nor the limit.
 pub fn coalesced(n: Node) -> Node
@@ -16,7 +18,7 @@ pub fn coalesced(n: Node) -> Node
 {
     Node {
         kind: kind::COALESCE,
-        limited: 0,
+        limited: NO_LIMIT,
         limit: 0,
         order: 0,
         ..n
@@ -24,54 +26,51 @@ pub fn coalesced(n: Node) -> Node
 }
 
 // The sort above it, where the merge had a limit.
-pub fn sorted(merge: Node) -> Node
-    requires { node_of (operator_of merge) ≡ merge }
-    ensures { result ≡ node_of (merge_sort (operator_of merge)) }
+pub fn sorted(merge: Settled) -> Node
+    ensures { result ≡ node_of (merge_sort (operator_of merge.node)) }
 {
     let s = New {
         kind: kind::SORT,
-        count: merge.count,
+        count: merge.node.count,
         keeps: 0,
-        limit: operator::limit_of(merge),
-        order: merge.order,
+        limit: operator::limit_of(merge.node),
+        order: merge.node.order,
         mask: 0,
         tracked: 0,
     };
-    operator::new_operator(s, coalesced(merge))
+    operator::new_operator(s, coalesced(merge.node))
 }
 
 // An exchange keeps the order no more.
-pub fn relaxed(n: Node) -> Node
-    requires { node_of (operator_of n) ≡ n }
-    ensures { result ≡ node_of (relaxed_or (operator_of n)) }
+pub fn relaxed(n: Settled) -> Node
+    ensures { result ≡ node_of (relaxed_or (operator_of n.node)) }
 {
-    if kind::exchanges(n.kind) && n.keeps == 1 {
+    if kind::exchanges(n.node.kind) && is_set(n.node.keeps) {
         return Node {
             keeps: 0,
             order: 0,
-            ..n
+            ..n.node
         };
     }
-    n
+    n.node
 }
 
 // Writes what comes in the place of an operator, above its children, and returns the place past it.
-fn put_in_place(dst: &mut [Row], to: usize, n: Node, children: u64) -> usize
-    requires n_value { node_of (operator_of n) ≡ n }
-    requires children_in_bounds { to + length (heads (operator_of n) children) ≤ length dst.old }
-    ensures { (result ≡ to + length (heads (operator_of n) children)) × (dst.new ≡ sets dst.old to (heads (operator_of n) children)) }
+fn put_in_place(dst: &mut [Row], to: usize, n: Settled, children: u64) -> usize
+    requires { to + length (heads (operator_of n.node) children) ≤ length dst.old }
+    ensures { (result ≡ to + length (heads (operator_of n.node) children)) × (dst.new ≡ sets dst.old to (heads (operator_of n.node) children)) }
 {
-    if n.kind != kind::MERGE {
+    if n.node.kind != kind::MERGE {
         row::put_node(dst, to, relaxed(n), children);
         return to + 1;
     }
-    if n.limited == 0 {
-        row::put_node(dst, to, coalesced(n), children);
+    if n.node.limited == NO_LIMIT {
+        row::put_node(dst, to, coalesced(n.node), children);
         return to + 1;
     }
     row::put_node(&mut *dst, to, sorted(n), 1);
     let next = to + 1;
-    row::put_node(&mut *dst, next, coalesced(n), children);
+    row::put_node(&mut *dst, next, coalesced(n.node), children);
     next + 1
 }
 
@@ -81,7 +80,9 @@ pub fn replace_order_preserving_variants(src: &[Row], at: usize, dst: &mut [Row]
     requires { Ready replace_order_preserving_variants src.now at (length dst.old) to }
     ensures { Maps replace_order_preserving_variants src.now at dst.old to dst.new result }
 {
-    let n = row::node_at(src, at);
+    let n = Settled {
+        node: row::node_at(src, at),
+    };
     let children = row::children_at(src, at);
     let next = put_in_place(dst, to, n, children);
     replace_children(src, at + 1, children, dst, next)
@@ -96,15 +97,10 @@ fn replace_children(src: &[Row], at: usize, left: u64, dst: &mut [Row], to: usiz
     if left == 0 {
         return Step { at, to };
     }
-    if src[at][row::TRACKED] != 1 {
-        let s = row::copy_tree(src, at, dst, to);
-        let a = s.at;
-        let b = s.to;
-        replace_children(src, a, left - 1, dst, b)
+    let s = if is_set(src[at][row::TRACKED]) {
+        replace_order_preserving_variants(src, at, &mut *dst, to)
     } else {
-        let s = replace_order_preserving_variants(src, at, dst, to);
-        let a = s.at;
-        let b = s.to;
-        replace_children(src, a, left - 1, dst, b)
-    }
+        row::copy_tree(src, at, &mut *dst, to)
+    };
+    replace_children(src, s.at, left - 1, dst, s.to)
 }

@@ -29,6 +29,9 @@ pub const CHILDREN: usize = 10;
 
 pub const WIDTH: usize = 11;
 
+// The mark of a node without a limit.
+pub const NO_LIMIT: u64 = 0;
+
 // Kinds, marks and needs stay numbers: rows are lent by C and hold any bits.
 pub type Row = [u64; WIDTH];
 
@@ -46,6 +49,13 @@ pub struct Node {
     pub mask: u64,
     pub tracked: u64,
     pub need: u64,
+}
+
+// Rows, and a place among them.
+#[derive(Clone, Copy)]
+pub struct Place<'a> {
+    pub rows: &'a [Row],
+    pub at: usize,
 }
 
 // Past what was read, and past what was written.
@@ -110,13 +120,14 @@ pub fn set_mark(rows: &mut [Row], at: usize, m: u64)
     rows[at][TRACKED] = m;
 }
 
-// The place past the tree at `at`. The rows of a preorder say how many are still to come, so no item form serves.
+// The place past the tree at `at`.
 pub fn past_tree(rows: &[Row], at: usize) -> usize
     requires { Stands rows.now at }
     ensures { (t : Plan) (rest : List (List ℕ)) → drop at rows.now ≡ flatten t ++ rest → result ≡ at + length (flatten t) }
 {
     let mut a = at;
     let mut left: u64 = 1;
+    // No `for`: each row says how many are still to come.
     while left != 0 {
         left = left - 1 + children_at(rows, a);
         a += 1;
@@ -124,7 +135,7 @@ pub fn past_tree(rows: &[Row], at: usize) -> usize
     a
 }
 
-// The `count` trees from `at` on, as they stand. The rows of a preorder say how many are still to come, so no item form serves.
+// The `count` trees from `at` on, as they stand.
 pub fn copy_trees(src: &[Row], at: usize, count: u64, dst: &mut [Row], to: usize) -> Step
     requires { Readys (λ ts. ts) src.now at count (length dst.old) to }
     ensures { MapsAll (λ ts. ts) src.now at count dst.old to dst.new result }
@@ -132,6 +143,7 @@ pub fn copy_trees(src: &[Row], at: usize, count: u64, dst: &mut [Row], to: usize
     let mut a = at;
     let mut b = to;
     let mut left = count;
+    // No `for`: each row says how many are still to come.
     while left != 0 {
         let below = children_at(src, a);
         dst[b] = src[a];

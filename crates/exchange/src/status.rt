@@ -16,6 +16,11 @@ pub const ENTRIES: usize = 6;
 
 pub const WIDTH: usize = 7;
 
+// Where the number of rows in an F row comes from; any other kind says that there is none.
+pub const ROWS_EXACT: u64 = 0;
+
+pub const ROWS_ESTIMATED: u64 = 1;
+
 pub type ChildRow = [u64; WIDTH];
 
 // A child of the worked node: its number from 1, need and count of its root, and its F row.

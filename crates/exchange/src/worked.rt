@@ -7,13 +7,13 @@ ghost use Rattle.exchange.specs.Children.{is_removed};
 ghost use Rattle.exchange.specs.Worked.{removed};
 
 use crate::kind;
-use crate::row::{self, Node, Row};
+use crate::row::{self, NO_LIMIT, Node, Row};
 
 // Whether an operator only changes the distribution, and has no limit.
 fn removable(n: Node) -> bool
     ensures { result ≡ is_removed (operator_of n) }
 {
-    n.limited == 0 && kind::MERGE <= n.kind && n.kind <= kind::REPARTITION_UNKNOWN
+    n.limited == NO_LIMIT && kind::MERGE <= n.kind && n.kind <= kind::REPARTITION_UNKNOWN
 }
 
 // Whether the operator at `at` is taken off, so that its child comes next.
@@ -24,12 +24,13 @@ fn taken_off(rows: &[Row], at: usize) -> bool
     row::children_at(rows, at) != 0 && removable(row::node_at(rows, at))
 }
 
-// The place of the worked node of the tree at `at`. How far down it stands is known only on the way, so the loop stays a `while`.
+// The place of the worked node of the tree at `at`.
 pub fn remove_dist_changing_operators(rows: &[Row], at: usize) -> usize
     requires { Stands rows.now at }
     ensures { (t : Plan) (rest : List (List ℕ)) → drop at rows.now ≡ flatten t ++ rest → result ≡ at + length (removed t) }
 {
     let mut a = at;
+    // No `for`: how far down the node stands is known only on the way.
     while taken_off(rows, a) {
         a += 1;
     }

@@ -1,5 +1,5 @@
 // The forms of the worked node's children: their steps, and then the relationship rounds.
-ghost use Rattle.std.specs.Prelude.{◌≡◌, List, [], map, ◌≤◌, length};
+ghost use Rattle.std.specs.Prelude.{◌≡◌, List, [], map, length};
 ghost use Rattle.exchange.specs.Trees.{Operator};
 ghost use Rattle.exchange.specs.Facts.{NodeFacts};
 ghost use Rattle.exchange.specs.States.{Child};
@@ -7,28 +7,26 @@ ghost use Rattle.exchange.specs.Status.{get_repartition_requirement_status};
 ghost use Rattle.exchange.specs.Step.{ensure_children};
 ghost use Rattle.exchange.specs.Ensure.{relate};
 ghost use Rattle.exchange.specs.FactRows.{fact_row};
-ghost use Rattle.exchange.specs.Standings.{SameNode, SameChildren, Numbered};
+ghost use Rattle.exchange.specs.Standings.{SameNode, SameChildren};
 ghost use Rattle.exchange.specs.Turns.{answer, told};
 
 use crate::relationship::enforce_distribution_relationships;
 use crate::step::ensure_children;
 use exchange::facts::PlanFacts;
+use exchange::lists::Asks;
 use exchange::partitioning::Worked;
 use exchange::relationship::Unenforced;
 use exchange::settings::Settings;
-use exchange::status::Asked;
 
 pub fn child_forms(
     s: Settings,
     w: Worked,
     f: PlanFacts,
-    asks: &[Asked],
+    asks: Asks,
     forms: &mut [u64],
 ) -> Result<(), Unenforced>
-    requires numbered { Numbered asks.now }
-    requires few { length asks.now ≤ 8 }
-    requires forms_len { length forms.old ≡ length asks.now }
-    ensures { (o : Operator) (b : NodeFacts) (ks : List Child) → SameNode w o b → SameChildren asks.now ks → answer result forms.new ≡ told (relate s (record { node = b; children = []; rows = map fact_row f.entry.xs.rows.now; masks = f.entry.masks.now }) (ensure_children s o b (map fact_row f.entry.xs.rows.now) (get_repartition_requirement_status s ks))) }
+    requires { length forms.old ≡ length asks.list.now }
+    ensures { (o : Operator) (b : NodeFacts) (ks : List Child) → SameNode w o b → SameChildren asks.entry.list.now ks → answer result forms.new ≡ told (relate s (record { node = b; children = []; rows = map fact_row f.entry.xs.rows.now; masks = f.entry.masks.now }) (ensure_children s o b (map fact_row f.entry.xs.rows.now) (get_repartition_requirement_status s ks))) }
 {
     ensure_children(s, w, asks, f.xs, &mut *forms).ok_or(Unenforced::Missing)?;
     enforce_distribution_relationships(f.masks, asks, forms, f.xs)

@@ -1,16 +1,18 @@
 // The relationship rounds: while children are unsatisfied together, those that can be are given a keyed exchange.
-ghost use Rattle.std.specs.Prelude.{◌≡◌, List, map, ℕ, ◌≤◌, ◌<◌, length, get_or};
+ghost use Rattle.std.specs.Prelude.{◌≡◌, List, map, ℕ, ◌≤◌, ◌<◌, ◌%◌, length, get_or};
 ghost use Rattle.exchange.specs.Forms.{form_number, form_of, with_relationship};
 ghost use Rattle.exchange.specs.Facts.{row_of, unsatisfied_at};
 ghost use Rattle.exchange.specs.States.{ChildState};
 ghost use Rattle.exchange.specs.Relationships.{enforce_distribution_relationships};
 ghost use Rattle.exchange.specs.FactRows.{fact_row};
-ghost use Rattle.exchange.specs.Standings.{Numbered, asked_needs, resulting, each_form};
+ghost use Rattle.exchange.specs.Standings.{asked_needs, resulting, each_form};
 ghost use Rattle.exchange.specs.Turns.{row_already, turn_givable, turn_form, any_turn, turns_by, set_of, Stand, answer, told};
 
 use crate::step::pass;
 use exchange::fact::{ATHASH, ChildForm, EXACT, Fact, FactRows};
 use exchange::form::{form_of, relationship_of, split_of, top_of};
+use exchange::lists::{Asks, Forms};
+use exchange::mark::is_set;
 use exchange::need;
 use exchange::relationship::{Turn, Unenforced};
 use exchange::status::Asked;
@@ -19,6 +21,7 @@ use exchange::status::Asked;
 fn unsatisfied_at(masks: &[u64], set: u64) -> u64
     ensures { result ≡ unsatisfied_at masks.now set }
 {
+    // No From goes from u64 to usize.
     masks.get(set as usize).copied().unwrap_or(0)
 }
 
@@ -41,7 +44,19 @@ fn already_target_hash(xs: FactRows, c: ChildForm) -> bool
         return true;
     };
     let x = xs.rows[place];
-    x[ATHASH] == 1 && x[EXACT] == 1
+    is_set(x[ATHASH]) && is_set(x[EXACT])
+}
+
+// The turn of a child whose bit is the lowest of the mask.
+fn turn(a: &Asked, form: u64, mask: u64) -> Turn
+    ensures { result ≡ record { number = a.now.number; need = a.now.need; form = form; bit = mask % 2 } }
+{
+    Turn {
+        number: a.number,
+        need: a.need,
+        form,
+        bit: mask % 2,
+    }
 }
 
 // A child that is asked is given one, unless it has it, its need is not keyed, or nothing would change.
@@ -53,8 +68,8 @@ fn is_givable(x: Turn, xs: FactRows) -> bool
         child: x.number,
         form: x.form,
     };
-    x.bit == 1
-        && relationship_of(x.form) != 1
+    is_set(x.bit)
+        && !is_set(relationship_of(x.form))
         && x.need == need::KEYED
         && !already_target_hash(xs, at)
 }
@@ -75,20 +90,13 @@ fn give(x: Turn, xs: FactRows) -> Option<u64>
 }
 
 // Whether any of the mask's children can be given one.
-fn any_givable(mask: u64, asks: &[Asked], forms: &[u64], xs: FactRows) -> bool
-    requires numbered { Numbered asks.now }
-    requires few { (length asks.now ≤ 8) × (length forms.now ≡ length asks.now) }
-    requires small { (k : ℕ) → k < length forms.now → get_or forms.now k 0 ≤ 15 }
-    ensures { result ≡ any_turn (map fact_row xs.entry.rows.now) (turns_by 1 mask (asked_needs asks.now) forms.now) }
+fn any_givable(mask: u64, asks: Asks, forms: Forms, xs: FactRows) -> bool
+    requires { length forms.list.now ≡ length asks.list.now }
+    ensures { result ≡ any_turn (map fact_row xs.entry.rows.now) (turns_by 1 mask (asked_needs asks.entry.list.now) forms.entry.list.now) }
 {
     let mut m = mask;
-    for (i, a) in asks.iter().enumerate() {
-        let x = Turn {
-            number: a.number,
-            need: a.need,
-            form: forms[i],
-            bit: m % 2,
-        };
+    for (i, a) in asks.list.iter().enumerate() {
+        let x = turn(a, forms.list[i], m);
         if is_givable(x, xs) {
             return true;
         }
@@ -98,21 +106,15 @@ fn any_givable(mask: u64, asks: &[Asked], forms: &[u64], xs: FactRows) -> bool
 }
 
 // Each child of the mask that can be is given one.
-fn round(mask: u64, asks: &[Asked], forms: &mut [u64], xs: FactRows) -> Option<()>
-    requires numbered { Numbered asks.now }
-    requires few { (length asks.now ≤ 8) × (length forms.old ≡ length asks.now) }
+fn round(mask: u64, asks: Asks, forms: &mut [u64], xs: FactRows) -> Option<()>
+    requires forms_len { length forms.old ≡ length asks.list.now }
     requires small { (k : ℕ) → k < length forms.old → get_or forms.old k 0 ≤ 15 }
     ensures small { (k : ℕ) → k < length forms.new → get_or forms.new k 0 ≤ 15 }
-    ensures forms_after { resulting result forms.new ≡ each_form (turn_form (map fact_row xs.entry.rows.now)) (turns_by 1 mask (asked_needs asks.now) forms.old) }
+    ensures forms_after { resulting result forms.new ≡ each_form (turn_form (map fact_row xs.entry.rows.now)) (turns_by 1 mask (asked_needs asks.entry.list.now) forms.old) }
 {
     let mut m = mask;
-    for (i, a) in asks.iter().enumerate() {
-        let x = Turn {
-            number: a.number,
-            need: a.need,
-            form: forms[i],
-            bit: m % 2,
-        };
+    for (i, a) in asks.list.iter().enumerate() {
+        let x = turn(a, forms[i], m);
         forms[i] = give(x, xs)?;
         m /= 2;
     }
@@ -120,13 +122,12 @@ fn round(mask: u64, asks: &[Asked], forms: &mut [u64], xs: FactRows) -> Option<(
 }
 
 // The set of children that were given one, as its own mask. From the last to the first, so that each bit is proved to fit.
-fn given_set(forms: &[u64]) -> u64
-    requires { (length forms.now ≤ 8) × ((k : ℕ) → k < length forms.now → get_or forms.now k 0 ≤ 15) }
-    ensures { result ≡ set_of forms.now }
+fn given_set(forms: Forms) -> u64
+    ensures { result ≡ set_of forms.entry.list.now }
 {
     let mut set: u64 = 0;
-    for i in (0..forms.len()).rev() {
-        set = relationship_of(forms[i]) + 2 * set;
+    for i in (0..forms.list.len()).rev() {
+        set = relationship_of(forms.list[i]) + 2 * set;
     }
     set
 }
@@ -134,28 +135,27 @@ fn given_set(forms: &[u64]) -> u64
 // The rounds, until no child is unsatisfied; each gives a child its exchange, and none has two.
 pub fn enforce_distribution_relationships(
     masks: &[u64],
-    asks: &[Asked],
+    asks: Asks,
     forms: &mut [u64],
     xs: FactRows,
 ) -> Result<(), Unenforced>
-    requires numbered { Numbered asks.now }
-    requires few { (length asks.now ≤ 8) × (length forms.old ≡ length asks.now) }
+    requires forms_len { length forms.old ≡ length asks.list.now }
     requires small { (k : ℕ) → k < length forms.old → get_or forms.old k 0 ≤ 15 }
-    ensures { (cs : List ChildState) → Stand (map fact_row xs.entry.rows.now) 1 (asked_needs asks.now) forms.old cs → answer result forms.new ≡ told (enforce_distribution_relationships (map fact_row xs.entry.rows.now) masks.now cs) }
+    ensures { (cs : List ChildState) → Stand (map fact_row xs.entry.rows.now) 1 (asked_needs asks.entry.list.now) forms.old cs → answer result forms.new ≡ told (enforce_distribution_relationships (map fact_row xs.entry.rows.now) masks.now cs) }
 {
-    let mut left = asks.len();
-    let mut mask = unsatisfied_at(masks, given_set(&*forms));
+    let mut left = asks.list.len();
+    let mut mask = unsatisfied_at(masks, given_set(Forms { list: &*forms }));
     // No `for`: the mask decides when it ends.
     while mask != 0 {
         if left == 0 {
             return Err(Unenforced::Stuck);
         }
-        if !any_givable(mask, asks, &*forms, xs) {
+        if !any_givable(mask, asks, Forms { list: &*forms }, xs) {
             return Err(Unenforced::Stuck);
         }
         round(mask, asks, &mut *forms, xs).ok_or(Unenforced::Missing)?;
         left -= 1;
-        mask = unsatisfied_at(masks, given_set(&*forms));
+        mask = unsatisfied_at(masks, given_set(Forms { list: &*forms }));
     }
     Ok(())
 }

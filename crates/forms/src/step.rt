@@ -2,19 +2,21 @@
 ghost use Rattle.std.specs.Prelude.{◌≡◌, Bool, cond, ◌&&◌, List, map, ◌≤◌, length};
 ghost use Rattle.std.proofs.Math.Option.{some};
 ghost use Rattle.exchange.specs.Trees.{Operator};
-ghost use Rattle.exchange.specs.Settings.{is_set};
+ghost use Rattle.exchange.specs.Settings.{is_set as is_set_mark};
 ghost use Rattle.exchange.specs.Forms.{form_number, form_of, split_form, with_top};
 ghost use Rattle.exchange.specs.Facts.{NodeFacts, Row};
 ghost use Rattle.exchange.specs.States.{Child, pass, and_then};
 ghost use Rattle.exchange.specs.Status.{rows_gain, status_of, get_repartition_requirement_status};
 ghost use Rattle.exchange.specs.Step.{add_roundrobin, add_merge_on_top, add_hash_on_top, add_roundrobin_on_top, satisfy_distribution, split_plan, ensure_child, ensure_children};
 ghost use Rattle.exchange.specs.FactRows.{child_facts, fact_row, child_for};
-ghost use Rattle.exchange.specs.Standings.{worked_for, node_for, state_for, formed, begun, Passed, SameNode, SameChild, SameChildren, Numbered, resulting, form_list, each_form};
+ghost use Rattle.exchange.specs.Standings.{worked_for, node_for, state_for, formed, begun, Passed, SameNode, SameChild, SameChildren, resulting, form_list, each_form};
 
 use exchange::fact::{COUNT, ChildForm, Fact, FactRows};
 use exchange::form::{
     PLAIN, SPLIT, TOP_KEYED, TOP_MERGE, TOP_ROUND_ROBIN, form_of, relationship_of, split_of,
 };
+use exchange::lists::Asks;
+use exchange::mark::is_set;
 use exchange::need;
 use exchange::partitioning::{Standing, Worked};
 use exchange::settings::Settings;
@@ -108,9 +110,9 @@ fn satisfy_unspecified(s: Settings, w: Worked, a: Asked, c: Standing, xs: FactRo
 }
 
 fn splits_at_source(s: Settings, a: Asked) -> bool
-    ensures { result ≡ (is_set s.split && (rows_gain s (child_facts a.facts) && is_set (child_facts a.facts).splits)) }
+    ensures { result ≡ (is_set_mark s.split && (rows_gain s (child_facts a.facts) && is_set_mark (child_facts a.facts).splits)) }
 {
-    s.split == 1 && rows_gain(s, a) && a.facts[SPLITS] == 1
+    is_set(s.split) && rows_gain(s, a) && is_set(a.facts[SPLITS])
 }
 
 // A child that is split at its source, from there on.
@@ -162,16 +164,14 @@ fn ensure_each(
     s: Settings,
     w: Worked,
     aligned: bool,
-    asks: &[Asked],
+    asks: Asks,
     xs: FactRows,
     forms: &mut [u64],
 ) -> Option<()>
-    requires numbered { Numbered asks.now }
-    requires few { length asks.now ≤ 8 }
-    requires forms_len { length forms.old ≡ length asks.now }
-    ensures { resulting result forms.new ≡ each_form (λ a. formed (ensure_child s (worked_for w) (node_for w) (map fact_row xs.entry.rows.now) (status_of s aligned (child_for a)))) asks.now }
+    requires { length forms.old ≡ length asks.list.now }
+    ensures { resulting result forms.new ≡ each_form (λ a. formed (ensure_child s (worked_for w) (node_for w) (map fact_row xs.entry.rows.now) (status_of s aligned (child_for a)))) asks.entry.list.now }
 {
-    for (i, a) in asks.iter().enumerate() {
+    for (i, a) in asks.list.iter().enumerate() {
         forms[i] = ensure_child(s, w, aligned, *a, xs)?;
     }
     Some(())
@@ -181,15 +181,13 @@ fn ensure_each(
 pub fn ensure_children(
     s: Settings,
     w: Worked,
-    asks: &[Asked],
+    asks: Asks,
     xs: FactRows,
     forms: &mut [u64],
 ) -> Option<()>
-    requires numbered { Numbered asks.now }
-    requires few { length asks.now ≤ 8 }
-    requires forms_len { length forms.old ≡ length asks.now }
-    ensures { (o : Operator) (b : NodeFacts) (ks : List Child) → SameNode w o b → SameChildren asks.now ks → resulting result forms.new ≡ form_list (ensure_children s o b (map fact_row xs.entry.rows.now) (get_repartition_requirement_status s ks)) }
+    requires { length forms.old ≡ length asks.list.now }
+    ensures { (o : Operator) (b : NodeFacts) (ks : List Child) → SameNode w o b → SameChildren asks.entry.list.now ks → resulting result forms.new ≡ form_list (ensure_children s o b (map fact_row xs.entry.rows.now) (get_repartition_requirement_status s ks)) }
 {
-    let aligned = needs_alignment(s, asks);
+    let aligned = needs_alignment(s, asks.list);
     ensure_each(s, w, aligned, asks, xs, forms)
 }

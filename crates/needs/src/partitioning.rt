@@ -8,6 +8,7 @@ ghost use Rattle.exchange.specs.Standings.{worked_for, node_for, state_for};
 
 use crate::status::rows_gain;
 use exchange::fact::{EXACT, SUBSET};
+use exchange::mark::is_set;
 use exchange::partitioning::{AGGEXACT, AGGSUBSET, Standing, Worked};
 use exchange::settings::Settings;
 use exchange::status::{Asked, GAINS, GROUPING};
@@ -23,7 +24,7 @@ pub fn preserve_file_partition_threshold_met(s: Settings, a: Asked) -> bool
 pub fn requires_grouping_id(a: Asked) -> bool
     ensures { result ≡ requires_grouping_id (child_for a) }
 {
-    a.need == need::KEYED && a.facts[GROUPING] == 1
+    a.need == need::KEYED && is_set(a.facts[GROUPING])
 }
 
 fn is_partitioned_join(w: Worked) -> bool
@@ -54,7 +55,7 @@ pub fn partial_aggregate_output_satisfies_final_partitioning(w: Worked, subsets:
     } else {
         w.facts[AGGEXACT]
     };
-    w.kind == kind::PARTIAL_AGGREGATE && answer == 1
+    w.kind == kind::PARTIAL_AGGREGATE && is_set(answer)
 }
 
 pub fn preserve_partial_aggregate_partitioning(s: Settings, w: Worked, a: Asked) -> bool
@@ -71,8 +72,8 @@ pub fn preserve_partial_aggregate_partitioning(s: Settings, w: Worked, a: Asked)
 pub fn add_roundrobin(s: Settings, w: Worked, a: Asked) -> bool
     ensures { (aligned : Bool) → result ≡ add_roundrobin s (worked_for w) (node_for w) (status_of s aligned (child_for a)) }
 {
-    s.roundrobin == 1
-        && a.facts[GAINS] == 1
+    is_set(s.roundrobin)
+        && is_set(a.facts[GAINS])
         && rows_gain(s, a)
         && a.count < s.target
         && !preserve_partial_aggregate_partitioning(s, w, a)
@@ -83,9 +84,9 @@ pub fn partitioning_satisfied(s: Settings, w: Worked, a: Asked, c: Standing) -> 
     ensures { (aligned : Bool) → result ≡ partitioning_satisfied s (worked_for w) (status_of s aligned (child_for a)) (state_for a c) }
 {
     if allow_subset_satisfy_partitioning(s, w, a) {
-        return c.row[SUBSET] == 1;
+        return is_set(c.row[SUBSET]);
     }
-    c.row[EXACT] == 1
+    is_set(c.row[EXACT])
 }
 
 // What satisfies already stays as it is, since only the count would grow.

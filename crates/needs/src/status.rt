@@ -6,9 +6,12 @@ ghost use Rattle.exchange.specs.FactRows.{child_facts, child_for};
 ghost use Rattle.exchange.specs.States.{Child, need_of, count_of};
 ghost use Rattle.exchange.specs.Standings.{status_by};
 
+use exchange::mark::is_set;
 use exchange::need;
 use exchange::settings::Settings;
-use exchange::status::{Asked, ChildRow, GAINS, ROWKIND, ROWS, RepartitionRequirementStatus};
+use exchange::status::{
+    Asked, ChildRow, GAINS, ROWKIND, ROWS, ROWS_ESTIMATED, ROWS_EXACT, RepartitionRequirementStatus,
+};
 
 // By the row count, dealing out the rows gains.
 pub fn rows_gain(s: Settings, a: Asked) -> bool
@@ -16,17 +19,17 @@ pub fn rows_gain(s: Settings, a: Asked) -> bool
 {
     let kind = a.facts[ROWKIND];
     let more = s.batch < a.facts[ROWS];
-    if kind == 0 {
+    if kind == ROWS_EXACT {
         return more;
     }
-    kind != 1 || s.estimates != 1 || more
+    kind != ROWS_ESTIMATED || !is_set(s.estimates) || more
 }
 
 // A keyed child has more than one partition, or would gain by more.
 pub fn asks_alignment(s: Settings, a: Asked) -> bool
     ensures { result ≡ asks_alignment s (child_for a) }
 {
-    a.need == need::KEYED && (1 < a.count || a.facts[GAINS] == 1 && rows_gain(s, a))
+    a.need == need::KEYED && (1 < a.count || is_set(a.facts[GAINS]) && rows_gain(s, a))
 }
 
 // A keyed child is hashed for its own partitions, or since one of the keyed children asks.

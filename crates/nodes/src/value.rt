@@ -8,6 +8,7 @@ ghost use Rattle.nodes.specs.Nodes.{zero as zero_node, settled, changed, new_mar
 
 use exchange::fact::FactRow;
 use exchange::row::Node;
+use exchange::settled::Settled;
 use exchange::{operator, replace};
 
 pub fn zero() -> Node
@@ -28,13 +29,17 @@ pub fn zero() -> Node
 }
 
 // The node of its operator: the mark of a limit is 0 or 1, and an absent limit has number 0.
-fn settle(n: Node) -> Node
-    ensures { result ≡ settled n }
+fn settle(n: Node) -> Settled
+    ensures { result.node ≡ settled n }
 {
-    if n.limited == 0 {
-        return Node { limit: 0, ..n };
+    let limit = operator::limit_of(n);
+    Settled {
+        node: Node {
+            limited: u64::from(limit.is_some()),
+            limit: limit.unwrap_or(0),
+            ..n
+        },
     }
-    Node { limited: 1, ..n }
 }
 
 pub fn track(n: Node, m: u64) -> Node

@@ -5,34 +5,34 @@ use Rattle.ensure.proofs.Finishing.{root_in, root_legal, came_shape, came_counte
 use Rattle.ensure.proofs.finished.finish_worked.Goals as goal
 
 pub overflow_add-below : goal.overflow_add-below
-overflow_add-below c = let a = c.args in let p = c.requires.came in omega (arith, root_in a.src.now a.at p.tree p.rest p.stands)
+overflow_add-below c = let a = c.args in let p = c.requires.came in omega (arith, root_in a.src.rows.now a.src.at p.tree p.rest p.stands)
 
-pub node_at-worked-requires : goal.node_at-worked-requires
-node_at-worked-requires c = let a = c.args in let p = c.requires.came in root_in a.src.now a.at p.tree p.rest p.stands
+pub node_at-requires : goal.node_at-requires
+node_at-requires c = let a = c.args in let p = c.requires.came in root_in a.src.rows.now a.src.at p.tree p.rest p.stands
 
 pub children_at-k-requires : goal.children_at-k-requires
-children_at-k-requires c = let a = c.args in let p = c.requires.came in root_in a.src.now a.at p.tree p.rest p.stands
+children_at-k-requires c = let a = c.args in let p = c.requires.came in root_in a.src.rows.now a.src.at p.tree p.rest p.stands
 
-pub becomes_interleave-i-requires-clause-few : goal.becomes_interleave-i-requires-clause-few
-becomes_interleave-i-requires-clause-few c = let a = c.args in let p = c.requires.came in
-    omega (arith, (came_shape a.s a.f.node a.f.children.now a.f.xs.rows.now a.f.masks.now a.src.now a.at a.forms.now _ p).long, came_counted a.s a.f.node a.f.children.now a.f.xs.rows.now a.f.masks.now a.src.now a.at a.forms.now _ p, a.f.few)
+pub invariant_of-becomes_interleave : goal.invariant_of-becomes_interleave
+invariant_of-becomes_interleave c = let a = c.args in let p = c.requires.came in
+    let shape = came_shape a.s a.f.node a.f.children.now a.f.xs.rows.now a.f.masks.now a.src.rows.now a.src.at a.forms.now _ p in record {
+      few = omega (arith, shape.long, came_counted a.s a.f.node a.f.children.now a.f.xs.rows.now a.f.masks.now a.src.rows.now a.src.at a.forms.now _ p, a.f.few);
+      small = shape.small;
+    }
 
-pub becomes_interleave-i-requires-clause-small : goal.becomes_interleave-i-requires-clause-small
-becomes_interleave-i-requires-clause-small c = let a = c.args in (came_shape a.s a.f.node a.f.children.now a.f.xs.rows.now a.f.masks.now a.src.now a.at a.forms.now _ c.requires.came).small
-
-pub invariant_of-w : goal.invariant_of-w
-invariant_of-w c = let a = c.args in let p = c.requires.came in record { legal = rw c.node_at-worked.ensures (root_legal a.src.now a.at p.tree p.rest p.stands) }
+pub invariant_of-worked : goal.invariant_of-worked
+invariant_of-worked c = let a = c.args in let p = c.requires.came in record { legal = rw c.node_at.ensures (root_legal a.src.rows.now a.src.at p.tree p.rest p.stands) }
 
 pub put_worked-requires : goal.put_worked-requires
-put_worked-requires c = let a = c.args in let p = c.requires.came in (came_room a.s a.f.node a.f.children.now a.f.xs.rows.now a.f.masks.now a.src.now a.at a.forms.now _ p, rw c.node_at-worked.ensures (root_legal a.src.now a.at p.tree p.rest p.stands))
+put_worked-requires c = let a = c.args in let p = c.requires.came in came_room a.s a.f.node a.f.children.now a.f.xs.rows.now a.f.masks.now a.src.rows.now a.src.at a.forms.now _ p
 
 pub finish_children-m-requires-clause-each_finished : goal.finish_children-m-requires-clause-each_finished
-finish_children-m-requires-clause-each_finished c = let a = c.args in let p = c.requires.came in rw c.children_at-k.ensures (came_each a.s a.f.node a.f.children.now a.f.xs.rows.now a.f.masks.now a.src.now a.at a.forms.now _ p (length a.mid.now) c.requires.roomy)
+finish_children-m-requires-clause-each_finished c = let a = c.args in let p = c.requires.came in rw c.children_at-k.ensures (came_each a.s a.f.node a.f.children.now a.f.xs.rows.now a.f.masks.now a.src.rows.now a.src.at a.forms.now _ p (length a.mid.now) c.requires.roomy)
 
 pub finish_children-m-requires-clause-readys : goal.finish_children-m-requires-clause-readys
-finish_children-m-requires-clause-readys c = let a = c.args in let p = c.requires.came in rw (c.node_at-worked.ensures, c.children_at-k.ensures) (rw c.put_worked.auto.rows (came_readys a.s a.f.node a.f.children.now a.f.xs.rows.now a.f.masks.now a.src.now a.at a.forms.now _ p))
+finish_children-m-requires-clause-readys c = let a = c.args in let p = c.requires.came in rw (c.node_at.ensures, c.children_at-k.ensures) (rw c.put_worked.auto.rows (came_readys a.s a.f.node a.f.children.now a.f.xs.rows.now a.f.masks.now a.src.rows.now a.src.at a.forms.now _ p))
 
 pub returns : goal.returns
 returns c = let a = c.args in let p = c.requires.came in λ t rest cs h came numbers.
-    answer_wrote a.s a.f.node a.f.children.now a.f.xs.rows.now a.f.masks.now a.src.now a.at a.forms.now _ _ _ c.node_at-worked.ensures c.children_at-k.ensures c.becomes_interleave-i.ensures t rest cs
-    (shape_of a.s a.f.node a.f.children.now a.f.xs.rows.now a.f.masks.now a.src.now a.at a.forms.now t rest cs h came numbers (came_counted a.s a.f.node a.f.children.now a.f.xs.rows.now a.f.masks.now a.src.now a.at a.forms.now _ p)) _ _ _ _ _ _ c.put_worked.ensures c.finish_children-m.ensures c.window_mark.ensures (mark_byte _ _ c.from.ensures)
+    answer_wrote a.s a.f.node a.f.children.now a.f.xs.rows.now a.f.masks.now a.src.rows.now a.src.at a.forms.now _ _ _ c.node_at.ensures c.children_at-k.ensures c.becomes_interleave-i.ensures t rest cs
+    (shape_of a.s a.f.node a.f.children.now a.f.xs.rows.now a.f.masks.now a.src.rows.now a.src.at a.forms.now t rest cs h came numbers (came_counted a.s a.f.node a.f.children.now a.f.xs.rows.now a.f.masks.now a.src.rows.now a.src.at a.forms.now _ p)) _ _ _ _ _ _ c.put_worked.ensures c.finish_children-m.ensures c.window_mark.ensures (mark_byte _ _ c.from.ensures)

@@ -10,9 +10,9 @@ use Rattle.ensure.proofs.Finishing.{packed_row, put_chosen}
 use Rattle.ensure.proofs.finished.put_worked.Goals as goal
 
 pub returns-then-interleaves : goal.returns-then-interleaves
-returns-then-interleaves c = let a = c.args in put_chosen a.interleaves true a.rows.now _ (interleaved (operator_of a.worked)) (operator_of a.worked) a.children c.if-interleaves.true
-    (c.put_node.ensures ∙ ap (set a.rows.now 0) (ap (λ (n : Node). packed n a.children) c.interleave_one.ensures ∙ row_packed (interleaved (operator_of a.worked)) a.children))
+returns-then-interleaves c = let a = c.args in put_chosen a.interleaves true a.rows.now _ (interleaved (operator_of a.worked.node)) (operator_of a.worked.node) a.children c.if-interleaves.true
+    (c.put_node.ensures ∙ ap (set a.rows.now 0) (ap (λ (n : Node). packed n a.children) c.interleave_one.ensures ∙ row_packed (interleaved (operator_of a.worked.node)) a.children))
 
 pub returns : goal.returns
-returns c = let a = c.args in put_chosen a.interleaves false a.rows.now _ (interleaved (operator_of a.worked)) (operator_of a.worked) a.children c.if-interleaves.false
-    (c.put_node-2.ensures ∙ ap (set a.rows.now 0) (packed_row _ _ a.children c.requires.1 refl))
+returns c = let a = c.args in put_chosen a.interleaves false a.rows.now _ (interleaved (operator_of a.worked.node)) (operator_of a.worked.node) a.children c.if-interleaves.false
+    (c.put_node-2.ensures ∙ ap (set a.rows.now 0) (packed_row _ _ a.children a.worked.legal refl))

@@ -9,11 +9,11 @@ use mathlib.Core.Path.{ap}
 use Rattle.ensure.proofs.interleave.can_interleave.Goals as goal
 
 pub returns-then-is_empty : goal.returns-then-is_empty
-returns-then-is_empty c = let a = c.args in alike_none (map fact_row a.xs.rows.now) a.forms.now (eqb-true _ _ (sym c.if-is_empty.ensures))
+returns-then-is_empty c = let a = c.args in alike_none (map fact_row a.xs.rows.now) a.forms.list.now (eqb-true _ _ (sym c.if-is_empty.ensures))
 
 pub returns-then-layout-ne0 : goal.returns-then-layout-ne0
-returns-then-layout-ne0 c = let a = c.args in alike_first (map fact_row a.xs.rows.now) _ a.forms.now _ (eqb-false _ _ (sym c.if-is_empty.ensures)) c.layout_in-layout.ensures c.if-layout-ne0.true c.all_layouts.ensures
+returns-then-layout-ne0 c = let a = c.args in alike_first (map fact_row a.xs.rows.now) _ a.forms.list.now _ (eqb-false _ _ (sym c.if-is_empty.ensures)) c.layout_in-layout.ensures c.if-layout-ne0.true c.all_layouts.ensures
 
 pub returns-else-layout-ne0 : goal.returns-else-layout-ne0
 returns-else-layout-ne0 c = let a = c.args in ap not (eq-eqb _ _ c.if-layout-ne0.false)
-    ∙ alike_unhashed (map fact_row a.xs.rows.now) _ a.forms.now (eqb-false _ _ (sym c.if-is_empty.ensures)) c.layout_in-layout.ensures c.if-layout-ne0.false
+    ∙ alike_unhashed (map fact_row a.xs.rows.now) _ a.forms.list.now (eqb-false _ _ (sym c.if-is_empty.ensures)) c.layout_in-layout.ensures c.if-layout-ne0.false

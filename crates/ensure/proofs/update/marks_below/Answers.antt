@@ -1,4 +1,5 @@
 -- `ensure::update::marks_below` meets its contract: no children, the first is tracked, or any is unspecified, each by its law.
+use mathlib.Core.Path.{sym, ◌∙◌}
 use native.Mathlib.Omega.{arith}
 use Rattle.exchange.proofs.Marking.{stands_in, all_first, below_none, below_first, below_unspecified}
 use Rattle.ensure.proofs.update.marks_below.Goals as goal
@@ -12,8 +13,8 @@ offset_bounds-rows-at c = omega (arith, stands_in _ _ (all_first _ _ _ c.if-left
 pub bounds-rows-at : goal.bounds-rows-at
 bounds-rows-at c = omega (arith, stands_in _ _ (all_first _ _ _ c.if-left-eq0.false c.requires))
 
-pub returns-then-rows-at-eq1 : goal.returns-then-rows-at-eq1
-returns-then-rows-at-eq1 c = below_first c.args.rows.now c.args.at _ c.if-left-eq0.false c.if-rows-at-eq1.true
+pub returns-then-is_set : goal.returns-then-is_set
+returns-then-is_set c = below_first c.args.rows.now c.args.at _ c.if-left-eq0.false (sym c.is_set.ensures ∙ c.if-is_set.true)
 
 pub returns : goal.returns
-returns c = below_unspecified c.args.rows.now c.args.at _ c.if-left-eq0.false _ c.if-rows-at-eq1.false c.any_unspecified.ensures
+returns c = below_unspecified c.args.rows.now c.args.at _ c.if-left-eq0.false _ (sym c.is_set.ensures ∙ c.if-is_set.false) c.any_unspecified.ensures

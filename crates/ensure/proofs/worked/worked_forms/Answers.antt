@@ -6,20 +6,25 @@ use Rattle.exchange.specs.declared.row.Node.{Node}
 use Rattle.ensure.proofs.Forming.{stood_in, stood_below, told_worked, asks_fit}
 use Rattle.ensure.proofs.worked.worked_forms.Goals as goal
 
-pub overflow_add-below : goal.overflow_add-below
-overflow_add-below c = omega (arith, stood_in c.args.src.now c.args.at _ c.requires.stood)
+pub overflow_add-src : goal.overflow_add-src
+overflow_add-src c = omega (arith, stood_in c.args.src.rows.now c.args.src.at _ c.requires.stood)
 
 pub node_at-requires : goal.node_at-requires
-node_at-requires c = stood_in c.args.src.now c.args.at _ c.requires.stood
+node_at-requires c = stood_in c.args.src.rows.now c.args.src.at _ c.requires.stood
 
 pub asked_children-requires : goal.asked_children-requires
-asked_children-requires c = record { stand_all = stood_below c.args.src.now c.args.at _ c.requires.stood; asks_len = length-take-le _ _ c.args.f.few }
+asked_children-requires c = record { stand_all = stood_below c.args.src.rows.now c.args.src.at _ c.requires.stood; asks_len = length-take-le _ _ c.args.f.few }
+
+pub invariant_of-child_forms : goal.invariant_of-child_forms
+invariant_of-child_forms c = let a = c.args in
+    let fit = asks_fit a.s a.f.node a.f.children.now a.f.xs.rows.now a.f.masks.now a.src.rows.now a.src.at (record { kind = c.node_at.result.kind; facts = a.f.node }) (ap (λ (x : Node). x.kind) c.node_at.ensures) refl c.requires.stood c.asked_children.new.asks c.asked_children.ensures in
+    record { numbered = fit.1; few = omega (arith, fit.0, a.f.few) }
 
 pub child_forms-requires : goal.child_forms-requires
 child_forms-requires c = let a = c.args in
-    let fit = asks_fit a.s a.f.node a.f.children.now a.f.xs.rows.now a.f.masks.now a.src.now a.at (record { kind = c.node_at.result.kind; facts = a.f.node }) (ap (λ (x : Node). x.kind) c.node_at.ensures) refl c.requires.stood c.asked_children.new.asks c.asked_children.ensures in
-    record { numbered = fit.1; few = omega (arith, fit.0, a.f.few); forms_len = c.requires.forms_len ∙ sym fit.0 }
+    let fit = asks_fit a.s a.f.node a.f.children.now a.f.xs.rows.now a.f.masks.now a.src.rows.now a.src.at (record { kind = c.node_at.result.kind; facts = a.f.node }) (ap (λ (x : Node). x.kind) c.node_at.ensures) refl c.requires.stood c.asked_children.new.asks c.asked_children.ensures in
+    c.requires.forms_len ∙ sym fit.0
 
 pub returns : goal.returns
 returns c = let a = c.args in
-    told_worked a.s a.f.node a.f.children.now a.f.xs.rows.now a.f.masks.now a.src.now a.at (record { kind = c.node_at.result.kind; facts = a.f.node }) (ap (λ (x : Node). x.kind) c.node_at.ensures) refl c.requires.stood c.asked_children.new.asks c.asked_children.ensures _ _ c.child_forms.ensures
+    told_worked a.s a.f.node a.f.children.now a.f.xs.rows.now a.f.masks.now a.src.rows.now a.src.at (record { kind = c.node_at.result.kind; facts = a.f.node }) (ap (λ (x : Node). x.kind) c.node_at.ensures) refl c.requires.stood c.asked_children.new.asks c.asked_children.ensures _ _ c.child_forms.ensures

@@ -1,5 +1,5 @@
 -- `exchange::child::put_new` meets its contract.
-use mathlib.Core.Path.{sym, ap, ◌∙◌}
+use mathlib.Core.Path.{ap}
 use mathlib.Core.List.{map}
 use native.Mathlib.Omega.{arith}
 use lib.ListN.{length}
@@ -10,24 +10,17 @@ use Rattle.exchange.specs.Built.{built_relationship}
 use Rattle.exchange.proofs.BuiltRows.{new_none, new_one, put_more}
 use Rattle.exchange.proofs.child.put_new.Goals as goal
 
--- src/child.rt:113:9
-
 pub put_top-requires : goal.put_top-requires
-put_top-requires c = let a = c.args in omega (arith, ap length (new_none (map fact_row a.xs.rows.now) a.c.child (form_of a.c.form) (operator_of a.root) (λ e. c.if-relationship_of-ne1.true (c.relationship_of.ensures ∙ e))), c.requires.root_in_bounds)
+put_top-requires c = let a = c.args in omega (arith, ap length (new_none (map fact_row a.xs.rows.now) a.c.child (form_of a.c.form) (operator_of a.root.node) (cc)), c.requires.root_in_bounds)
 
--- src/child.rt:113:9
-pub returns-then-relationship_of-ne1 : goal.returns-then-relationship_of-ne1
-returns-then-relationship_of-ne1 c = let a = c.args in rw (new_none (map fact_row a.xs.rows.now) a.c.child (form_of a.c.form) (operator_of a.root) (λ e. c.if-relationship_of-ne1.true (c.relationship_of.ensures ∙ e))) c.put_top.ensures
+pub returns-then-not-is_set : goal.returns-then-not-is_set
+returns-then-not-is_set c = let a = c.args in rw (new_none (map fact_row a.xs.rows.now) a.c.child (form_of a.c.form) (operator_of a.root.node) (cc)) c.put_top.ensures
 
--- src/child.rt:115:5
 pub put_node-requires : goal.put_node-requires
-put_node-requires c = let a = c.args in omega (arith, ap length (new_one (map fact_row a.xs.rows.now) a.c.child (form_of a.c.form) (operator_of a.root) (sym c.relationship_of.ensures ∙ c.if-relationship_of-ne1.false)), c.requires.root_in_bounds)
-
--- src/child.rt:116:5
+put_node-requires c = let a = c.args in omega (arith, ap length (new_one (map fact_row a.xs.rows.now) a.c.child (form_of a.c.form) (operator_of a.root.node) (cc)), c.requires.root_in_bounds)
 
 pub put_top-requires-2 : goal.put_top-requires-2
-put_top-requires-2 c = let a = c.args in omega (arith, ap length (new_one (map fact_row a.xs.rows.now) a.c.child (form_of a.c.form) (operator_of a.root) (sym c.relationship_of.ensures ∙ c.if-relationship_of-ne1.false)), c.requires.root_in_bounds, c.put_node.auto.rows)
+put_top-requires-2 c = let a = c.args in omega (arith, ap length (new_one (map fact_row a.xs.rows.now) a.c.child (form_of a.c.form) (operator_of a.root.node) (cc)), c.requires.root_in_bounds, c.put_node.auto.rows)
 
--- src/child.rt:105:1
 pub returns : goal.returns
-returns c = let a = c.args in put_more _ _ _ _ _ (built_relationship (map fact_row a.xs.rows.now) a.c.child (form_of a.c.form) (operator_of a.root)) c.built_relationship.ensures _ _ _ (new_one (map fact_row a.xs.rows.now) a.c.child (form_of a.c.form) (operator_of a.root) (sym c.relationship_of.ensures ∙ c.if-relationship_of-ne1.false)) c.put_node.ensures c.put_top-2.ensures
+returns c = let a = c.args in put_more _ _ _ _ _ (built_relationship (map fact_row a.xs.rows.now) a.c.child (form_of a.c.form) (operator_of a.root.node)) c.built_relationship.ensures _ _ _ (new_one (map fact_row a.xs.rows.now) a.c.child (form_of a.c.form) (operator_of a.root.node) (cc)) c.put_node.ensures c.put_top-2.ensures

@@ -2,4 +2,4 @@
 use Rattle.exchange.proofs.finish.+finish_children.Given as goal
 
 abbrev pub decreases-finish_children : goal.decreases-finish_children
-decreases-finish_children l = l.left
+decreases-finish_children l = l.k.left

@@ -5,17 +5,14 @@ use Rattle.exchange.specs.Handling.{sorted_by, handled_by}
 use Rattle.exchange.proofs.OrderWritten.{maps_as, handled_ready, handled_in, cleared_wrote, cleared_not}
 use Rattle.exchange.proofs.ordered.put_handled.Goals as goal
 
-pub add_sort_above-s-requires-clause-limiting_value : goal.add_sort_above-s-requires-clause-limiting_value
-add_sort_above-s-requires-clause-limiting_value c = c.requires.limiting_value
-
-pub add_sort_above-s-requires-clause-ready : goal.add_sort_above-s-requires-clause-ready
-add_sort_above-s-requires-clause-ready c = let a = c.args in handled_ready a.h (operator_of a.limiting).limit _ _ _ _ c.requires.ready
+pub add_sort_above-s-requires : goal.add_sort_above-s-requires
+add_sort_above-s-requires c = let a = c.args in handled_ready a.h (operator_of a.limiting.node).limit _ _ _ _ c.requires
 
 pub set_mark-requires : goal.set_mark-requires
-set_mark-requires c = let a = c.args in omega (arith, handled_in a.h (operator_of a.limiting).limit _ _ _ _ c.requires.ready, c.add_sort_above-s.auto.dst)
+set_mark-requires c = let a = c.args in omega (arith, handled_in a.h (operator_of a.limiting.node).limit _ _ _ _ c.requires, c.add_sort_above-s.auto.dst)
 
 pub returns-then-h : goal.returns-then-h
-returns-then-h c = let a = c.args in cleared_wrote a.h (operator_of a.limiting).limit _ _ _ _ _ _ _ c.if-h.true c.requires.ready c.add_sort_above-s.ensures c.set_mark.ensures
+returns-then-h c = let a = c.args in cleared_wrote a.h (operator_of a.limiting.node).limit _ _ _ _ _ _ _ c.if-h.true c.requires c.add_sort_above-s.ensures c.set_mark.ensures
 
 pub returns-else-h : goal.returns-else-h
-returns-else-h c = let a = c.args in maps_as (sorted_by a.h.entries (operator_of a.limiting).limit a.h.replaced) (handled_by a.h (operator_of a.limiting).limit) (cleared_not a.h (operator_of a.limiting).limit c.if-h.false) _ _ _ _ _ _ c.add_sort_above-s.ensures
+returns-else-h c = let a = c.args in maps_as (sorted_by a.h.entries (operator_of a.limiting.node).limit a.h.replaced) (handled_by a.h (operator_of a.limiting.node).limit) (cleared_not a.h (operator_of a.limiting.node).limit c.if-h.false) _ _ _ _ _ _ c.add_sort_above-s.ensures

@@ -9,23 +9,23 @@ use Rattle.exchange.proofs.Replaced.{heads_other, heads_merge, heads_limit, put_
 use Rattle.exchange.proofs.replace.put_in_place.Goals as goal
 
 pub put_node-requires : goal.put_node-requires
-put_node-requires c = omega (arith, ap length (heads_other c.args.n c.args.children c.if-n-ne-MERGE.true))
+put_node-requires c = omega (arith, ap length (heads_other c.args.n.node c.args.children c.if-n-ne-MERGE.true))
 
 pub returns-then-n-ne-MERGE : goal.returns-then-n-ne-MERGE
-returns-then-n-ne-MERGE c = put_one _ _ _ _ _ _ (relaxed_or (operator_of c.args.n)) (heads_other c.args.n c.args.children c.if-n-ne-MERGE.true) c.relaxed.ensures c.put_node.ensures
+returns-then-n-ne-MERGE c = put_one _ _ _ _ _ _ (relaxed_or (operator_of c.args.n.node)) (heads_other c.args.n.node c.args.children c.if-n-ne-MERGE.true) c.relaxed.ensures c.put_node.ensures
 
-pub put_node-requires-then-n-eq0 : goal.put_node-requires-then-n-eq0
-put_node-requires-then-n-eq0 c = omega (arith, ap length (heads_merge c.args.n c.args.children c.if-n-ne-MERGE.false c.if-n-eq0.true))
+pub put_node-requires-then-n-eq-NO_LIMIT : goal.put_node-requires-then-n-eq-NO_LIMIT
+put_node-requires-then-n-eq-NO_LIMIT c = omega (arith, ap length (heads_merge c.args.n.node c.args.children c.if-n-ne-MERGE.false c.if-n-eq-NO_LIMIT.true))
 
-pub returns-then-n-eq0 : goal.returns-then-n-eq0
-returns-then-n-eq0 c = put_one _ _ _ _ _ _ (coalesced (operator_of c.args.n)) (heads_merge c.args.n c.args.children c.if-n-ne-MERGE.false c.if-n-eq0.true) c.coalesced.ensures c.put_node-then-n-eq0.ensures
+pub returns-then-n-eq-NO_LIMIT : goal.returns-then-n-eq-NO_LIMIT
+returns-then-n-eq-NO_LIMIT c = put_one _ _ _ _ _ _ (coalesced (operator_of c.args.n.node)) (heads_merge c.args.n.node c.args.children c.if-n-ne-MERGE.false c.if-n-eq-NO_LIMIT.true) c.coalesced.ensures c.put_node-then-n-eq-NO_LIMIT.ensures
 
 pub put_node-requires-2 : goal.put_node-requires-2
-put_node-requires-2 c = omega (arith, ap length (heads_limit c.args.n c.args.children c.if-n-ne-MERGE.false c.if-n-eq0.false))
+put_node-requires-2 c = omega (arith, ap length (heads_limit c.args.n.node c.args.children c.if-n-ne-MERGE.false c.if-n-eq-NO_LIMIT.false))
 
 pub put_node-requires-3 : goal.put_node-requires-3
-put_node-requires-3 c = omega (arith, ap length (heads_limit c.args.n c.args.children c.if-n-ne-MERGE.false c.if-n-eq0.false), c.put_node-2.auto.rows)
+put_node-requires-3 c = omega (arith, ap length (heads_limit c.args.n.node c.args.children c.if-n-ne-MERGE.false c.if-n-eq-NO_LIMIT.false), c.put_node-2.auto.rows)
 
 pub returns : goal.returns
-returns c = put_two _ _ _ _ _ _ _ _ (merge_sort (operator_of c.args.n)) (coalesced (operator_of c.args.n)) (heads_limit c.args.n c.args.children c.if-n-ne-MERGE.false c.if-n-eq0.false) c.sorted.ensures c.coalesced-2.ensures
+returns c = put_two _ _ _ _ _ _ _ _ (merge_sort (operator_of c.args.n.node)) (coalesced (operator_of c.args.n.node)) (heads_limit c.args.n.node c.args.children c.if-n-ne-MERGE.false c.if-n-eq-NO_LIMIT.false) c.sorted.ensures c.coalesced-2.ensures
     c.put_node-2.ensures c.put_node-3.ensures

@@ -10,5 +10,5 @@ use Rattle.forms.proofs.relationship.any_givable.Given as goal
 
 abbrev pub invariant-loop-i : goal.invariant-loop-i
 invariant-loop-i l =
-    any_turn (map fact_row l.xs.rows.now) (turns_by 1 l.mask (asked_needs l.asks) l.forms)
-    ≡ any_turn (map fact_row l.xs.rows.now) (turns_by (l.i + 1) l.m (asked_needs (drop l.i l.asks)) (drop l.i l.forms))
+    any_turn (map fact_row l.xs.rows.now) (turns_by 1 l.mask (asked_needs l.asks.list.now) l.forms.list.now)
+    ≡ any_turn (map fact_row l.xs.rows.now) (turns_by (l.i + 1) l.m (asked_needs (drop l.i l.asks.list.now)) (drop l.i l.forms.list.now))

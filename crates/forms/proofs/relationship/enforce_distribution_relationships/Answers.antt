@@ -14,16 +14,16 @@ use mathlib.Core.Bool.{not}
 use Rattle.forms.proofs.relationship.enforce_distribution_relationships.Goals as goal
 
 pub returns-then-left-eq0 : goal.returns-then-left-eq0
-returns-then-left-eq0 c = λ cs s. let a = c.args in let l = c.loop-mask in rounds_spent (map fact_row a.xs.rows.now) a.masks.now (asked_needs a.asks.now) l.forms l.mask l.invariant.2 l.left c.loop-mask-test.true c.if-left-eq0.true ∙ sym l.invariant.3 ∙ enforce_same (map fact_row a.xs.rows.now) a.masks.now s
+returns-then-left-eq0 c = λ cs s. let a = c.args in let l = c.loop-mask in rounds_spent (map fact_row a.xs.rows.now) a.masks.now (asked_needs a.asks.list.now) l.forms l.mask l.invariant.2 l.left c.loop-mask-test.true c.if-left-eq0.true ∙ sym l.invariant.3 ∙ enforce_same (map fact_row a.xs.rows.now) a.masks.now s
 
 pub returns-then-not-any_givable : goal.returns-then-not-any_givable
-returns-then-not-any_givable c = λ cs s. let a = c.args in let l = c.loop-mask in rounds_stuck (map fact_row a.xs.rows.now) a.masks.now (asked_needs a.asks.now) l.forms l.mask l.invariant.2 l.left c.loop-mask-test.true (refused _ _ c.any_givable.ensures (ap not c.if-not-any_givable.true)) ∙ sym l.invariant.3 ∙ enforce_same (map fact_row a.xs.rows.now) a.masks.now s
+returns-then-not-any_givable c = λ cs s. let a = c.args in let l = c.loop-mask in rounds_stuck (map fact_row a.xs.rows.now) a.masks.now (asked_needs a.asks.list.now) l.forms l.mask l.invariant.2 l.left c.loop-mask-test.true (refused _ _ c.any_givable.ensures (ap not c.if-not-any_givable.true)) ∙ sym l.invariant.3 ∙ enforce_same (map fact_row a.xs.rows.now) a.masks.now s
 
 pub returns-in_err-ok_or : goal.returns-in_err-ok_or
 returns-in_err-ok_or c = λ cs s. let a = c.args in let l = c.loop-mask in
     let p = err_from_is_err_and c.from_residual.result c.from_residual.ensures.1 in
     let q = ok_or_missing _ _ _ (sym c.ok_or.ensures.value ∙ c.in_err-ok_or.was) in
-    rw (p.1, p.2, q.1) (rounds_lacking (map fact_row a.xs.rows.now) a.masks.now (asked_needs a.asks.now) l.forms l.mask l.invariant.2 l.left c.loop-mask-test.true c.if-left-eq0.false (held _ _ c.any_givable.ensures (ap not c.if-not-any_givable.false))
+    rw (p.1, p.2, q.1) (rounds_lacking (map fact_row a.xs.rows.now) a.masks.now (asked_needs a.asks.list.now) l.forms l.mask l.invariant.2 l.left c.loop-mask-test.true c.if-left-eq0.false (held _ _ c.any_givable.ensures (ap not c.if-not-any_givable.false))
     (round_lacking _ _ _ q.0 c.round.ensures.forms_after) ∙ sym l.invariant.3 ∙ enforce_same (map fact_row a.xs.rows.now) a.masks.now s)
 
 pub loop-mask-preserved : goal.loop-mask-preserved
@@ -32,9 +32,9 @@ loop-mask-preserved c = let a = c.args in let l = c.loop-mask in (
   c.round.ensures.small,
   c.unsatisfied_at-mask-in-loop-mask.ensures ∙ ap (λ (k : ℕ). unsatisfied_at a.masks.now k) c.given_set-in-loop-mask.ensures,
   l.invariant.3
-      ∙ rounds_turn (map fact_row a.xs.rows.now) a.masks.now (asked_needs a.asks.now) l.forms l.mask l.invariant.2 l.left _ c.loop-mask-test.true c.if-left-eq0.false
+      ∙ rounds_turn (map fact_row a.xs.rows.now) a.masks.now (asked_needs a.asks.list.now) l.forms l.mask l.invariant.2 l.left _ c.loop-mask-test.true c.if-left-eq0.false
       (held _ _ c.any_givable.ensures (ap not c.if-not-any_givable.false)) (round_done _ _ _ _ (ok_or_done _ _ _ (sym c.ok_or.ensures.value ∙ c.in_ok-ok_or.was)) c.round.ensures.forms_after),
 )
 
 pub returns : goal.returns
-returns c = λ cs s. let a = c.args in let l = c.loop-mask in rounds_done (map fact_row a.xs.rows.now) a.masks.now (asked_needs a.asks.now) l.forms l.mask l.invariant.2 l.left c.loop-mask-test.false ∙ sym l.invariant.3 ∙ enforce_same (map fact_row a.xs.rows.now) a.masks.now s
+returns c = λ cs s. let a = c.args in let l = c.loop-mask in rounds_done (map fact_row a.xs.rows.now) a.masks.now (asked_needs a.asks.list.now) l.forms l.mask l.invariant.2 l.left c.loop-mask-test.false ∙ sym l.invariant.3 ∙ enforce_same (map fact_row a.xs.rows.now) a.masks.now s

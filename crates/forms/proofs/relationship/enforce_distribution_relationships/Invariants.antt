@@ -11,7 +11,7 @@ use Rattle.forms.proofs.relationship.enforce_distribution_relationships.Given as
 
 abbrev pub invariant-loop-mask : goal.invariant-loop-mask
 invariant-loop-mask l = (length l.forms ≡ length l.initial.forms) × ((k : ℕ) → k < length l.forms → get_or l.forms k 0 ≤ 15) × (l.mask ≡ unsatisfied_at l.masks (set_of l.forms))
-    × (rounds_by (map fact_row l.xs.rows.now) l.masks (asked_needs l.asks) (length (asked_needs l.asks)) l.initial.forms ≡ rounds_by (map fact_row l.xs.rows.now) l.masks (asked_needs l.asks) l.left l.forms)
+    × (rounds_by (map fact_row l.xs.rows.now) l.masks (asked_needs l.asks.list.now) (length (asked_needs l.asks.list.now)) l.initial.forms ≡ rounds_by (map fact_row l.xs.rows.now) l.masks (asked_needs l.asks.list.now) l.left l.forms)
 
 abbrev pub decreases-loop-mask : goal.decreases-loop-mask
 decreases-loop-mask l = l.left

@@ -8,13 +8,13 @@ use Rattle.forms.proofs.relationship.given_set.Goals as goal
 
 pub loop-i-init : goal.loop-i-init
 unfolding set_of
-loop-i-init c = sym (ap set_of (drop_of_length-le c.args.forms.now {i = length c.args.forms.now} (omega arith)))
+loop-i-init c = sym (ap set_of (drop_of_length-le c.args.forms.list.now {i = length c.args.forms.list.now} (omega arith)))
 
 pub overflow_mul-set : goal.overflow_mul-set
-overflow_mul-set c = let l = c.loop-i in omega (arith, l.invariant, set_small c.args.forms.now c.requires.0 c.requires.1 l.i c.loop-i-test.true (omega arith))
+overflow_mul-set c = let l = c.loop-i in omega (arith, l.invariant, set_small c.args.forms.list.now c.args.forms.few c.args.forms.small l.i c.loop-i-test.true (omega arith))
 
 pub overflow_add-set : goal.overflow_add-set
-overflow_add-set c = let l = c.loop-i in omega (arith, l.invariant, c.relationship_of.ensures, set_small c.args.forms.now c.requires.0 c.requires.1 l.i c.loop-i-test.true (omega arith))
+overflow_add-set c = let l = c.loop-i in omega (arith, l.invariant, c.relationship_of.ensures, set_small c.args.forms.list.now c.args.forms.few c.args.forms.small l.i c.loop-i-test.true (omega arith))
 
 pub loop-i-preserved : goal.loop-i-preserved
-loop-i-preserved c = let l = c.loop-i in omega (arith, l.invariant, c.relationship_of.ensures, set_turn c.args.forms.now c.requires.0 c.requires.1 l.i c.loop-i-test.true (omega arith))
+loop-i-preserved c = let l = c.loop-i in omega (arith, l.invariant, c.relationship_of.ensures, set_turn c.args.forms.list.now c.args.forms.few c.args.forms.small l.i c.loop-i-test.true (omega arith))

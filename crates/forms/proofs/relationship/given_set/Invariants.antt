@@ -5,4 +5,4 @@ use Rattle.exchange.specs.Turns.{set_of}
 use Rattle.forms.proofs.relationship.given_set.Given as goal
 
 abbrev pub invariant-loop-i : goal.invariant-loop-i
-invariant-loop-i l = l.set ≡ set_of (drop l.i l.forms)
+invariant-loop-i l = l.set ≡ set_of (drop l.i l.forms.list.now)

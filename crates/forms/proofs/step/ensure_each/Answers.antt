@@ -24,24 +24,24 @@ stepped s w aligned rows a = formed (ensure_child s (worked_for w) (node_for w) 
 pub returns-in_err-forms : goal.returns-in_err-forms
 returns-in_err-forms c = let a = c.args in let l = c.loop-i in
     let go = stepped a.s a.w a.aligned a.xs.rows.now in
-    let rest = each_form go (drop (l.i + 1) a.asks.now) in
-    let e = c.ensure_child.ensures (worked_for a.w) (node_for a.w) (child_for (get_or a.asks.now l.i no_child)) (record { kind = refl; facts = refl }) (record { number = refl; need = refl; count = refl; facts = refl }) in
+    let rest = each_form go (drop (l.i + 1) a.asks.list.now) in
+    let e = c.ensure_child.ensures (worked_for a.w) (node_for a.w) (child_for (get_or a.asks.list.now l.i no_child)) (record { kind = refl; facts = refl }) (record { number = refl; need = refl; count = refl; facts = refl }) in
     rw c.from_residual.ensures (each_missing _ (take l.i l.forms) rest
-    (l.invariant.1 ∙ ap (prepend (take l.i l.forms)) (each_cons go a.asks.now l.i no_child c.loop-i-test.true)
+    (l.invariant.1 ∙ ap (prepend (take l.i l.forms)) (each_cons go a.asks.list.now l.i no_child c.loop-i-test.true)
     ∙ ap (λ (o : Answer ℕ). prepend (take l.i l.forms) (with_forms o rest)) (sym e ∙ c.in_err-forms.was)))
 
 pub loop-i-preserved : goal.loop-i-preserved
 loop-i-preserved c = let a = c.args in let l = c.loop-i in
     let go = stepped a.s a.w a.aligned a.xs.rows.now in
-    let rest = each_form go (drop (l.i + 1) a.asks.now) in
-    let e = c.ensure_child.ensures (worked_for a.w) (node_for a.w) (child_for (get_or a.asks.now l.i no_child)) (record { kind = refl; facts = refl }) (record { number = refl; need = refl; count = refl; facts = refl }) in (
+    let rest = each_form go (drop (l.i + 1) a.asks.list.now) in
+    let e = c.ensure_child.ensures (worked_for a.w) (node_for a.w) (child_for (get_or a.asks.list.now l.i no_child)) (record { kind = refl; facts = refl }) (record { number = refl; need = refl; count = refl; facts = refl }) in (
       simp length-set l.invariant.0,
-      each_turn _ l.forms l.i c.in_ok-forms.field-0 (omega (arith, l.invariant.0, c.requires.forms_len)) rest
-          (l.invariant.1 ∙ ap (prepend (take l.i l.forms)) (each_cons go a.asks.now l.i no_child c.loop-i-test.true)
+      each_turn _ l.forms l.i c.in_ok-forms.field-0 (omega (arith, l.invariant.0, c.requires)) rest
+          (l.invariant.1 ∙ ap (prepend (take l.i l.forms)) (each_cons go a.asks.list.now l.i no_child c.loop-i-test.true)
           ∙ ap (λ (o : Answer ℕ). prepend (take l.i l.forms) (with_forms o rest)) (sym e ∙ c.in_ok-forms.was)),
     )
 
 pub returns : goal.returns
 returns c = let a = c.args in let l = c.loop-i in
-    let all : take l.i l.forms ≡ l.forms = take_all l.i l.forms (omega (arith, l.invariant.0, c.requires.forms_len, c.loop-i-test.false)) in
-    rw all at (each_end _ (take l.i l.forms) (l.invariant.1 ∙ ap (prepend (take l.i l.forms)) (each_nil (stepped a.s a.w a.aligned a.xs.rows.now) a.asks.now l.i c.loop-i-test.false)))
+    let all : take l.i l.forms ≡ l.forms = take_all l.i l.forms (omega (arith, l.invariant.0, c.requires, c.loop-i-test.false)) in
+    rw all at (each_end _ (take l.i l.forms) (l.invariant.1 ∙ ap (prepend (take l.i l.forms)) (each_nil (stepped a.s a.w a.aligned a.xs.rows.now) a.asks.list.now l.i c.loop-i-test.false)))
