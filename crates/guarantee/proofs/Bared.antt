@@ -6,7 +6,7 @@ use mathlib.Core.Logic.{inl, inr}
 use mathlib.Core.Option.{some}
 use mathlib.Core.List.{List, [], ◌∷◌, ◌++◌}
 use lib.Dec.{eqb, leb}
-use Rattle.exchange.specs.Trees.{node, none, ◌∷ᶠ◌, ◌++ᶠ◌, root, trees, Operator, Plan, Plans}
+use Rattle.exchange.specs.Trees.{node, none, ◌∷ᶠ◌, ◌++ᶠ◌, trees, Operator, Plan, Plans}
 use Rattle.exchange.specs.Facts.{row_of}
 use Rattle.exchange.specs.Operators.{is_single, is_keyed}
 use Rattle.exchange.specs.States.{Child, need_of}
@@ -43,9 +43,6 @@ abbrev mutual
   bareds : Plans → Plans
   bareds none = none
   bareds (t ∷ᶠ ts) = bared t ∷ᶠ bareds ts
-
-root_bared : (t : Plan) → root (bared t) ≡ bare (root t)
-root_bared (node o ts) = refl
 
 below_bared : (t : Plan) → below (bared t) ≡ bareds (below t)
 below_bared (node o ts) = refl

@@ -4,7 +4,6 @@ use mathlib.Core.Path.{◌≡◌, refl}
 use mathlib.Core.Bool.{Bool, true, false, cond}
 use mathlib.Core.List.{List, [], ◌∷◌}
 use lib.ListN.{length}
-use native.Mathlib.Omega.{arith}
 use Rattle.keys.proofs.Truths.{and_both}
 use Rattle.exchange.specs.Trees.{node, none, ◌∷ᶠ◌, root, Operator, Plan}
 use Rattle.exchange.specs.Operators.{track}
@@ -45,7 +44,7 @@ only_had x = go x.plan
 
     go : (t : Plan) → is_leaf (below t) ≡ true → needs_had x (children_from 1 (below (remove_dist_changing_operators t)) x.facts.children) (below (update_children t)) ≡ true
     go (node o none) l = by o (is_removed o)
-    go (node o (t ∷ᶠ ts)) l = let z : ◌≡◌ {A = ℕ} 0 1 = cc in absurd (omega arith)
+    go (node o (t ∷ᶠ ts)) l = absurd (cc)
 
 pub plan_partitioning_had : (x : PlanSheet) (r : Answer) → Answered x r → PartitioningHad x r.plan
 unfolding finished

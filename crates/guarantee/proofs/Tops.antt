@@ -63,9 +63,6 @@ tops_handled s b w n d = measure_handled new_on_top d (tops_replaced d.plan) top
 
 -- ---- topmost and beneath new sorts
 
-never_two : {A : Type 0} → ◌≡◌ {A = ℕ} 0 2 → A
-never_two e = absurd (omega arith)
-
 mutual
   unfolding new_on_top beneath_sorts
 
@@ -76,12 +73,12 @@ mutual
           → (topmost (new_on_first ts) ≡ 2 → is_new_keyed (beneath_first o ts) ≡ true)
           → topmost (cond i (cond a [] (cond b 2 (cond c 3 1) ∷ []) ++ new_on_first ts) []) ≡ 2
           → is_new_keyed (cond (a && i) (beneath_first o ts) o) ≡ true
-      go false e a f b g c h k = never_two k
+      go false e a f b g c h k = absurd (omega arith)
       go true e true f b g c h k = h k
       go true e false f true g c h k = rw (g, e)
       go true e false f false g true h k = absurd (omega arith)
       go true e false f false g false h k = absurd (omega arith)
 
   keyed_first : (o : Operator) (ts : Plans) → topmost (new_on_first ts) ≡ 2 → is_new_keyed (beneath_first o ts) ≡ true
-  keyed_first o none e = never_two e
+  keyed_first o none e = absurd (omega arith)
   keyed_first o (t ∷ᶠ ts) e = keyed_topmost t e

@@ -34,12 +34,12 @@ pub record Went {A : Type 0} (r : Run) (rest : List (List Field) → ℕ → ℕ
   pub on : rest rows line place lines ≡ sheet g
 
 pub went : {A : Type 0} (r : Run) (rest : List (List Field) → ℕ → ℕ → List (List ℕ) → Reading A) (g : A) → with_rows r rest ≡ sheet g → Went r rest g
-went (refused n l) rest g e = let z : ◌≡◌ {A = ℕ} 0 1 = cc in absurd (omega arith)
+went (refused n l) rest g e = absurd (cc)
 went (read rs ls l p) rest g e = record { rows = rs; lines = ls; line = l; place = p; was = refl; on = e }
 
 pub tested : {A : Type 0} (t : Bool) (y x : A) (n l : ℕ) → cond t (sheet y) (turned n l) ≡ sheet x → (t ≡ true) × (y ≡ x)
 tested true y x n l e = (refl, cc)
-tested false y x n l e = let z : ◌≡◌ {A = ℕ} 0 1 = cc in absurd (omega arith)
+tested false y x n l e = absurd (cc)
 
 abbrev pub fact_lines_of : List Field → List (List Field) → List (List Field) → List Field → FactLines
 fact_lines_of b fs xs y = record { node = b; children = fs; rows = xs; masks = y }

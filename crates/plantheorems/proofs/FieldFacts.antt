@@ -38,7 +38,7 @@ value_at_lem b malformed e = omega arith
 pub fits_value : (bs : List Bound) (fs : List Field) → fits bs fs ≡ true → (i : ℕ) → at fs i ≤ get_or (largest_of bs) i 0
 unfolding fits
 fits_value [] [] e i = omega arith
-fits_value [] (f ∷ fs) e i = let z : ◌≡◌ {A = ℕ} 0 1 = cc in absurd (omega arith)
+fits_value [] (f ∷ fs) e i = absurd (cc)
 fits_value (b ∷ bs) [] e i = omega arith
 fits_value (b ∷ bs) (f ∷ fs) e zero = value_at_lem b f (both (allows b f) (fits bs fs) e).0
 fits_value (b ∷ bs) (f ∷ fs) e (suc i) = fits_value bs fs (both (allows b f) (fits bs fs) e).1 i

@@ -141,7 +141,7 @@ small_at_lem malformed e = omega arith
 plain_small : (n : ℕ) (fs : List Field) → fits (replicate n plain) fs ≡ true → Each Small (values fs)
 unfolding fits
 plain_small n [] e = tt
-plain_small zero (f ∷ fs) e = let z : ◌≡◌ {A = ℕ} 0 1 = cc in absurd (omega arith)
+plain_small zero (f ∷ fs) e = absurd (cc)
 plain_small (suc n) (f ∷ fs) e = let p = both (allows plain f) (fits (replicate n plain) fs) e in (small_at_lem f p.0, plain_small n fs p.1)
 
 pub masks_small : (n : ℕ) (y : List Field) → Fine (mask_line n) y → Each Small (values y)

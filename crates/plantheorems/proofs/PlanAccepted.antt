@@ -46,8 +46,8 @@ pub record Accepted (s : List ℕ) (x : PlanSheet) : Type 0 where
 
 made_at : {A : Type 0} (a b : Bool) (y x : A) → cond a (cond b (sheet y) (turned 8 0)) (turned 7 0) ≡ sheet x → (a ≡ true) × (b ≡ true) × (y ≡ x)
 made_at true true y x e = (refl, refl, cc)
-made_at true false y x e = let z : ◌≡◌ {A = ℕ} 0 1 = cc in absurd (omega arith)
-made_at false b y x e = let z : ◌≡◌ {A = ℕ} 0 1 = cc in absurd (omega arith)
+made_at true false y x e = absurd (cc)
+made_at false b y x e = absurd (cc)
 
 record Made (d : List Field) (t : Plan) (r : Reading FactLines) (x : PlanSheet) : Type 0 where
   lines : FactLines
@@ -57,7 +57,7 @@ record Made (d : List Field) (t : Plan) (r : Reading FactLines) (x : PlanSheet) 
   fit : facts_fit x.settings x.facts x.plan ≡ true
 
 made : (d : List Field) (t : Plan) (r : Reading FactLines) (x : PlanSheet) → with_facts (settings_of (values d)) t r ≡ sheet x → Made d t r x
-made d t (turned n l) x e = let z : ◌≡◌ {A = ℕ} 0 1 = cc in absurd (omega arith)
+made d t (turned n l) x e = absurd (cc)
 made d t (sheet g) x e =
     let y : PlanSheet = plan_sheet (settings_of (values d)) t g in
     let p = made_at (settings_fit y.settings) (facts_fit y.settings y.facts y.plan) y x e in

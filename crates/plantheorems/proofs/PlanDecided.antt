@@ -4,7 +4,6 @@
 use mathlib.Core.Path.{◌≡◌, refl, sym, ap, ◌∙◌}
 use mathlib.Core.Logic.{inl, inr, ◌↔◌}
 use Prim.Native.Nat.{ℕ}
-use native.Mathlib.Omega.{arith}
 use mathlib.Core.List.{List}
 use Rattle.exchange.specs.Ensure.{Ensured, missing_row, unenforceable, answered, ensured}
 use Rattle.sheet.specs.KeySheets.{Reading, sheet, turned}
@@ -24,7 +23,7 @@ module _ (s : List ℕ) where
   work_by : (x : PlanSheet) (e : Ensured) (n l : ℕ) → read_plan s ≡ sheet x → ensured x.settings x.facts x.plan ≡ e → distributed e ≡ refused n l → DecisionTurned s n l
   work_by x missing_row n l r q h = inr (inl (record { is = x; reads = r; missing = q; number = cc; line = cc }))
   work_by x unenforceable n l r q h = inr (inr (record { is = x; reads = r; rounds = q; number = cc; line = cc }))
-  work_by x (answered a) n l r q h = let z : ◌≡◌ {A = ℕ} 0 1 = cc in absurd (omega arith)
+  work_by x (answered a) n l r q h = absurd (cc)
 
   turned_by : (r : Reading PlanSheet) (n l : ℕ) → read_plan s ≡ r → plan_outcome r ≡ refused n l → DecisionTurned s n l
   turned_by (turned m k) n l r h =
@@ -46,12 +45,12 @@ module _ (s : List ℕ) where
 
   answer_by_lem : (x : PlanSheet) (e : Ensured) (bytes : List ℕ) → read_plan s ≡ sheet x → ensured x.settings x.facts x.plan ≡ e → distributed e ≡ wrote bytes
       → PlanAnswered s bytes
-  answer_by_lem x missing_row bytes r q h = let z : ◌≡◌ {A = ℕ} 0 1 = cc in absurd (omega arith)
-  answer_by_lem x unenforceable bytes r q h = let z : ◌≡◌ {A = ℕ} 0 1 = cc in absurd (omega arith)
+  answer_by_lem x missing_row bytes r q h = absurd (cc)
+  answer_by_lem x unenforceable bytes r q h = absurd (cc)
   answer_by_lem x (answered a) bytes r q h = record { is = x; reads = r; answer = a; answers = q; text = cc }
 
   answered_by_lem : (r : Reading PlanSheet) (bytes : List ℕ) → read_plan s ≡ r → plan_outcome r ≡ wrote bytes → PlanAnswered s bytes
-  answered_by_lem (turned m k) bytes r h = let z : ◌≡◌ {A = ℕ} 0 1 = cc in absurd (omega arith)
+  answered_by_lem (turned m k) bytes r h = absurd (cc)
   answered_by_lem (sheet x) bytes r h = answer_by_lem x (ensured x.settings x.facts x.plan) bytes r refl h
 
   pub decision_answered_exactly : (bytes : List ℕ) → (plan_decision s ≡ wrote bytes) ↔ PlanAnswered s bytes

@@ -3,7 +3,6 @@
 use mathlib.Core.Path.{◌≡◌, refl, sym, ap, ◌∙◌}
 use mathlib.Core.Logic.{inl, inr, ◌↔◌}
 use Prim.Native.Nat.{ℕ, suc}
-use native.Mathlib.Omega.{arith}
 use mathlib.Core.List.{List, [], ◌∷◌, ◌++◌}
 use mathlib.Core.Bool.{Bool, true, false, cond}
 use lib.Dec.{eqb}
@@ -118,7 +117,7 @@ module _ (s : List ℕ) where
 
   first_line : (n l : ℕ) → TurnedBack (plan_numbers s) true n l → FirstLine 1 (plan_numbers s) n l
   first_line n l (inl f) = f
-  first_line n l (inr w) = let e = w.unfit in let z : ◌≡◌ {A = ℕ} 0 1 = cc in absurd (omega arith)
+  first_line n l (inr w) = let e = w.unfit in absurd (cc)
 
   by_line : (n l : ℕ) → from_lines ≡ turned n l → FirstLine 1 (plan_numbers s) n l
   by_line n l e = first_line n l ((refused_exactly from_lines (plan_numbers s) true (plan_sheet_in s) refl n l).0 e)
@@ -132,7 +131,7 @@ module _ (s : List ℕ) where
   -- ---- refused
 
   sheet_by_lem : (a b : Bool) (n l : ℕ) → NoLine (plan_numbers s) → plan_settings_fit s ≡ a → plan_facts_fit s ≡ b → cond a (cond b (sheet (plan_sheet_in s)) (turned 8 0)) (turned 7 0) ≡ turned n l → PlanTurned s n l
-  sheet_by_lem true true n l h p q e = let z : ◌≡◌ {A = ℕ} 0 1 = cc in absurd (omega arith)
+  sheet_by_lem true true n l h p q e = absurd (cc)
   sheet_by_lem true false n l h p q e = inr (inr (record { lines = h; settings = p; unfit = q; number = cc; line = cc }))
   sheet_by_lem false b n l h p q e = inr (inl (record { lines = h; unfit = p; number = cc; line = cc }))
 
@@ -158,13 +157,13 @@ module _ (s : List ℕ) where
 
   made_at : (a b : Bool) (x : PlanSheet) → plan_settings_fit s ≡ a → plan_facts_fit s ≡ b → cond a (cond b (sheet (plan_sheet_in s)) (turned 8 0)) (turned 7 0) ≡ sheet x → (plan_settings_fit s ≡ true) × (plan_facts_fit s ≡ true) × (plan_sheet_in s ≡ x)
   made_at true true x p q e = (p, q, cc)
-  made_at true false x p q e = let z : ◌≡◌ {A = ℕ} 0 1 = cc in absurd (omega arith)
-  made_at false b x p q e = let z : ◌≡◌ {A = ℕ} 0 1 = cc in absurd (omega arith)
+  made_at true false x p q e = absurd (cc)
+  made_at false b x p q e = absurd (cc)
 
   taken_by :
       (r : Reading PlanSheet) (x : PlanSheet) → from_lines ≡ r → then r judged_plan ≡ sheet x →
       NoLine (plan_numbers s) × (plan_settings_fit s ≡ true) × (plan_facts_fit s ≡ true) × (plan_sheet_in s ≡ x)
-  taken_by (turned m k) x q e = let z : ◌≡◌ {A = ℕ} 0 1 = cc in absurd (omega arith)
+  taken_by (turned m k) x q e = absurd (cc)
   taken_by (sheet y) x q e =
       let p = no_line y q in
       let m = made_at (plan_settings_fit s) (plan_facts_fit s) x refl refl (ap judged_plan p.1 ∙ e) in

@@ -4,8 +4,9 @@ use mathlib.Core.Path.{◌≡◌, refl, sym, subst}
 use Prim.Native.Nat.{ℕ, zero, suc, ◌≤◌}
 use native.Mathlib.Omega.{arith}
 use mathlib.Core.List.{List, [], ◌∷◌}
-use mathlib.Core.Bool.{Bool, true, false, cond, ◌&&◌, ◌||◌}
+use mathlib.Core.Bool.{true, false, cond, ◌||◌}
 use lib.Dec.{eqb, leb}
+use Rattle.std.proofs.lemmas.Bool.{and_right}
 use borrow.Author.Tests.{eqb-true, ne_eqb, leb-true}
 use Rattle.text.proofs.Exact.{both}
 use Rattle.exchange.specs.Trees.{node, none, ◌∷ᶠ◌, trees, root, Operator, Plan, Plans}
@@ -48,30 +49,21 @@ owned = every_gives Placed Owned Owneds (λ o ts h k. (owns o h, k)) tt (λ t ts
 -- ---- one child
 
 one_at :
-    (kind n : ℕ) (a b c d : Bool) → eqb kind 5 ≡ a → eqb kind 6 ≡ b → eqb kind 0 ≡ c → eqb kind 9 ≡ d → 1 ≤ kind → kind ≤ 4 →
-    cond (a || b) (eqb n 2) (cond (c || d) (leb n 8) (eqb n 1)) ≡ true → n ≡ 1
-one_at kind n true b c d p q r s low high e = let z = eqb-true kind 5 p in absurd (omega arith)
-one_at kind n false true c d p q r s low high e = let z = eqb-true kind 6 q in absurd (omega arith)
-one_at kind n false false true d p q r s low high e = let z = eqb-true kind 0 r in absurd (omega arith)
-one_at kind n false false false true p q r s low high e = let z = eqb-true kind 9 s in absurd (omega arith)
-one_at kind n false false false false p q r s low high e = eqb-true n 1 e
+    (kind n : ℕ) → 1 ≤ kind → kind ≤ 4 → cond (eqb kind 5 || eqb kind 6) (eqb n 2) (cond (eqb kind 0 || eqb kind 9) (leb n 8) (eqb n 1)) ≡ true → n ≡ 1
+one_at kind n low high e = eqb-true n 1 (rw (ne_eqb kind 5 (λ z. omega arith), ne_eqb kind 6 (λ z. omega arith), ne_eqb kind 0 (λ z. omega arith), ne_eqb kind 9 (λ z. omega arith)) at e)
 
 suits_one : (o : Operator) (n : ℕ) → LegalOperator o n → is_dist_changing o ≡ true → n ≡ 1
 suits_one o n l e =
     let p = both (leb 1 o.kind) (leb o.kind 4) e in
-    one_at o.kind n (eqb o.kind 5) (eqb o.kind 6) (eqb o.kind 0) (eqb o.kind 9) refl refl refl refl (leb-true 1 o.kind p.0) (leb-true o.kind 4 p.1) l.children
+    one_at o.kind n (leb-true 1 o.kind p.0) (leb-true o.kind 4 p.1) l.children
 
 one_below : (t : Plan) → Every LegalOperator t → OneBelow t
 one_below = every_gives LegalOperator OneBelow OneBelows (λ o ts h k. (suits_one o (trees ts) h, k)) tt (λ t ts h k. (h, k))
 
 -- ---- no sort on the sheet counts as one that was put in
 
-added_at : (b : Bool) (id : ℕ) → 1 ≤ id → (b && eqb id 0) ≡ false
-added_at true id h = ne_eqb id 0 (λ z. omega arith)
-added_at false id h = refl
-
 root_placed : (t : Plan) → Every Placed t → is_added_sort (root t) ≡ false
-root_placed (node o ts) h = added_at (eqb o.kind 11) o.id h.0
+root_placed (node o ts) h = and_right (eqb o.kind 11) (eqb o.id 0) (ne_eqb o.id 0 (λ z. omega (arith, h.0)))
 
 none_added_lem : (n : ℕ) (ts : Plans) (fs : List ChildFacts) → Everys Placed ts → none_added (children_from n ts fs) ≡ true
 unfolding children_from none_added

@@ -6,9 +6,10 @@ use native.Mathlib.Omega.{arith}
 use mathlib.Core.List.{List, [], ◌∷◌}
 use mathlib.Core.Bool.{Bool, true, false, cond, ◌&&◌, ◌||◌}
 use mathlib.Core.Option.{Option, none, some}
-use lib.Dec.{eqb, ltb, leb}
+use lib.Dec.{eqb, leb}
 use lib.ListN.{length, get_or}
-use borrow.Author.Tests.{eqb-true, eqb-false, leb-true, leb-false, le-leb, lt-leb, le-ltb, not-false}
+use Rattle.std.proofs.lemmas.Bool.Decides.{nat_tests}
+use borrow.Author.Tests.{eqb-true, leb-true, leb-false, le-leb, lt-leb, le-ltb, not-false}
 use Rattle.text.specs.declared.field.Field.{Field}
 use Rattle.text.specs.declared.field.Field.TheVariants.{Number as number, Empty as empty, Malformed as malformed}
 use Rattle.text.specs.Text.{state_of, value_of}
@@ -36,16 +37,7 @@ use Rattle.plantheorems.proofs.FieldFacts.{largest_of, fits_value, over_value, b
 -- ---- the rule of children
 
 two_sided : (k n : ℕ) → (leb k n && leb n k) ≡ eqb n k
-two_sided k n = go (eqb n k) refl
-  where
-    go : (t : Bool) → eqb n k ≡ t → (leb k n && leb n k) ≡ t
-    go true t = let e = eqb-true n k t in rw (le-leb k n (omega arith), le-leb n k (omega arith))
-    go false t = apart (leb k n) (leb n k) refl refl
-      where
-        apart : (a b : Bool) → leb k n ≡ a → leb n k ≡ b → (a && b) ≡ false
-        apart true true p q = absurd (eqb-false n k t (omega (arith, leb-true k n p, leb-true n k q)))
-        apart true false p q = refl
-        apart false b p q = refl
+two_sided k n = grind (arith, nat_tests)
 
 pub rule_suits : (kind n : ℕ) → kind ≤ 11 → rule_fits child_rules kind n ≡ suits kind n
 rule_suits zero n h = rw (le-leb 0 n (omega arith))
@@ -86,20 +78,20 @@ unlimited_at kind malformed e = refl
 allows_at : (bs : List Bound) (fs : List Field) → fits bs fs ≡ true → (i : ℕ) → allows (get_or bs i plain) (get_or fs i (number 0)) ≡ true
 unfolding fits
 allows_at [] [] e i = refl
-allows_at [] (f ∷ fs) e i = let z : ◌≡◌ {A = ℕ} 0 1 = cc in absurd (omega arith)
-allows_at (b ∷ bs) [] e i = let z : ◌≡◌ {A = ℕ} 0 1 = cc in absurd (omega arith)
+allows_at [] (f ∷ fs) e i = absurd (cc)
+allows_at (b ∷ bs) [] e i = absurd (cc)
 allows_at (b ∷ bs) (f ∷ fs) e zero = (both (allows b f) (fits bs fs) e).0
 allows_at (b ∷ bs) (f ∷ fs) e (suc i) = allows_at bs fs (both (allows b f) (fits bs fs) e).1 i
 
 number_again : (f : Field) → allows plain f ≡ true → number (value_of f) ≡ f
 number_again (number n) e = refl
-number_again empty e = let z : ◌≡◌ {A = ℕ} 0 1 = cc in absurd (omega arith)
-number_again malformed e = let z : ◌≡◌ {A = ℕ} 0 1 = cc in absurd (omega arith)
+number_again empty e = absurd (cc)
+number_again malformed e = absurd (cc)
 
 limit_again : (f : Field) → allows limit f ≡ true → limit_field (cond (eqb (state_of f) 0) 1 0) (value_of f) ≡ f
 limit_again (number n) e = refl
 limit_again empty e = refl
-limit_again malformed e = let z : ◌≡◌ {A = ℕ} 0 1 = cc in absurd (omega arith)
+limit_again malformed e = absurd (cc)
 
 module _ (seen : ℕ) (fs : List Field) (fine : Fine (placed plan_line seen) fs) where
   line_fits : fits tree_shape.heads fs ≡ true
@@ -110,9 +102,6 @@ module _ (seen : ℕ) (fs : List Field) (fine : Fine (placed plan_line seen) fs)
 
   kinds : at fs 0 ≤ 11
   kinds = omega (arith, leb-false (length child_rules) (kind_at fs) (either_false (leb (length child_rules) (kind_at fs)) (over_any tree_shape.codes (values fs)) fine.defined).0)
-
-  pub line_seen : seen < most_lines
-  line_seen = leb-false most_lines seen (either_false (leb most_lines seen) (ltb most_children (children_at fs) || over_any tree_shape.sizes (values fs)) fine.small).0
 
   value : (i : ℕ) → at fs i ≤ get_or (largest_of tree_shape.heads) i 0
   value i = fits_value tree_shape.heads fs line_fits i
