@@ -1,12 +1,12 @@
 -- Numbers of a line, by its rows: one over the largest, three that are no expression.
 -- Assumes nothing.
-use Prim.Native.Nat.{ℕ, zero, suc, ◌-◌, ◌/◌}
+use Prim.Native.Nat.{ℕ, zero, suc, ◌/◌}
 use mathlib.Core.Path.{◌≡◌, refl, ap}
 use mathlib.Core.Bool.{Bool, true, false, not, ◌||◌}
 use mathlib.Core.List.{List, [], ◌∷◌}
 use native.Mathlib.Omega.{arith}
 use lib.Dec.{ltb}
-use lib.ListN.{length, get_or, take, drop, get_or-map}
+use lib.ListN.{length, get_or, get_or-map}
 use Rattle.std.specs.List.{Any, list_any}
 use Rattle.std.proofs.lemmas.List.Folds.{Any-from_list_any, list_any-from_Any}
 use Rattle.std.specs.Simd.{first_chunks}
@@ -44,10 +44,6 @@ threes_any (suc k) [] h = absurd (omega arith)
 threes_any (suc k) (a ∷ []) h = absurd (omega arith)
 threes_any (suc k) (a ∷ b ∷ []) h = absurd (omega arith)
 threes_any (suc k) (a ∷ b ∷ c ∷ rs) h = ap (λ (t : Bool). not (first_three (a ∷ b ∷ c ∷ [])) || t) (threes_any k rs (omega arith))
-
--- three rows, and what follows them
-abbrev pub later_rows : List (List ℕ) → List (List ℕ)
-later_rows rs = take (length rs - 3) (drop 3 rs)
 
 -- the numbers of rows, one by one
 pub row_value_lem : (rs : List (List ℕ)) (i : ℕ) → get_or (row_values rs) i 0 ≡ get_or (get_or rs i []) 1 0

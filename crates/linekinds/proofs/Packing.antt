@@ -1,37 +1,65 @@
 -- A turn of packing a line's numbers.
 -- Assumes nothing.
-use Prim.Native.Nat.{ℕ, zero, suc, ◌+◌, ◌-◌, ◌≤◌, ◌<◌}
+use Prim.Native.Nat.{ℕ, zero, suc, ◌+◌, ◌-◌, ◌/◌, ◌≤◌, ◌<◌}
 use mathlib.Core.Path.{◌≡◌, refl, sym, ap, ◌∙◌}
-use mathlib.Core.List.{List, [], ◌∷◌, ◌++◌, append_assoc, append-nil}
+use mathlib.Core.List.{List, [], ◌∷◌, ◌++◌, map}
 use native.Mathlib.Omega.{arith}
-use lib.ListN.{length, get_or, take, drop, set, length-drop, length-map}
+use lib.ListN.{length, get_or, take, drop, set, length-append, length-drop, length-map, get_or-map}
 use Rattle.keys.specs.Expressions.{packed}
-use Rattle.keys.proofs.Lists.{first_pushed}
 use Rattle.linekinds.specs.Reading.{row_value, row_values, packs, Small}
 use Rattle.std.specs.Prelude.{slice_index, slice_index_or}
-use lib.Seq.{take-length}
-use Rattle.std.proofs.lemmas.List.{drop-map}
-use Rattle.linekinds.proofs.Defined.{later_rows}
+use lib.Seq.{take-length, length-take-le, drop_at}
+use Rattle.std.specs.Simd.{first_chunks}
+use Rattle.std.proofs.lemmas.List.{drop-map, get_or-append_right}
 
 pub small_at : (ns : List ℕ) (i : ℕ) → Small ns → i < length ns → get_or ns i 0 < 65536
 small_at [] i h k = absurd (omega arith)
 small_at (n ∷ ns) zero h k = h.0
 small_at (n ∷ ns) (suc i) h k = small_at ns i h.1 (omega arith)
 
-packs_later : (rs : List (List ℕ)) → 3 ≤ length rs →
-    packs (row_values rs) ≡ packed (slice_index (slice_index_or rs 0 []) 1) (slice_index (slice_index_or rs 1 []) 1) (slice_index (slice_index_or rs 2 []) 1) ∷ packs (row_values (later_rows rs))
-unfolding packs
-packs_later [] h = absurd (omega arith)
-packs_later (a ∷ []) h = absurd (omega arith)
-packs_later (a ∷ b ∷ []) h = absurd (omega arith)
-packs_later (a ∷ b ∷ c ∷ rs) h = let n : length (a ∷ b ∷ c ∷ rs) - 3 ≡ length rs = omega arith in rw (n, take-length rs)
+-- three rows, packed
+abbrev pub pack_three : List (List ℕ) → ℕ
+pack_three rs = packed (slice_index (slice_index_or rs 0 []) 1) (slice_index (slice_index_or rs 1 []) 1) (slice_index (slice_index_or rs 2 []) 1)
 
-pub small_three : (rs : List (List ℕ)) → 3 ≤ length rs → Small (row_values rs) →
-    (slice_index (slice_index_or rs 0 []) 1 < 65536) × (slice_index (slice_index_or rs 1 []) 1 < 65536) × (slice_index (slice_index_or rs 2 []) 1 < 65536)
-small_three [] h s = absurd (omega arith)
-small_three (a ∷ []) h s = absurd (omega arith)
-small_three (a ∷ b ∷ []) h s = absurd (omega arith)
-small_three (a ∷ b ∷ c ∷ rs) h s = (s.0, s.1.0, s.1.1.0)
+-- all rows, three by three
+pub threes_packed : (k : ℕ) (rs : List (List ℕ)) → k ≡ length rs / 3 → map pack_three (first_chunks 3 k rs) ≡ packs (row_values rs)
+unfolding packs
+threes_packed zero [] h = refl
+threes_packed zero (a ∷ []) h = refl
+threes_packed zero (a ∷ b ∷ []) h = refl
+threes_packed zero (a ∷ b ∷ c ∷ rs) h = absurd (omega arith)
+threes_packed (suc k) [] h = absurd (omega arith)
+threes_packed (suc k) (a ∷ []) h = absurd (omega arith)
+threes_packed (suc k) (a ∷ b ∷ []) h = absurd (omega arith)
+threes_packed (suc k) (a ∷ b ∷ c ∷ rs) h = ap (λ (ns : List ℕ). pack_three (a ∷ b ∷ c ∷ []) ∷ ns) (threes_packed k rs (omega arith))
+
+-- whose numbers are small
+abbrev pub SmallThree : List (List ℕ) → Type 0
+SmallThree rs = (slice_index (slice_index_or rs 0 []) 1 < 65536) × (slice_index (slice_index_or rs 1 []) 1 < 65536) × (slice_index (slice_index_or rs 2 []) 1 < 65536)
+
+pub threes_small : (k i : ℕ) (rs : List (List ℕ)) → k ≡ length rs / 3 → i < k → Small (row_values rs) → SmallThree (get_or (first_chunks 3 k rs) i [])
+threes_small zero i rs h g s = absurd (omega arith)
+threes_small (suc k) i [] h g s = absurd (omega arith)
+threes_small (suc k) i (a ∷ []) h g s = absurd (omega arith)
+threes_small (suc k) i (a ∷ b ∷ []) h g s = absurd (omega arith)
+threes_small (suc k) zero (a ∷ b ∷ c ∷ rs) h g s = (s.0, s.1.0, s.1.1.0)
+threes_small (suc k) (suc i) (a ∷ b ∷ c ∷ rs) h g s = threes_small k i rs (omega arith) (omega arith) s.1.1.1
+
+-- the array's front, and the entries behind it
+abbrev pub packed_behind : ℕ → List ℕ → List (List (List ℕ)) → List ℕ
+packed_behind from out xs = take from out ++ map pack_three xs
+
+module _ (from : ℕ) (out : List ℕ) (xs : List (List (List ℕ))) (h : from ≤ length out) where
+  pub behind_long : length (packed_behind from out xs) ≡ from + length xs
+  behind_long = simp (length-append, length-map) (omega (arith, length-take-le from out h))
+
+  pub behind_first : take from out ++ drop from (packed_behind from out xs) ≡ packed_behind from out xs
+  behind_first = rw (drop_at (take from out) (map pack_three xs) from (length-take-le from out h))
+
+  pub behind_at : (i : ℕ) → get_or (packed_behind from out xs) (from + i) 0 ≡ pack_three (get_or xs i [])
+  behind_at i =
+      let n : from + i - from ≡ i = omega arith in
+      get_or-append_right (take from out) (map pack_three xs) from (from + i) 0 (length-take-le from out h) (omega arith) ∙ rw n (get_or-map pack_three xs i [])
 
 small_drop : (ns : List ℕ) (i : ℕ) → Small ns → Small (drop i ns)
 small_drop ns zero s = s
@@ -51,30 +79,6 @@ module _ (rs : List (List ℕ)) (i : ℕ) where
 
   pub packs_from : packs (row_values (take (length rs - i) (drop i rs))) ≡ packs (drop i (row_values rs))
   packs_from = rw (rows_from, values_from)
-
--- the numbers of the rows that are left are small too
-pub small_later : (rs : List (List ℕ)) → 3 ≤ length rs → Small (row_values rs) → Small (row_values (later_rows rs))
-small_later [] h s = absurd (omega arith)
-small_later (a ∷ []) h s = absurd (omega arith)
-small_later (a ∷ b ∷ []) h s = absurd (omega arith)
-small_later (a ∷ b ∷ c ∷ rs) h s = let n : length (a ∷ b ∷ c ∷ rs) - 3 ≡ length rs = omega arith in rw (n, take-length rs) s.1.1.1
-
-none_left : (ns : List ℕ) → length ns < 3 → packs ns ≡ []
-unfolding packs
-none_left [] h = refl
-none_left (a ∷ []) h = refl
-none_left (a ∷ b ∷ []) h = refl
-none_left (a ∷ b ∷ c ∷ ns) h = absurd (omega arith)
-
--- the rows that are left, packed behind what stands in an array
-module _ (rs : List (List ℕ)) (out all : List ℕ) (n : ℕ) (so : take n out ++ packs (row_values rs) ≡ all) where
-  pub rest_more :
-      3 ≤ length rs → n < length out → (x : ℕ) → x ≡ packed (slice_index (slice_index_or rs 0 []) 1) (slice_index (slice_index_or rs 1 []) 1) (slice_index (slice_index_or rs 2 []) 1) →
-      take (n + 1) (set out n x) ++ packs (row_values (later_rows rs)) ≡ all
-  rest_more h k x e = rw (first_pushed out n x k, append_assoc, e) (ap (λ (r : List ℕ). take n out ++ r) (sym (packs_later rs h)) ∙ so)
-
-  pub rest_none : length rs < 3 → take n out ≡ all
-  rest_none h = rw (none_left (row_values rs) (rw (length-map rs row_value) h), append-nil) at so
 
 -- the first entry of an array and of a list
 pub first_put : (out vs : List ℕ) (x : ℕ) → 0 < length out → 0 < length vs → x ≡ get_or vs 0 0 → take 1 (set out 0 x) ≡ take 1 vs

@@ -11,11 +11,9 @@ fn pack_exprs(rows: &[[u64; 2]], from: usize, out: &mut [u64; 64]) -> usize
     ensures { (result ≤ 64) × (take result out.new ≡ take from out.old ++ packs (drop from (row_values rows.now))) }
 {
     let mut n = from;
-    let mut rest = &rows[from..];
-    while let [kind, name, index, later @ ..] = rest {
+    for [kind, name, index] in rows[from..].as_chunks::<3>().0 {
         out[n] = Expr::pack(kind[1], name[1], index[1]).number;
         n += 1;
-        rest = later;
     }
     n
 }
@@ -30,14 +28,6 @@ fn copy_numbers(rows: &[[u64; 2]], out: &mut [u64; 64]) -> usize
     rows.len()
 }
 
-fn pack_input(rows: &[[u64; 2]], out: &mut [u64; 64]) -> usize
-    requires { (1 ≤ length rows.now) × (length rows.now ≤ 192) × Small (row_values rows.now) }
-    ensures { (result ≤ 64) × (take result out.new ≡ packed_by Codes.Input (row_values rows.now)) }
-{
-    out[0] = rows[0][1];
-    pack_exprs(rows, 1, out)
-}
-
 // The list of a line whose fields are as many as its kind has.
 pub fn pack_line(c: Codes, rows: &[[u64; 2]], out: &mut [u64; 64]) -> usize
     requires { Fits c (length rows.now) × Small (row_values rows.now) }
@@ -46,6 +36,9 @@ pub fn pack_line(c: Codes, rows: &[[u64; 2]], out: &mut [u64; 64]) -> usize
     match c {
         Codes::Key | Codes::Join | Codes::Directions | Codes::Names => copy_numbers(rows, out),
         Codes::Exprs | Codes::Rules => pack_exprs(rows, 0, out),
-        Codes::Input => pack_input(rows, out),
+        Codes::Input => {
+            out[0] = rows[0][1];
+            pack_exprs(rows, 1, out)
+        }
     }
 }

@@ -16,6 +16,7 @@ use Rattle.text.specs.declared.field.Field.{Field}
 use Rattle.text.specs.Text.{until, line, fields, line_fields, line_at}
 use Rattle.linekinds.specs.PlainText.{StandsAt, DigitAt}
 use Rattle.numberlines.specs.NumberLines.{Closed, Begins}
+use Rattle.numberlines.specs.declared.comma.Comma.{Comma}
 
 pub closed_next : (s : List ℕ) (p : ℕ) → Closed s → p < length s → (get_or s p 0 ≡ 10 → ⊥) → p + 1 < length s
 closed_next s p k h n = go (ltb (p + 1) (length s)) refl
@@ -25,6 +26,10 @@ closed_next s p k h n = go (ltb (p + 1) (length s)) refl
     go false e =
         let q : length s - 1 ≡ p = omega (arith, ltb-false (p + 1) (length s) e) in
         absurd (n (subst (λ (i : ℕ). get_or s i 0 ≡ 10) q k))
+
+-- a byte follows a comma
+pub comma_next : (c : Comma) → c.at + 1 < length c.s.now
+comma_next c = closed_next c.s.now c.at c.closed c.here.0 (λ e. omega (arith, c.here.1, e))
 
 pub digit_here : (s : List ℕ) (p : ℕ) → p < length s → is_ascii_digit (get_or s p 0) ≡ true → DigitAt s p
 digit_here s p h e = search rules

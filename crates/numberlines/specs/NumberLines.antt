@@ -1,9 +1,8 @@
 -- What the quick reading of a line of numbers finds: text that stands there, as it would be written. Where it finds something unusual, nothing is said
 -- but that a line of the letter stands there.
 -- Document 01, the paragraph that begins "A sheet is ASCII lines ended by LF".
-use Rattle.std.specs.Prelude.{ℕ, ◌+◌, ◌-◌, ◌≤◌, ◌<◌, ◌≡◌, List, [], ◌∷◌, ◌++◌, map, length, get_or, set, Option, Some, None, Result, Ok, Err}
+use Rattle.std.specs.Prelude.{ℕ, ◌+◌, ◌-◌, ◌≤◌, ◌<◌, ◌≡◌, List, [], ◌∷◌, map, length, get_or, Option, Some, None, Result, Ok, Err}
 use Rattle.std.proofs.Math.Option.{some, none}
-use Rattle.std.proofs.lemmas.List.Edits.{sets}
 use Rattle.text.specs.declared.field.Field.{Field}
 use Rattle.text.specs.declared.field.Field.TheVariants.{Number as number, Empty as empty}
 use Rattle.text.specs.Text.{line_at, after}
@@ -36,18 +35,11 @@ abbrev pub UpTo : ℕ → List ℕ → Type 0
 UpTo most [] = Unit {0}
 UpTo most (n ∷ ns) = (n ≤ most) × UpTo most ns
 
--- numbers for the places of a row from one up to another, and a comma after them
-pub record NumbersAt (most : ℕ) (s : List ℕ) (at : ℕ) (row : List ℕ) (from to end : ℕ) (row' : List ℕ) : Type 0 where
-  pub ns : List ℕ
+-- numbers one after another, and a comma after them
+pub record NumbersAt (most : ℕ) (s : List ℕ) (at : ℕ) (ns : List ℕ) (end : ℕ) : Type 0 where
   pub text : TextAt s at (fields_of ns) end
   pub within : UpTo most ns
-  pub long : from + length ns ≡ to
-  pub held : row' ≡ sets row from ns
   pub ends : StandsAt s end 44
-
-abbrev pub NumbersTo : ℕ → List ℕ → ℕ → List ℕ → ℕ → ℕ → Option ℕ → List ℕ → Type 0
-NumbersTo most s at row from to (Some end) row' = NumbersAt most s at row from to end row'
-NumbersTo most s at row from to None row' = Unit {0}
 
 -- a line of the letter with the fields, whose LF stands at `end`, within the bytes that a sheet may have
 pub record LineOf (letter : ℕ) (s : List ℕ) (at : ℕ) (fs : List Field) (end : ℕ) : Type 0 where
@@ -60,37 +52,6 @@ abbrev pub RowFound : ℕ → List ℕ → ℕ → List ℕ → Result ℕ Unrea
 RowFound letter s at row (Ok end) row' = LineOf letter s at (map number row') end × Small row'
 RowFound letter s at row (Err Unusual) row' = line_at letter s at ≡ none → ⊥
 RowFound letter s at row (Err Other) row' = row' ≡ row
-
--- a plain number up to the LF, in a place of a row
-pub record LastAt (s : List ℕ) (at : ℕ) (row : List ℕ) (to end : ℕ) (row' : List ℕ) : Type 0 where
-  pub last : ℕ
-  pub number : NumberAt 65535 s (at + 1) last end 10
-  pub early : end < 65536
-  pub held : row' ≡ set row to last
-
-abbrev pub LastFound : List ℕ → ℕ → List ℕ → ℕ → Result ℕ Unread → List ℕ → Type 0
-LastFound s at row to (Ok end) row' = LastAt s at row to end row'
-LastFound s at row to (Err Unusual) row' = Unit {0}
-LastFound s at row to (Err Other) row' = ⊥
-
--- numbers up to the largest from one place of a row up to another, then plain ones from a place up to the last, up to the LF
-pub record RestAt (most : ℕ) (s : List ℕ) (at : ℕ) (row : List ℕ) (from mid next to end : ℕ) (row' : List ℕ) : Type 0 where
-  pub xs : List ℕ
-  pub ys : List ℕ
-  pub last : ℕ
-  pub text : TextAt s at (fields_of (xs ++ (ys ++ (last ∷ [])))) end
-  pub ends : StandsAt s end 10
-  pub within : UpTo most xs
-  pub small : Small (ys ++ (last ∷ []))
-  pub first : from + length xs ≡ mid
-  pub second : next + length ys ≡ to
-  pub early : end < 65536
-  pub held : row' ≡ set (sets (sets row from xs) next ys) to last
-
-abbrev pub RestFound : ℕ → List ℕ → ℕ → List ℕ → ℕ → ℕ → ℕ → ℕ → Result ℕ Unread → List ℕ → Type 0
-RestFound most s at row from mid next to (Ok end) row' = RestAt most s at row from mid next to end row'
-RestFound most s at row from mid next to (Err Unusual) row' = Unit {0}
-RestFound most s at row from mid next to (Err Other) row' = ⊥
 
 -- a T line's fields, its limit empty, as the row of an operator holds them; its first place is left alone
 pub record OperatorLine (letter : ℕ) (s : List ℕ) (at : ℕ) (row : List ℕ) (end : ℕ) (row' : List ℕ) : Type 0 where

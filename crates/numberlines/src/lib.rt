@@ -2,6 +2,7 @@
 #![tactic(auto)]
 
 pub mod child;
+mod comma;
 pub mod number;
 pub mod operator;
 pub mod row;

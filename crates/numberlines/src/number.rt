@@ -1,15 +1,16 @@
 // Reads a number and the byte that ends it. The text ends with an LF, so that no place is compared with its length on the way.
-ghost use Rattle.std.specs.Prelude.{ℕ, ◌≤◌, ◌<◌, length};
+ghost use Rattle.std.specs.Prelude.{ℕ, ◌+◌, ◌≤◌, ◌<◌, length};
 ghost use Rattle.text.specs.Write.{decimal};
 ghost use Rattle.linekinds.specs.PlainText.{TextAt};
 ghost use Rattle.numberlines.specs.NumberLines.{Closed, NumberTo};
 
+use crate::comma::{Bound, Comma};
 use linekinds::plain::Number;
 
 // The number that goes on at a place, after digits that gave `begun`.
-fn longer_to(s: &[u8], at: usize, begun: u64, most: u64, b: u8) -> Option<Number>
-    requires { Closed s.now × (at < length s.now) × (begun ≤ most) × (most < 4294967296) }
-    ensures { (from : ℕ) → TextAt s.now from (decimal begun) at → NumberTo most s.now from b result }
+fn longer_to(s: &[u8], at: usize, begun: u64, bound: Bound, b: u8) -> Option<Number>
+    requires { Closed s.now × (at < length s.now) × (begun ≤ bound.most) }
+    ensures { (from : ℕ) → TextAt s.now from (decimal begun) at → NumberTo bound.most s.now from b result }
 {
     let mut n = begun;
     let mut p = at;
@@ -19,7 +20,7 @@ fn longer_to(s: &[u8], at: usize, begun: u64, most: u64, b: u8) -> Option<Number
             return None;
         }
         n = n * 10 + (u64::from(s[p]) - 48);
-        if n > most {
+        if n > bound.most {
             return None;
         }
         p += 1;
@@ -30,11 +31,12 @@ fn longer_to(s: &[u8], at: usize, begun: u64, most: u64, b: u8) -> Option<Number
     Some(Number { value: n, end: p })
 }
 
-// A number up to the largest at a place, and the place of the byte b after it.
-pub(crate) fn number_to(s: &[u8], at: usize, most: u64, b: u8) -> Option<Number>
-    requires { Closed s.now × (at < length s.now) × (9 ≤ most) × (most < 4294967296) }
-    ensures { NumberTo most s.now at b result }
+// A number within the bound after a comma, and the place of the byte b after it.
+pub(crate) fn number_to(from: Comma<'_>, bound: Bound, b: u8) -> Option<Number>
+    ensures { NumberTo bound.most from.entry.s.now (from.entry.at + 1) b result }
 {
+    let s = from.s;
+    let at = from.at + 1;
     if !s[at].is_ascii_digit() {
         return None;
     }
@@ -43,5 +45,5 @@ pub(crate) fn number_to(s: &[u8], at: usize, most: u64, b: u8) -> Option<Number>
     if s[p] == b {
         return Some(Number { value: n, end: p });
     }
-    longer_to(s, p, n, most, b)
+    longer_to(s, p, n, bound, b)
 }

@@ -1,10 +1,10 @@
 // Reads a line of as many numbers as a row has places.
-ghost use Rattle.std.specs.Prelude.{◌≡◌, IsTrue, ◌≤◌, ◌<◌, length};
-ghost use Rattle.linekinds.specs.PlainText.{StandsAt};
-ghost use Rattle.numberlines.specs.NumberLines.{Closed, Begins, NumbersTo, LastFound, RestFound, RowFound};
+ghost use Rattle.std.specs.Prelude.{◌<◌, length};
+ghost use Rattle.numberlines.specs.NumberLines.{RowFound};
+ghost use Rattle.numberlines.specs.Runs.{BegunTo, NumbersTo, LastTo};
 
+use crate::comma::{Bound, Comma, PLAIN};
 use crate::number::number_to;
-use linekinds::plain::PLAIN;
 
 // Why a line was not read: it is of the letter, and something in it is unusual; or it is something else, and nothing was stored.
 #[derive(Clone, Copy, PartialEq, Eq, Debug)]
@@ -13,83 +13,56 @@ pub enum Unread {
     Other,
 }
 
-// A place of a text that ends with an LF.
-pub(crate) fn closed(s: &[u8], at: usize) -> bool
-    ensures { IsTrue result → Closed s.now × (at < length s.now) }
+// The comma after the letter at a place, in a text that ends with an LF; an LF is no letter.
+pub(crate) fn begins(s: &[u8], at: usize, letter: u8) -> Result<Comma<'_>, Unread>
+    ensures { BegunTo s.now at letter result }
 {
-    at < s.len() && s[s.len() - 1] == b'\n'
-}
-
-// The letter at a place, and a comma after it.
-pub(crate) fn begins(s: &[u8], at: usize, letter: u8) -> bool
-    requires { Closed s.now × (at < length s.now) × (letter ≡ 10 → ⊥) }
-    ensures { IsTrue result → Begins s.now at letter }
-{
-    s[at] == letter && s[at + 1] == b','
-}
-
-// Numbers up to the largest, each after a comma, into a row from a place up to another; and the place of the comma that follows the last.
-pub(crate) fn numbers_to(
-    s: &[u8],
-    at: usize,
-    row: &mut [u64],
-    from: usize,
-    to: usize,
-    most: u64,
-) -> Option<usize>
-    requires { Closed s.now × StandsAt s.now at 44 × (from ≤ to) × (to ≤ length row.old) × (9 ≤ most) × (most < 4294967296) }
-    ensures { NumbersTo most s.now at row.old from to result row.new }
-{
-    let mut p = at;
-    for i in from..to {
-        let number = number_to(s, p + 1, most, b',')?;
-        row[i] = number.value;
-        p = number.end;
+    if letter == b'\n' || s.len() <= at || s[s.len() - 1] != b'\n' {
+        return Err(Unread::Other);
     }
-    Some(p)
+    if s[at] != letter || s[at + 1] != b',' {
+        return Err(Unread::Other);
+    }
+    Ok(Comma { s, at: at + 1 })
 }
 
-// The last number of a line, a plain one after a comma, into a place of a row; and the place of the LF.
-fn last_at(s: &[u8], at: usize, row: &mut [u64], to: usize) -> Result<usize, Unread>
-    requires { Closed s.now × StandsAt s.now at 44 × (to < length row.old) }
-    ensures { LastFound s.now at row.old to result row.new }
+// Numbers within the bound, each after a comma, into all places of a row; and the comma that follows the last.
+pub(crate) fn numbers_to<'a>(
+    from: Comma<'a>,
+    row: &mut [u64],
+    bound: Bound,
+) -> Result<Comma<'a>, Unread>
+    ensures { NumbersTo bound.most from.entry result row.new }
 {
-    let number = number_to(s, at + 1, PLAIN, b'\n').ok_or(Unread::Unusual)?;
-    row[to] = number.value;
+    let s = from.s;
+    let mut at = from.at;
+    for place in row.iter_mut() {
+        let number = number_to(Comma { s, at }, bound, b',').ok_or(Unread::Unusual)?;
+        *place = number.value;
+        at = number.end;
+    }
+    Ok(Comma { s, at })
+}
+
+// The last number of a line, a plain one after a comma, into a place; and the place of the LF.
+pub(crate) fn last_to(from: Comma<'_>, place: &mut u64) -> Result<usize, Unread>
+    ensures { LastTo from.entry result place.new }
+{
+    let number = number_to(from, PLAIN, b'\n').ok_or(Unread::Unusual)?;
+    *place = number.value;
     if number.end >= 65536 {
         return Err(Unread::Unusual);
     }
     Ok(number.end)
 }
 
-// Numbers up to the largest into a row from one place up to another, plain ones from a place up to the last, and the LF.
-pub(crate) fn rest_at(
-    s: &[u8],
-    at: usize,
-    row: &mut [u64],
-    from: usize,
-    mid: usize,
-    most: u64,
-    next: usize,
-    to: usize,
-) -> Result<usize, Unread>
-    requires { Closed s.now × StandsAt s.now at 44 × (from ≤ mid) × (mid ≤ length row.old) × (9 ≤ most) × (most < 4294967296) × (next ≤ to) × (to < length row.old) }
-    ensures { RestFound most s.now at row.old from mid next to result row.new }
-{
-    let p = numbers_to(s, at, &mut *row, from, mid, most).ok_or(Unread::Unusual)?;
-    let q = numbers_to(s, p, &mut *row, next, to, PLAIN).ok_or(Unread::Unusual)?;
-    last_at(s, q, row, to)
-}
-
 // The line of a letter, with a number for each place of the row; and the place of its LF.
 pub fn row_at(s: &[u8], at: usize, letter: u8, row: &mut [u64]) -> Result<usize, Unread>
-    requires { (0 < length row.old) × (letter ≡ 10 → ⊥) }
+    requires { 0 < length row.old }
     ensures { RowFound letter s.now at row.old result row.new }
 {
-    if !closed(s, at) || !begins(s, at, letter) {
-        return Err(Unread::Other);
-    }
+    let comma = begins(s, at, letter)?;
     let last = row.len() - 1;
-    let p = numbers_to(s, at + 1, &mut *row, 0, last, PLAIN).ok_or(Unread::Unusual)?;
-    last_at(s, p, row, last)
+    let p = numbers_to(comma, &mut row[..last], PLAIN)?;
+    last_to(p, &mut row[last])
 }

@@ -1,45 +1,41 @@
--- `linekinds::pack::pack_exprs` meets its contract. What is packed so far, before what packing the rest gives, is all (`rest_more`).
+-- `linekinds::pack::pack_exprs` meets its contract. The array filled so far, with what is left, is its front and the entries packed.
 use Rattle.std.proofs.Common.{arith, length-take, length-drop}
-use mathlib.Core.Path.{ap}
-use mathlib.Core.List.{List, ◌++◌}
-use Prim.Native.Nat.{ℕ}
-use lib.ListN.{take, length-set}
-use Rattle.linekinds.proofs.Packing.{small_from, packs_from, rest_more, rest_none, small_later, small_three}
+use Prim.Native.Nat.{ℕ, ◌-◌, ◌/◌, ◌≤◌}
+use mathlib.Core.Path.{◌≡◌, refl, sym, ap, subst, ◌∙◌}
+use mathlib.Core.List.{List, [], ◌++◌, map}
+use lib.ListN.{length, get_or, take, drop, length-set}
+use Rattle.keys.proofs.Turns.{fill_turn, fill_end}
+use Rattle.linekinds.proofs.Packing.{pack_three, threes_packed, SmallThree, threes_small, packed_behind, behind_long, behind_first, behind_at, small_from, packs_from}
 use Rattle.linekinds.proofs.pack.pack_exprs.Goals as goal
 
-pub loop-rest-init : goal.loop-rest-init
-loop-rest-init c =
-    let rs = c.args.rows.now in let i = c.args.from in (
-      c.told-out,
-      simp (length-take, length-drop) (omega (arith, c.requires.0, c.requires.1, c.requires.2)),
-      small_from rs i c.requires.3,
-      ap (λ (ns : List ℕ). take i c.args.out.now ++ ns) (packs_from rs i),
-    )
+pub loop-kind-init : goal.loop-kind-init
+loop-kind-init c = (c.told-out, omega arith, behind_first c.args.from c.args.out.now _ (omega (arith, c.requires.2, c.told-out)))
 
 pub pack-requires : goal.pack-requires
-pack-requires c = small_three c.loop-rest.rest.now c.in-len3-up.len_at_least c.loop-rest.invariant.2
+pack-requires c =
+    let rs = c.args.rows.now in let i = c.args.from in let rest = take (length rs - i) (drop i rs) in
+    subst SmallThree (ap (λ xs. get_or xs c.loop-kind.kind-index []) (sym c.as_chunks.ensures.front))
+    (threes_small (length rest / 3) c.loop-kind.kind-index rest refl (omega (arith, c.loop-kind-test.true, c.as_chunks.ensures.front_len)) (small_from rs i c.requires.3))
 
-pub offset_bounds-out-n : goal.offset_bounds-out-n
-offset_bounds-out-n c = omega (arith, c.loop-rest.invariant.1, c.in-len3-up.len_at_least)
-
-pub bounds-out-n : goal.bounds-out-n
-bounds-out-n c = omega (arith, c.loop-rest.invariant.0, c.loop-rest.invariant.1, c.in-len3-up.len_at_least)
-
-pub overflow_add-n : goal.overflow_add-n
-overflow_add-n c = omega (arith, c.loop-rest.invariant.1, c.in-len3-up.len_at_least)
-
-pub loop-rest-smaller : goal.loop-rest-smaller
-loop-rest-smaller c = simp (length-take, length-drop) (omega (arith, c.in-len3-up.len_at_least))
-
-pub loop-rest-preserved : goal.loop-rest-preserved
-loop-rest-preserved c =
-    let v = c.loop-rest.invariant in let rs = c.loop-rest.rest.now in let h = c.in-len3-up.len_at_least in (
+pub loop-kind-preserved : goal.loop-kind-preserved
+loop-kind-preserved c =
+    let v = c.loop-kind.invariant in let xs = c.as_chunks.result.0.now in let i = c.args.from in let out = c.args.out.now in
+    let h : i ≤ length out = omega (arith, c.requires.2, c.told-out) in
+    let long = behind_long i out xs h in
+    let few = simp (length-take, length-drop) at c.as_chunks.ensures.front_len in
+    let at : c.pack.result.number ≡ get_or (packed_behind i out xs) c.loop-kind.n 0 = rw v.1 (c.pack.ensures ∙ sym (behind_at i out xs h c.loop-kind.kind-index)) in (
       simp length-set v.0,
-      simp (length-take, length-drop) (omega (arith, v.1, h)),
-      small_later rs h v.2,
-      rest_more rs c.loop-rest.out _ c.loop-rest.n v.3 h (omega (arith, v.0, v.1, h)) c.pack.result.number c.pack.ensures,
+      omega (arith, v.1),
+      fill_turn (packed_behind i out xs) c.loop-kind.out c.loop-kind.n v.2 c.pack.result.number 0 (omega (arith, long, v.1, c.loop-kind-test.true)) (omega (arith, v.0, v.1, few, c.loop-kind-test.true, c.requires)) at,
     )
 
 pub returns : goal.returns
 returns c =
-    let v = c.loop-rest.invariant in (omega (arith, v.1), rest_none c.loop-rest.rest.now c.loop-rest.out _ c.loop-rest.n v.3 (omega (arith, c.in_default.len_below)))
+    let v = c.loop-kind.invariant in let xs = c.as_chunks.result.0.now in let i = c.args.from in let out = c.args.out.now in let rs = c.args.rows.now in
+    let rest = take (length rs - i) (drop i rs) in
+    let long = behind_long i out xs (omega (arith, c.requires.2, c.told-out)) in
+    let few = simp (length-take, length-drop) at c.as_chunks.ensures.front_len in (
+      omega (arith, v.1, few, c.loop-kind.auto.kind-index-end, c.requires),
+      fill_end (packed_behind i out xs) c.loop-kind.out c.loop-kind.n v.2 (omega (arith, long, v.1, c.loop-kind-test.false))
+      ∙ ap (λ (ns : List ℕ). take i out ++ ns) (ap (map pack_three) c.as_chunks.ensures.front ∙ threes_packed (length rest / 3) rest refl ∙ packs_from rs i),
+    )

@@ -1,0 +1,30 @@
+-- Cited only by the contracts of private functions: what reading a line from comma to comma finds.
+use Rattle.std.specs.Prelude.{ℕ, ◌+◌, ◌<◌, ◌≡◌, List, Result, Ok, Err}
+use Rattle.numberlines.specs.NumberLines.{Begins, NumberAt, NumbersAt}
+use Rattle.numberlines.specs.declared.comma.Comma.{Comma}
+use Rattle.numberlines.specs.declared.row.Unread.{Unread}
+use Rattle.numberlines.specs.declared.row.Unread.TheVariants.{Unusual, Other}
+
+-- a comma of the text, at a place
+abbrev pub CommaAt : List ℕ → ℕ → Comma → Type 0
+CommaAt s at c = (c.s.now ≡ s) × (c.at ≡ at)
+
+-- the comma after a letter
+abbrev pub BegunTo : List ℕ → ℕ → ℕ → Result Comma Unread → Type 0
+BegunTo s at letter (Ok c) = CommaAt s (at + 1) c × Begins s at letter × (letter ≡ 10 → ⊥)
+BegunTo s at letter (Err u) = u ≡ Other
+
+-- numbers, and the comma after them
+abbrev pub NumbersTo : ℕ → Comma → Result Comma Unread → List ℕ → Type 0
+NumbersTo most from (Ok c) ns = (c.s.now ≡ from.s.now) × NumbersAt most from.s.now from.at ns c.at
+NumbersTo most from (Err u) ns = u ≡ Unusual
+
+-- the next comma, with nothing between them
+abbrev pub EmptyTo : Comma → Result Comma Unread → Type 0
+EmptyTo from (Ok c) = CommaAt from.s.now (from.at + 1) c
+EmptyTo from (Err u) = u ≡ Unusual
+
+-- the last number, and the LF after it
+abbrev pub LastTo : Comma → Result ℕ Unread → ℕ → Type 0
+LastTo from (Ok end) last = NumberAt 65535 from.s.now (from.at + 1) last end 10 × (end < 65536)
+LastTo from (Err u) last = u ≡ Unusual
