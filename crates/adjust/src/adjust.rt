@@ -10,7 +10,7 @@ use crate::sheet::Sheet;
 use keys::answer::{Adjusted, Handed, Outcome};
 use keys::codes::{HashMode, Join, Op};
 use keys::expr::{COLUMN, Expr};
-use keys::reorder::try_reorder;
+use keys::reorder::{Pairs, try_reorder};
 
 // The index less `columns` in every key, in the room lent; nothing where one is no column or its index too small.
 pub fn shift_right_required<'a>(required: &[u64], columns: u64, out: &'a mut [u64; 32]) -> &'a [u64]
@@ -50,7 +50,12 @@ fn collect_left(sheet: &Sheet<'_>) -> Adjusted
 pub fn reorder_partitioned_join_keys(sheet: &Sheet<'_>) -> Adjusted
     ensures { IsDecided sheet.now (reorder_partitioned_join_keys same_expr) (Some result) }
 {
-    let tried = try_reorder(sheet.rewriting, sheet.required, sheet.left, sheet.right);
+    let pairs = Pairs {
+        required: sheet.required,
+        left: sheet.left,
+        right: sheet.right,
+    };
+    let tried = try_reorder(sheet.rewriting, pairs);
     Adjusted {
         outcome: Outcome::Tried(tried),
         cleared: false,

@@ -10,17 +10,20 @@ ghost use Rattle.adjust.specs.Sheets.{IsDecided};
 use crate::sheet::Sheet;
 use keys::answer::{Adjusted, Handed, Outcome};
 use keys::codes::AggregateMode;
+use keys::expr::{COLUMN, Expr};
 use keys::list::{NumberList, permute};
 use keys::reorder::expected_expr_positions;
 
 // The column that each group name stands for: kind 0, the name, its place.
-fn group_columns(groups: &[u64], out: &mut [u64; 32])
+fn group_columns<'a>(groups: &[u64], out: &'a mut [u64; 32]) -> &'a [u64]
     requires { (length groups.now ≤ 32) × Below 65536 groups.now }
-    ensures { expressions (take (length groups.now) out.new) ≡ columns_from 0 groups.now }
+    ensures { expressions result.now ≡ columns_from 0 groups.now }
 {
     for (i, &name) in groups.iter().enumerate() {
-        out[i] = name * 65536 + i as u64;
+        // No From goes from usize to u64.
+        out[i] = Expr::pack(COLUMN, name, i as u64).number;
     }
+    &out[..groups.len()]
 }
 
 // The first place of a name among the moved group names and, after them, the aggregate names.
@@ -43,6 +46,7 @@ fn name_places(moved: &[u64], aggregates: &[u64], names: &[u64]) -> Option<Numbe
     let mut items = [0u8; 32];
     for (i, &name) in names.iter().enumerate() {
         let p = find_field(moved, aggregates, name)?;
+        // No From goes from usize to u8, and a place below 64 fits.
         items[i] = p as u8;
     }
     Some(NumberList::new(items, names.len()))
@@ -52,9 +56,9 @@ fn name_places(moved: &[u64], aggregates: &[u64], names: &[u64]) -> Option<Numbe
 fn regroup(sheet: &Sheet<'_>, at: NumberList) -> Option<Adjusted>
     ensures { IsDecided sheet.now (λ t. regrouped same_expr t (numbers at) (name_places (permute 0 t.groups (numbers at) ++ t.aggregates) t.groups)) result }
 {
-    let mut names = [0u64; 32];
-    permute(0, sheet.groups, at.numbers(), &mut names);
-    let places = name_places(&names[..at.count], sheet.aggregates, sheet.groups)?;
+    let mut room = [0u64; 32];
+    let names = permute(0, sheet.groups, at.numbers(), &mut room);
+    let places = name_places(names, sheet.aggregates, sheet.groups)?;
     Some(Adjusted {
         outcome: Outcome::Regrouped { at, places },
         cleared: true,
@@ -77,16 +81,15 @@ fn regroup_by(sheet: &Sheet<'_>, columns: &[u64]) -> Option<Adjusted>
 fn reorder_aggregate_keys(sheet: &Sheet<'_>) -> Option<Adjusted>
     ensures { IsDecided sheet.now (reorder_aggregate_keys same_expr) result }
 {
-    let n = sheet.groups.len();
-    if sheet.required.len() != n || !sheet.operator.plain {
+    if sheet.required.len() != sheet.groups.len() || !sheet.operator.plain {
         return Some(Adjusted::passed(Handed::Kept, Handed::Kept));
     }
-    let mut columns = [0u64; 32];
-    group_columns(sheet.groups, &mut columns);
-    if &columns[..n] == sheet.required {
+    let mut room = [0u64; 32];
+    let columns = group_columns(sheet.groups, &mut room);
+    if columns == sheet.required {
         return Some(Adjusted::passed(Handed::Kept, Handed::Kept));
     }
-    regroup_by(sheet, &columns[..n])
+    regroup_by(sheet, columns)
 }
 
 pub fn aggregate(sheet: &Sheet<'_>) -> Option<Adjusted>

@@ -12,7 +12,7 @@ ghost use Rattle.keys.specs.Expressions.{gone_number};
 ghost use Rattle.bench.specs.Orders.{report_for, left_for, right_for};
 
 use keys::list::entry;
-use keys::reorder::{GONE, Reordered, try_reorder};
+use keys::reorder::{GONE, Pairs, Reordered, try_reorder};
 use text::line::line_at;
 use text::write::{line_length, put_line};
 
@@ -39,6 +39,7 @@ pub extern "C" fn bench_line_at(s: &[u8], at: usize, letter: u8, out: &mut [[u64
             largest: 0,
         };
     };
+    // No From goes from usize to u64.
     Found {
         next: f.next as u64,
         count: f.count as u64,
@@ -59,6 +60,7 @@ pub extern "C" fn bench_put_line(out: &mut [u8], at: usize, letter: u8, rows: &[
     if out.len() - at < line_length(rows) {
         return 0;
     }
+    // No From goes from usize to u64.
     put_line(out, at, letter, rows) as u64
 }
 
@@ -96,7 +98,12 @@ pub extern "C" fn bench_try_reorder(
     if r.len() > 32 || l.len() > 32 || g.len() != l.len() {
         return 0;
     }
-    let tried = try_reorder(w, r, l, g);
+    let pairs = Pairs {
+        required: r,
+        left: l,
+        right: g,
+    };
+    let tried = try_reorder(w, pairs);
     let Reordered::Moved(at) = tried else {
         return tried.report();
     };

@@ -1,5 +1,5 @@
 // The order that the inputs of a join have already. Ports `reorder_join_keys_to_inputs` and `reorder_current_join_keys`.
-ghost use Rattle.std.specs.Prelude.{◌≡◌, Some, List, ℕ, ◌≤◌, length};
+ghost use Rattle.std.specs.Prelude.{◌≡◌, Some, List, ℕ};
 ghost use Rattle.keys.specs.Expressions.{same_expr, rules};
 ghost use Rattle.keys.specs.Inputs.{JoinSheet, JoinAnswer, try_side, reorder_current_join_keys, reorder_join_keys_to_inputs};
 ghost use Rattle.keys.specs.InputValues.{input_of, with_pairs, side_number, answer_by, attempt_of};
@@ -7,17 +7,21 @@ ghost use Rattle.inputs.specs.Sheets.{sheet_of};
 
 use crate::sheet::{Input, Inputs};
 use keys::inputs::{Attempt, Side, order_tried};
-use keys::reorder::{Reordered, try_reorder};
+use keys::reorder::{Pairs, Reordered, try_reorder};
 
 // One side under its own rewriting.
-fn try_side(side: Side, l: &[u64], g: &[u64], input: Input<'_>) -> Attempt
-    requires { (length l.now ≤ 32) × (length g.now ≡ length l.now) }
-    ensures { (s : JoinSheet) (impossible untried : JoinAnswer) → let t = with_pairs l.now g.now s in answer_by t impossible untried result ≡ try_side t same_expr (side_number (Some side)) (rules input.entry.rewriting.now) impossible untried (input_of input.entry.list.now) }
+fn try_side(side: Side, sheet: Inputs<'_>, input: Input<'_>) -> Attempt
+    ensures { (s : JoinSheet) (impossible untried : JoinAnswer) → let t = with_pairs sheet.entry.left.now sheet.entry.right.now s in answer_by t impossible untried result ≡ try_side t same_expr (side_number (Some side)) (rules input.entry.rewriting.now) impossible untried (input_of input.entry.list.now) }
 {
     if !input.is_hashed() {
         return Attempt::Untried;
     }
-    match try_reorder(input.rewriting, input.keys(), l, g) {
+    let pairs = Pairs {
+        required: input.keys(),
+        left: sheet.left,
+        right: sheet.right,
+    };
+    match try_reorder(input.rewriting, pairs) {
         Reordered::Impossible => Attempt::Failed,
         tried => Attempt::Followed(side, tried),
     }
@@ -27,11 +31,11 @@ fn try_side(side: Side, l: &[u64], g: &[u64], input: Input<'_>) -> Attempt
 pub fn reorder_current_join_keys(sheet: Inputs<'_>) -> Attempt
     ensures { (s : List ℕ) → attempt_of (sheet_of sheet.entry s) result ≡ reorder_current_join_keys (sheet_of sheet.entry s) same_expr }
 {
-    let left = try_side(Side::Left, sheet.left, sheet.right, sheet.left_input);
+    let left = try_side(Side::Left, sheet, sheet.left_input);
     if let Attempt::Followed(_, _) = left {
         return left;
     }
-    match try_side(Side::Right, sheet.left, sheet.right, sheet.right_input) {
+    match try_side(Side::Right, sheet, sheet.right_input) {
         Attempt::Untried => left,
         right => right,
     }

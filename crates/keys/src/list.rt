@@ -5,7 +5,7 @@ ghost use Rattle.keys.specs.Lists.{permute};
 use crate::expr::Expr;
 use crate::reorder::GONE;
 
-// Two structs, since no generic struct holds an array of its type parameter.
+// An array and a count, as document 01 names it. Two structs, since no generic struct holds an array of its type parameter.
 #[derive(Clone, Copy)]
 pub struct KeyList {
     pub items: [Expr; 32],
@@ -117,12 +117,13 @@ pub fn entry(gone: u64, all: &[u64], p: u8) -> u64
     all.get(usize::from(p)).copied().unwrap_or(gone)
 }
 
-// The numbers at the positions, in the front of the room lent; `gone` where nothing stands.
-pub fn permute(gone: u64, all: &[u64], at: &[u8], out: &mut [u64; 32])
+// By index, since a list is filled from its front. The numbers at the positions, in the room lent; `gone` where nothing stands.
+pub fn permute<'a>(gone: u64, all: &[u64], at: &[u8], out: &'a mut [u64; 32]) -> &'a [u64]
     requires { length at.now ≤ 32 }
-    ensures { take (length at.now) out.new ≡ permute gone all.now at.now }
+    ensures { result.now ≡ permute gone all.now at.now }
 {
     for (i, &p) in at.iter().enumerate() {
         out[i] = entry(gone, all, p);
     }
+    &out[..at.len()]
 }

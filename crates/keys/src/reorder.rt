@@ -1,5 +1,5 @@
 // The order that a requirement asks of the pairs of a join. Ports `try_reorder` and `expected_expr_positions`.
-ghost use Rattle.std.specs.Prelude.{◌≡◌, List, ℕ, ◌≤◌, eqb, length, take};
+ghost use Rattle.std.specs.Prelude.{◌≡◌, List, ℕ, ◌≤◌, eqb, length};
 ghost use Rattle.keys.specs.Expressions.{gone_number};
 ghost use Rattle.keys.specs.Lists.{take_places, expected_expr_positions};
 ghost use Rattle.keys.specs.Reorder.{rewrite_one, rewrite, meets, either_side, moved_by, try_reorder};
@@ -21,6 +21,7 @@ fn take_places(current: &[u64], expected: &[u64]) -> Option<NumberList>
     for (i, &key) in expected.iter().enumerate() {
         let p = left.place_of(key)?;
         left.take(p);
+        // No From goes from usize to u8, and a place of a key list fits.
         items[i] = p as u8;
     }
     Some(NumberList::new(items, expected.len()))
@@ -49,28 +50,41 @@ fn rewrite_one(w: &[[u64; 2]], x: u64) -> u64
 }
 
 // Fills a room as `permute` does: over a closure the promise would be index by index, no plainer than the two lines.
-fn rewrite_keys(w: &[[u64; 2]], keys: &[u64], out: &mut [u64; 32])
+fn rewrite_keys<'a>(w: &[[u64; 2]], keys: &[u64], out: &'a mut [u64; 32]) -> &'a [u64]
     requires { length keys.now ≤ 32 }
-    ensures { take (length keys.now) out.new ≡ rewrite eqb (number_rules w.now) keys.now }
+    ensures { result.now ≡ rewrite eqb (number_rules w.now) keys.now }
 {
     for (i, &key) in keys.iter().enumerate() {
         out[i] = rewrite_one(w, key);
     }
+    &out[..keys.len()]
 }
 
-fn meets(r: &[u64], l: &[u64], g: &[u64]) -> bool
-    ensures { result ≡ meets eqb r.now l.now g.now }
+// The keys of both sides of a join, and the list that is required of them.
+#[derive(Clone, Copy)]
+pub struct Pairs<'a> {
+    pub required: &'a [u64],
+    pub left: &'a [u64],
+    pub right: &'a [u64],
+    pub ghost few_required: { length required.now ≤ 32 },
+    pub ghost few: { length left.now ≤ 32 },
+    pub ghost even: { length right.now ≡ length left.now },
+}
+
+fn meets(x: Pairs<'_>) -> bool
+    ensures { result ≡ meets eqb x.entry.required.now x.entry.left.now x.entry.right.now }
 {
-    r == l || r == g
+    x.required == x.left || x.required == x.right
 }
 
-fn either_side(r: &[u64], l: &[u64], g: &[u64]) -> Option<NumberList>
-    requires { (length r.now ≤ 32) × (length l.now ≤ 32) × (length g.now ≤ 32) }
-    ensures { positions_of result ≡ either_side eqb gone_number r.now l.now g.now }
+fn either_side(x: Pairs<'_>) -> Option<NumberList>
+    ensures { positions_of result ≡ either_side eqb gone_number x.entry.required.now x.entry.left.now x.entry.right.now }
 {
-    expected_expr_positions(l, r).or_else(|| expected_expr_positions(g, r))
+    let left = expected_expr_positions(x.left, x.required);
+    left.or_else(|| expected_expr_positions(x.right, x.required))
 }
 
+// An enum and no Option, since document 01 names it.
 #[derive(Clone, Copy)]
 pub enum Reordered {
     Met,
@@ -111,44 +125,44 @@ fn moved_by(p: Option<NumberList>) -> Reordered
     }
 }
 
-// Where the keys as they stand do not meet the requirement: the rewritten ones rr, ll, gg, and the search.
-fn search_order(r: &[u64], l: &[u64], g: &[u64], rr: &[u64], ll: &[u64], gg: &[u64]) -> Reordered
-    requires { (length r.now ≤ 32) × (length l.now ≤ 32) × (length g.now ≡ length l.now) × (length rr.now ≤ 32) × (length ll.now ≡ length l.now) × (length gg.now ≡ length l.now) }
-    ensures { tried_of l.now g.now result ≡ searched eqb gone_number r.now l.now g.now rr.now ll.now gg.now }
+// Where the keys as they stand do not meet the requirement: whether the rewritten ones do, and the search.
+fn search_order(raw: Pairs<'_>, rewritten: Pairs<'_>) -> Reordered
+    ensures { tried_of raw.entry.left.now raw.entry.right.now result ≡ searched eqb gone_number raw.entry.required.now raw.entry.left.now raw.entry.right.now rewritten.entry.required.now rewritten.entry.left.now rewritten.entry.right.now }
 {
-    if meets(rr, ll, gg) {
+    if meets(rewritten) {
         return Reordered::Met;
     }
-    let raw = either_side(r, l, g);
-    moved_by(raw.or_else(|| either_side(rr, ll, gg)))
+    match either_side(raw) {
+        Some(at) => Reordered::Moved(at),
+        None => moved_by(either_side(rewritten)),
+    }
 }
 
-fn try_rewritten(w: &[[u64; 2]], r: &[u64], l: &[u64], g: &[u64]) -> Reordered
-    requires { (length r.now ≤ 32) × (length l.now ≡ length r.now) × (length g.now ≡ length r.now) }
-    ensures { tried_of l.now g.now result ≡ searched_by eqb gone_number (number_rules w.now) r.now l.now g.now }
+fn try_rewritten(w: &[[u64; 2]], raw: Pairs<'_>) -> Reordered
+    ensures { tried_of raw.entry.left.now raw.entry.right.now result ≡ searched_by eqb gone_number (number_rules w.now) raw.entry.required.now raw.entry.left.now raw.entry.right.now }
 {
-    let n = r.len();
-    let mut rr = [0u64; 32];
-    let mut ll = [0u64; 32];
-    let mut gg = [0u64; 32];
-    rewrite_keys(w, r, &mut rr);
-    rewrite_keys(w, l, &mut ll);
-    rewrite_keys(w, g, &mut gg);
-    search_order(r, l, g, &rr[..n], &ll[..n], &gg[..n])
+    let mut required = [0u64; 32];
+    let mut left = [0u64; 32];
+    let mut right = [0u64; 32];
+    let rewritten = Pairs {
+        required: rewrite_keys(w, raw.required, &mut required),
+        left: rewrite_keys(w, raw.left, &mut left),
+        right: rewrite_keys(w, raw.right, &mut right),
+    };
+    search_order(raw, rewritten)
 }
 
-pub fn try_reorder(w: &[[u64; 2]], r: &[u64], l: &[u64], g: &[u64]) -> Reordered
-    requires { (length r.now ≤ 32) × (length l.now ≤ 32) × (length g.now ≡ length l.now) }
-    ensures { tried_of l.now g.now result ≡ try_reorder eqb gone_number (number_rules w.now) r.now l.now g.now }
+pub fn try_reorder(w: &[[u64; 2]], x: Pairs<'_>) -> Reordered
+    ensures { tried_of x.entry.left.now x.entry.right.now result ≡ try_reorder eqb gone_number (number_rules w.now) x.entry.required.now x.entry.left.now x.entry.right.now }
 {
-    if l.len() != r.len() {
+    if x.left.len() != x.required.len() {
         return Reordered::Impossible;
     }
-    if meets(r, l, g) {
+    if meets(x) {
         return Reordered::Met;
     }
     if w.is_empty() {
-        return moved_by(either_side(r, l, g));
+        return moved_by(either_side(x));
     }
-    try_rewritten(w, r, l, g)
+    try_rewritten(w, x)
 }

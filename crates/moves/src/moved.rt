@@ -34,35 +34,35 @@ impl PairRooms {
     };
 }
 
-// A side's keys at the positions: built in a key list, and laid as numbers in the front of the room lent.
-fn moved_side(keys: &[u64], at: &[u8], out: &mut [u64; 32])
+// A side's keys at the positions: built in a key list, and laid as numbers in the room lent.
+fn moved_side<'a>(keys: &[u64], at: &[u8], out: &'a mut [u64; 32]) -> &'a [u64]
     requires { length at.now ≤ 32 }
-    ensures { take (length at.now) out.new ≡ permute gone_number keys.now at.now }
+    ensures { result.now ≡ permute gone_number keys.now at.now }
 {
     let moved = KeyList::moved(keys, at);
     for (i, key) in moved.keys().iter().enumerate() {
         out[i] = key.number;
     }
+    &out[..at.len()]
 }
 
-// The positions as numbers, in the front of the room lent.
-pub fn wide_positions(at: &[u8], out: &mut [u64; 32])
+// The positions as numbers, in the room lent; by index, as `keys::list::permute`.
+fn wide_positions<'a>(at: &[u8], out: &'a mut [u64; 32]) -> &'a [u64]
     requires { length at.now ≤ 32 }
-    ensures { take (length at.now) out.new ≡ at.now }
+    ensures { result.now ≡ at.now }
 {
     for (i, &p) in at.iter().enumerate() {
         out[i] = u64::from(p);
     }
+    &out[..at.len()]
 }
 
-// The directions at the first positions, one for each that there is; how many.
-fn moved_directions(s: &[u64], at: &[u8], out: &mut [u64; 32]) -> usize
+// The directions at the first positions, one for each that there is.
+fn moved_directions<'a>(s: &[u64], at: &[u8], out: &'a mut [u64; 32]) -> &'a [u64]
     requires { length at.now ≤ 32 }
-    ensures { (result ≤ 32) × (take result out.new ≡ moved_directions s.now at.now) }
+    ensures { result.now ≡ moved_directions s.now at.now }
 {
-    let n = at.len().min(s.len());
-    permute(0, s, &at[..n], out);
-    n
+    permute(0, s, &at[..at.len().min(s.len())], out)
 }
 
 // The pairs at the positions, in the room lent.
@@ -76,15 +76,10 @@ pub fn moved_pairs<'a>(
     requires { length at.now ≤ 32 }
     ensures { MovedBy l.now g.now s.now at.now result }
 {
-    let n = at.len();
-    wide_positions(at, &mut rooms.positions);
-    moved_side(l, at, &mut rooms.left);
-    moved_side(g, at, &mut rooms.right);
-    let m = moved_directions(s, at, &mut rooms.directions);
     MovedPairs {
-        positions: &rooms.positions[..n],
-        left: &rooms.left[..n],
-        right: &rooms.right[..n],
-        directions: &rooms.directions[..m],
+        positions: wide_positions(at, &mut rooms.positions),
+        left: moved_side(l, at, &mut rooms.left),
+        right: moved_side(g, at, &mut rooms.right),
+        directions: moved_directions(s, at, &mut rooms.directions),
     }
 }

@@ -1,7 +1,7 @@
 -- One law of `reorder_aggregate_keys` for each test.
 use mathlib.Core.Path.{◌≡◌, sym, ap, ◌∙◌}
 use mathlib.Core.List.{List}
-use lib.ListN.{length, take, length-map}
+use lib.ListN.{length-map}
 use Rattle.std.specs.Prelude.{Some}
 use Rattle.std.proofs.Common.{rules}
 use Rattle.keys.specs.Lists.{same_list}
@@ -12,21 +12,21 @@ use Rattle.keys.proofs.Packed.{same_expressions}
 use Rattle.keys.proofs.Rules.{aggregate_stays, aggregate_searched, lengths_differ, null_there, same_already, all_let}
 use Rattle.adjust.specs.Sheets.{sheet_of}
 use Rattle.adjust.proofs.aggregate.reorder_aggregate_keys.Goals as goal
-use Rattle.adjust.proofs.aggregate.reorder_aggregate_keys.Goals.{After-eq, then-sheet-n-via-then-sheet-n, then-sheet-n-via-else-sheet-n+then-not-sheet}
+use Rattle.adjust.proofs.aggregate.reorder_aggregate_keys.Goals.{After-eq, then-sheet-via-then-sheet, then-sheet-via-else-sheet+then-not-sheet}
 
-pub returns-then-sheet-n : goal.returns-then-sheet-n
-returns-then-sheet-n c = let x = c.args.sheet.now in λ s cs. let t = sheet_of x s cs in
+pub returns-then-sheet : goal.returns-then-sheet
+returns-then-sheet c = let x = c.args.sheet.now in λ s cs. let t = sheet_of x s cs in
     ap (λ a. adjusted_of t (Some a)) c.passed.ensures
-    ∙ elim c.then-sheet-n.branch [
-      | then-sheet-n-via-then-sheet-n w ↦ aggregate_stays same_expr t (lengths_differ same_expr t (λ z. w.if-sheet-n.true (sym (length-map x.required.now expression) ∙ z)))
-      | then-sheet-n-via-else-sheet-n+then-not-sheet w ↦ aggregate_stays same_expr t (null_there same_expr t w.if-not-sheet.true)
+    ∙ elim c.then-sheet.branch [
+      | then-sheet-via-then-sheet w ↦ aggregate_stays same_expr t (lengths_differ same_expr t (λ z. w.if-sheet.true (sym (length-map x.required.now expression) ∙ z)))
+      | then-sheet-via-else-sheet+then-not-sheet w ↦ aggregate_stays same_expr t (null_there same_expr t w.if-not-sheet.true)
     ]
 
 -- R is the group names' columns already
 asked : (c : After-eq) → same_list same_expr (columns_from 0 c.args.sheet.now.groups.now) (expressions c.args.sheet.now.required.now) ≡ c.eq.result
 asked c = let x = c.args.sheet.now in
-    ap (λ (xs : List Expression). same_list same_expr xs (expressions x.required.now)) (sym c.group_columns.ensures)
-    ∙ same_expressions (take (length x.groups.now) c.group_columns.new.out) x.required.now ∙ search rules
+    ap (λ (xs : List Expression). same_list same_expr xs (expressions x.required.now)) (sym c.group_columns-columns.ensures)
+    ∙ same_expressions c.group_columns-columns.result.now x.required.now ∙ search rules
 
 pub returns-then-eq : goal.returns-then-eq
 returns-then-eq c = λ s cs. let t = sheet_of c.args.sheet.now s cs in
@@ -36,4 +36,4 @@ returns-then-eq c = λ s cs. let t = sheet_of c.args.sheet.now s cs in
 pub returns : goal.returns
 returns c = let x = c.args.sheet.now in λ s cs. let t = sheet_of x s cs in
     c.regroup_by.ensures s cs
-    ∙ aggregate_searched same_expr t (all_let same_expr t (length-map x.required.now expression ∙ c.if-sheet-n.false) c.if-not-sheet.false (asked (goal.at.returns c).After-eq ∙ c.if-eq.false))
+    ∙ aggregate_searched same_expr t (all_let same_expr t (length-map x.required.now expression ∙ c.if-sheet.false) c.if-not-sheet.false (asked (goal.at.returns c).After-eq ∙ c.if-eq.false))

@@ -12,18 +12,18 @@ use Rattle.keys.proofs.Tries.{try_unequal, try_met, try_raw, try_searched}
 use Rattle.keys.proofs.Outcomes.{no_entry}
 use Rattle.keys.proofs.reorder.try_reorder.Goals as goal
 
-pub returns-then-l-r : goal.returns-then-l-r
-returns-then-l-r c = try_unequal eqb gone_number (number_rules c.args.w.now) c.args.r.now c.args.l.now c.args.g.now c.if-l-r.true
+pub returns-then-x : goal.returns-then-x
+returns-then-x c = try_unequal eqb gone_number (number_rules c.args.w.now) c.args.x.required.now c.args.x.left.now c.args.x.right.now c.if-x.true
 
 pub returns-then-meets : goal.returns-then-meets
-returns-then-meets c = try_met eqb gone_number (number_rules c.args.w.now) c.args.r.now c.args.l.now c.args.g.now c.if-l-r.false (sym c.meets.ensures ∙ c.if-meets.true)
+returns-then-meets c = try_met eqb gone_number (number_rules c.args.w.now) c.args.x.required.now c.args.x.left.now c.args.x.right.now c.if-x.false (sym c.meets.ensures ∙ c.if-meets.true)
 
 pub returns-then-is_empty : goal.returns-then-is_empty
-returns-then-is_empty c = let r = c.args.r.now in let l = c.args.l.now in let g = c.args.g.now in
+returns-then-is_empty c = let r = c.args.x.required.now in let l = c.args.x.left.now in let g = c.args.x.right.now in
     let empty : length c.args.w.now ≡ 0 = search (rules, tests) in
     c.moved_by.ensures l g ∙ ap (moved_by gone_number l g) c.either_side.ensures
-    ∙ try_raw eqb gone_number r l g c.if-l-r.false (sym c.meets.ensures ∙ c.if-meets.false)
+    ∙ try_raw eqb gone_number r l g c.if-x.false (sym c.meets.ensures ∙ c.if-meets.false)
     ∙ ap (λ (w : List (List ℕ)). try_reorder eqb gone_number (number_rules w) r l g) (sym (no_entry c.args.w.now empty))
 
 pub returns : goal.returns
-returns c = c.try_rewritten.ensures ∙ try_searched eqb gone_number (number_rules c.args.w.now) c.args.r.now c.args.l.now c.args.g.now c.if-l-r.false (sym c.meets.ensures ∙ c.if-meets.false)
+returns c = c.try_rewritten.ensures ∙ try_searched eqb gone_number (number_rules c.args.w.now) c.args.x.required.now c.args.x.left.now c.args.x.right.now c.if-x.false (sym c.meets.ensures ∙ c.if-meets.false)
