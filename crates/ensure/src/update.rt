@@ -44,7 +44,7 @@ fn marks_below(rows: &[Row], at: usize, left: u64) -> bool
     any_unspecified(rows, at, left)
 }
 
-// The mark of the tree at `at`.
+// The mark of the tree at `at`. That one stands there stays a clause, as in `past_tree`.
 fn marks_child(rows: &[Row], at: usize) -> bool
     requires { Stands rows.now at }
     ensures { Says marks_child rows.now at result }

@@ -36,7 +36,7 @@ pub type FactRow = [u64; WIDTH];
 // Children are numbered from 1 to this.
 const LAST_CHILD: u64 = 8;
 
-const LAST_FORM: u64 = 15;
+const FORMS: u64 = 16;
 
 // A place for each child and form, and one for rows of neither.
 pub const PLACES: usize = 129;
@@ -59,6 +59,7 @@ pub struct FactRows<'a> {
     pub ghost indexed: { index.now ≡ index_of rows.now },
 }
 
+// Document 01 names it, so it is no Option.
 #[derive(Clone, Copy)]
 pub enum Fact {
     Row { place: usize },
@@ -70,14 +71,15 @@ pub enum Fact {
 fn slot(child: u64, form: u64) -> usize
     ensures { result ≡ slot_at child form }
 {
-    if 1 <= child && child <= LAST_CHILD && form <= LAST_FORM {
+    if 1 <= child && child <= LAST_CHILD && form < FORMS {
         // No From goes from u64 to usize.
-        return ((child - 1) * 16 + form) as usize;
+        return ((child - 1) * FORMS + form) as usize;
     }
     NOWHERE
 }
 
 // The index of the rows, filled from the last of them to the first, so that the first of a child and form counts.
+// The index is lent as a slice, so its length is a clause.
 pub fn index_rows(rows: &[FactRow], index: &mut [u64])
     requires { length index.old ≡ 129 }
     ensures { index.new ≡ index_of rows.now }

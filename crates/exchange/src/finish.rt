@@ -76,7 +76,8 @@ pub fn finish_child(
     let f = w.facts.children[(c.at.child - 1) as usize];
     let top = row::node_at(&*mid, 0);
     let h = handle_order(known(w, c.need, top.tracked, f, x));
-    let put = put_handled(h, output_fetch(w.worked), &*mid, 0, &mut *dst, to);
+    let built = Place { rows: &*mid, at: 0 };
+    let put = put_handled(h, output_fetch(w.worked), built, &mut *dst, to);
     Step {
         at: read.at,
         to: put.to,

@@ -4,7 +4,8 @@ ghost use Rattle.exchange.specs.Standings.{Numbered};
 
 use crate::status::Asked;
 
-// What is asked of each child; they are numbered from 1.
+// What is asked of each child; they are numbered from 1. Where their forms are written, that these are as many stays a clause:
+// a struct that lends both would be put together anew at each call.
 #[derive(Clone, Copy)]
 pub struct Asks<'a> {
     pub list: &'a [Asked],

@@ -91,6 +91,7 @@ pub fn pack(n: Node, children: u64) -> Row
     ]
 }
 
+// That `at` is in range stays a clause here and below: a struct that says it would be made anew at each row.
 pub fn node_at(rows: &[Row], at: usize) -> Node
     requires { at < length rows.now }
     ensures { result ≡ node_at rows.now at }
@@ -120,7 +121,7 @@ pub fn set_mark(rows: &mut [Row], at: usize, m: u64)
     rows[at][TRACKED] = m;
 }
 
-// The place past the tree at `at`.
+// The place past the tree at `at`. That one stands there stays a clause: a struct that says it would be made anew at each tree.
 pub fn past_tree(rows: &[Row], at: usize) -> usize
     requires { Stands rows.now at }
     ensures { (t : Plan) (rest : List (List ℕ)) → drop at rows.now ≡ flatten t ++ rest → result ≡ at + length (flatten t) }

@@ -22,7 +22,7 @@ impl Settings {
 
     pub const MIN_BATCH: u64 = 1;
 
-    // The settings, where target and batch are within their bounds.
+    // The settings, where target and batch are within their bounds. Document 01 names it; its nine numbers are those of the D line.
     #[tactic(auto, unfolding(crate::specs::Settings::checked))]
     pub fn new(
         target: u64,

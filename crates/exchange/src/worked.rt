@@ -16,7 +16,7 @@ fn removable(n: Node) -> bool
     n.limited == NO_LIMIT && kind::MERGE <= n.kind && n.kind <= kind::REPARTITION_UNKNOWN
 }
 
-// Whether the operator at `at` is taken off, so that its child comes next.
+// Whether the operator at `at` is taken off, so that its child comes next. That `at` is in range stays a clause, as in `node_at`.
 fn taken_off(rows: &[Row], at: usize) -> bool
     requires { at < length rows.now }
     ensures { result ≡ (not (eqb (children_at rows.now at) 0) && is_removed (operator_of (node_at rows.now at))) }
@@ -24,7 +24,7 @@ fn taken_off(rows: &[Row], at: usize) -> bool
     row::children_at(rows, at) != 0 && removable(row::node_at(rows, at))
 }
 
-// The place of the worked node of the tree at `at`.
+// The place of the worked node of the tree at `at`. That one stands there stays a clause, as in `past_tree`.
 pub fn remove_dist_changing_operators(rows: &[Row], at: usize) -> usize
     requires { Stands rows.now at }
     ensures { (t : Plan) (rest : List (List ℕ)) → drop at rows.now ≡ flatten t ++ rest → result ≡ at + length (removed t) }

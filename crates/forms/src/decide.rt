@@ -18,6 +18,7 @@ use exchange::partitioning::Worked;
 use exchange::relationship::Unenforced;
 use exchange::settings::Settings;
 
+// That there are as many forms as asks stays a clause, as `Asks` says.
 pub fn child_forms(
     s: Settings,
     w: Worked,

@@ -106,6 +106,7 @@ fn any_givable(mask: u64, asks: Asks, forms: Forms, xs: FactRows) -> bool
 }
 
 // Each child of the mask that can be is given one.
+// That there are as many forms as asks stays a clause, as `Asks` says.
 fn round(mask: u64, asks: Asks, forms: &mut [u64], xs: FactRows) -> Option<()>
     requires forms_len { length forms.old ≡ length asks.list.now }
     requires small { (k : ℕ) → k < length forms.old → get_or forms.old k 0 ≤ 15 }
@@ -133,6 +134,7 @@ fn given_set(forms: Forms) -> u64
 }
 
 // The rounds, until no child is unsatisfied; each gives a child its exchange, and none has two.
+// That there are as many forms as asks stays a clause, as `Asks` says.
 pub fn enforce_distribution_relationships(
     masks: &[u64],
     asks: Asks,

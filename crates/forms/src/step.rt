@@ -160,6 +160,7 @@ pub fn ensure_child(s: Settings, w: Worked, aligned: bool, a: Asked, xs: FactRow
 }
 
 // The forms of the children after their steps, one after the other.
+// That there are as many forms as asks stays a clause, as `Asks` says.
 fn ensure_each(
     s: Settings,
     w: Worked,
@@ -178,6 +179,7 @@ fn ensure_each(
 }
 
 // The forms of the children after their steps.
+// That there are as many forms as asks stays a clause, as `Asks` says.
 pub fn ensure_children(
     s: Settings,
     w: Worked,

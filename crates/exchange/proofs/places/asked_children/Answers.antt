@@ -1,13 +1,10 @@
 -- `exchange::places::asked_children` meets its contract: the children so far, and where the trees that are left stand (`AskedUpto`).
-use mathlib.Core.Path.{◌≡◌, refl, sym, ◌∙◌}
+use mathlib.Core.Path.{◌≡◌, sym, ◌∙◌}
 use native.Mathlib.Omega.{arith}
 use lib.ListN.{length, length-set}
 use Rattle.exchange.proofs.Marking.{stands_in}
-use Rattle.exchange.proofs.PlacesRead.{asked_start, asked_stands, asked_turn, asked_done}
+use Rattle.exchange.proofs.PlacesRead.{asked_stands, asked_turn, asked_done}
 use Rattle.exchange.proofs.places.asked_children.Goals as goal
-
-pub loop-i-init : goal.loop-i-init
-loop-i-init c = (refl, λ ts rest m h. asked_start _ ts rest _ _ _ h)
 
 pub node_at-child-requires : goal.node_at-child-requires
 node_at-child-requires c = let q = c.requires.stand_all in

@@ -2,11 +2,8 @@
 use mathlib.Core.Path.{◌≡◌, sym, ◌∙◌}
 use native.Mathlib.Omega.{arith}
 use lib.ListN.{length}
-use Rattle.exchange.proofs.PlacesRead.{upto_start, upto_stands, upto_turn, upto_end}
+use Rattle.exchange.proofs.PlacesRead.{upto_stands, upto_turn, upto_end}
 use Rattle.exchange.proofs.places.child_places.Goals as goal
-
-pub loop-place-init : goal.loop-place-init
-loop-place-init c = λ ts rest m h. upto_start _ _ ts rest _ h
 
 pub past_tree-next-requires : goal.past_tree-next-requires
 past_tree-next-requires c = let q = c.requires in

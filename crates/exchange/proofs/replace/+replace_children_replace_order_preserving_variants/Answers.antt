@@ -39,9 +39,6 @@ replace_children-replace_children-requires t c =
       rw c.if-is_set.auto.dst (others_ready (read_in_place c.args.src.now c.args.at) replace_tracked replace_tracked _ _ _ c.if-left-eq0.false (first_replaced c.args.src.now c.args.at) _ _ _ _ m _ c.requires),
     )
 
-pub replace_children-shape_of-dst : goal.replace_children-shape_of-dst
-replace_children-shape_of-dst t c = c.replace_children.auto.dst ∙ c.if-is_set.auto.dst
-
 pub replace_children-returns : goal.replace_children-returns
 replace_children-returns t c =
     let m : Maps (read_in_place c.args.src.now c.args.at) c.args.src.now c.args.at c.args.dst.now c.args.to c.if-is_set.dst c.if-is_set.s =
@@ -70,9 +67,6 @@ replace_order_preserving_variants-overflow_add-at t c = omega (arith, Headed.rea
 pub replace_order_preserving_variants-replace_children-requires : goal.replace_order_preserving_variants-replace_children-requires
 replace_order_preserving_variants-replace_children-requires t c = let k = c.children_at-children.ensures in let e = rw (c.node_at.ensures, k) at c.put_in_place-next.ensures in
     (omega (arith, c.decreases, Headed.ready_row replace_order_preserving_variants heads replace_tracked rows_replace _ _ _ _ c.requires), rw (c.put_in_place-next.auto.dst, k) (Headed.ready_below replace_order_preserving_variants heads replace_tracked rows_replace _ _ _ _ c.requires _ e.0))
-
-pub replace_order_preserving_variants-shape_of-dst : goal.replace_order_preserving_variants-shape_of-dst
-replace_order_preserving_variants-shape_of-dst t c = c.replace_children.auto.dst ∙ c.put_in_place-next.auto.dst
 
 pub replace_order_preserving_variants-returns : goal.replace_order_preserving_variants-returns
 replace_order_preserving_variants-returns t c = let k = c.children_at-children.ensures in let e = rw (c.node_at.ensures, k) at c.put_in_place-next.ensures in

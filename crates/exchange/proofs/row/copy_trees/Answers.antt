@@ -1,12 +1,8 @@
 -- `exchange::row::copy_trees` meets its contract. The rows copied, with those of the `left` trees still to come, are those of all (`Mid`).
-use mathlib.Core.Path.{refl}
 use native.Mathlib.Omega.{arith}
 use lib.ListN.{length-set}
-use Rattle.exchange.proofs.Copied.{Room, start, step, finish, room}
+use Rattle.exchange.proofs.Copied.{Room, step, finish, room}
 use Rattle.exchange.proofs.row.copy_trees.Goals as goal
-
-pub loop-left-init : goal.loop-left-init
-loop-left-init c = (refl, λ ts rest k h. start _ _ _ _ ts rest _ k h)
 
 pub children_at-below-requires : goal.children_at-below-requires
 children_at-below-requires c =
@@ -23,11 +19,6 @@ bounds-src-a c =
     let turn : Room c.args.src.now c.args.to c.requires.below c.loop-left.a c.loop-left.b c.loop-left.left = room _ _ _ _ _ c.requires.rest _ _ _ _ c.loop-left-test.true (c.loop-left.invariant.1 c.requires.below c.requires.rest c.requires.counted c.requires.stands) in
     omega (arith, turn)
 
-pub offset_bounds-dst-b : goal.offset_bounds-dst-b
-offset_bounds-dst-b c =
-    let turn : Room c.args.src.now c.args.to c.requires.below c.loop-left.a c.loop-left.b c.loop-left.left = room _ _ _ _ _ c.requires.rest _ _ _ _ c.loop-left-test.true (c.loop-left.invariant.1 c.requires.below c.requires.rest c.requires.counted c.requires.stands) in
-    omega (arith, turn)
-
 pub bounds-dst-b : goal.bounds-dst-b
 bounds-dst-b c =
     let turn : Room c.args.src.now c.args.to c.requires.below c.loop-left.a c.loop-left.b c.loop-left.left = room _ _ _ _ _ c.requires.rest _ _ _ _ c.loop-left-test.true (c.loop-left.invariant.1 c.requires.below c.requires.rest c.requires.counted c.requires.stands) in
@@ -35,16 +26,6 @@ bounds-dst-b c =
 
 pub overflow_add-a : goal.overflow_add-a
 overflow_add-a c =
-    let turn : Room c.args.src.now c.args.to c.requires.below c.loop-left.a c.loop-left.b c.loop-left.left = room _ _ _ _ _ c.requires.rest _ _ _ _ c.loop-left-test.true (c.loop-left.invariant.1 c.requires.below c.requires.rest c.requires.counted c.requires.stands) in
-    omega (arith, turn)
-
-pub overflow_add-b : goal.overflow_add-b
-overflow_add-b c =
-    let turn : Room c.args.src.now c.args.to c.requires.below c.loop-left.a c.loop-left.b c.loop-left.left = room _ _ _ _ _ c.requires.rest _ _ _ _ c.loop-left-test.true (c.loop-left.invariant.1 c.requires.below c.requires.rest c.requires.counted c.requires.stands) in
-    omega (arith, turn)
-
-pub overflow_sub-left : goal.overflow_sub-left
-overflow_sub-left c =
     let turn : Room c.args.src.now c.args.to c.requires.below c.loop-left.a c.loop-left.b c.loop-left.left = room _ _ _ _ _ c.requires.rest _ _ _ _ c.loop-left-test.true (c.loop-left.invariant.1 c.requires.below c.requires.rest c.requires.counted c.requires.stands) in
     omega (arith, turn)
 
@@ -60,9 +41,6 @@ loop-left-smaller c =
 
 pub loop-left-preserved : goal.loop-left-preserved
 loop-left-preserved c = let l = c.loop-left in let e = c.children_at-below.ensures in (simp length-set l.invariant.0, λ ts rest k h. rw e (step _ _ _ _ ts rest _ _ _ _ c.loop-left-test.true (l.invariant.1 ts rest k h)))
-
-pub shape_of-dst : goal.shape_of-dst
-shape_of-dst c = c.loop-left.invariant.0
 
 pub returns : goal.returns
 returns c = λ ts rest k h. finish _ _ _ _ ts rest _ _ _ (rw c.loop-left-test.false at (c.loop-left.invariant.1 ts rest k h))
