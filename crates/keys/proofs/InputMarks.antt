@@ -10,10 +10,10 @@ use lib.Dec.{eqb}
 use lib.ListN.{length, take, drop, get_or, length-drop}
 use denote.Ref.{Bor}
 use lib.Seq.{take_all}
+use Rattle.std.proofs.lemmas.List.{nil_from_length}
 use Rattle.keys.specs.Expressions.{Expression, expressions}
 use Rattle.keys.specs.Kept.{hashed}
 use Rattle.keys.specs.InputValues.{input_of, mark_length, PartOf, HandedBack}
-use Rattle.keys.proofs.Outcomes.{no_entry}
 use Rattle.keys.proofs.Truths.{true_false, none_some}
 
 -- all after the mark
@@ -73,7 +73,7 @@ module _ (x : Bor (List ℕ)) where
   whole_part e =
       let z : mark_length x.now ≡ 0 = unmarked x.now e in
       let p : x.ref_ptr.1 ≡ mark_length x.now * 8 + x.ref_ptr.1 = omega arith in
-      record { within = (mark_fits x.now, omega arith); place = λ k. (x.ref_ptr.0, p k); contents = rw (no_entry x.now e) }
+      record { within = (mark_fits x.now, omega arith); place = λ k. (x.ref_ptr.0, p k); contents = rw (nil_from_length x.now e) }
     where
       unmarked : (h : List ℕ) → length h ≡ 0 → mark_length h ≡ 0
       unmarked [] e = refl

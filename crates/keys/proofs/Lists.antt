@@ -98,12 +98,12 @@ module _ {A : Type 0} (same : A → A → Bool) where
     place_nowhere i h = rw (drop_of_length-le xs h)
 
   pub place_below : (x : A) (xs : List A) (p : ℕ) → place_of same x xs ≡ some p → p < length xs
-  place_below x [] p e = let z : ◌≡◌ {A = ℕ} 0 1 = cc in omega arith
+  place_below x [] p e = cc
   place_below x (c ∷ cs) p e = go (same c x) (place_of same x cs) (place_below x cs) e
     where
       go : (b : Bool) (o : Option ℕ) → ((q : ℕ) → o ≡ some q → q < length cs) → cond b (some zero) (next o) ≡ some p → p < suc (length cs)
       go true o h q = let z : zero ≡ p = cc in omega arith
-      go false none h q = let z : ◌≡◌ {A = ℕ} 0 1 = cc in omega arith
+      go false none h q = cc
       go false (some r) h q = let z : suc r ≡ p = cc in omega (arith, h r refl)
 
 module _ {A : Type 0} (same : A → A → Bool) (gone : A) where
@@ -141,12 +141,6 @@ pub below_at : (n : ℕ) (ps : List ℕ) (i : ℕ) → Below n ps → i < length
 below_at n [] i b h = absurd (omega arith)
 below_at n (p ∷ ps) zero b h = b.0
 below_at n (p ∷ ps) (suc i) b h = below_at n ps i b.1 (omega arith)
-
--- within a list, what stands past its end does not matter
-pub get_d_any : {A : Type 0} (xs : List A) (i : ℕ) (d e : A) → i < length xs → get_or xs i d ≡ get_or xs i e
-get_d_any [] i d e h = absurd (omega arith)
-get_d_any (x ∷ xs) zero d e h = refl
-get_d_any (x ∷ xs) (suc i) d e h = get_d_any xs i d e (omega arith)
 
 pub also_below : (n p : ℕ) (o : Option (List ℕ)) → p < n → AllBelow n o → AllBelow n (also p o)
 also_below n p none h b = tt

@@ -4,7 +4,7 @@ use Prim.Native.Nat.{ℕ, zero, suc, ◌+◌, ◌*◌, ◌/◌, ◌%◌, ◌≤�
 use mathlib.Core.Path.{◌≡◌, refl, ap, sym, ◌∙◌}
 use mathlib.Core.Bool.{Bool, true, false, cond}
 use mathlib.Core.Option.{Option, none, some}
-use mathlib.Core.List.{List, [], ◌∷◌, ◌++◌, append_assoc, append-nil}
+use mathlib.Core.List.{List, [], ◌∷◌, ◌++◌, append_assoc, append-nil, map-append}
 use native.Mathlib.Nat.{zero-add}
 use native.Mathlib.Numerals.{add-one}
 use native.Mathlib.Omega.{arith}
@@ -15,7 +15,6 @@ use Rattle.keys.specs.Lists.{next, place_of}
 use Rattle.keys.specs.Expressions.{column, expression, expressions}
 use Rattle.keys.specs.Adjust.{columns_from, name_places}
 use Rattle.keys.proofs.Lists.{first_pushed, from, behind, behind_also}
-use Rattle.keys.proofs.Shifts.{map-append}
 
 -- a name and its place, packed, are a column
 pub packed_column : (n i : ℕ) → n < 65536 → i < 65536 → expression (n * 65536 + i) ≡ column n i

@@ -1,8 +1,8 @@
 -- Parts of lists and rooms from their start on.
 -- Assumes nothing.
 use Prim.Native.Nat.{ℕ, ◌-◌, ◌≤◌}
-use mathlib.Core.Path.{◌≡◌, refl, sym, ap, ◌∙◌}
-use mathlib.Core.List.{List, [], ◌∷◌}
+use mathlib.Core.Path.{◌≡◌, sym, ap, ◌∙◌}
+use mathlib.Core.List.{List}
 use native.Mathlib.Omega.{arith}
 use lib.ListN.{length, take}
 use lib.Seq.{length-take-le}
@@ -25,7 +25,3 @@ pub moved_front :
     (gone n : ℕ) (items out all : List ℕ) → n ≤ length items → take (length (take (n - 0) items)) out ≡ permute gone all (take (n - 0) items) →
     take (n - 0) out ≡ permute gone all (take n items)
 moved_front gone n items out all h e = room_front n items out h ∙ e ∙ ap (permute gone all) (from_start n items)
-
-pub no_entry : {A : Type 0} (xs : List A) → length xs ≡ 0 → xs ≡ []
-no_entry [] e = refl
-no_entry (x ∷ xs) e = absurd (omega arith)

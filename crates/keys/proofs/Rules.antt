@@ -2,10 +2,9 @@
 -- Assumes nothing.
 use Prim.Native.Nat.{ℕ}
 use mathlib.Core.Path.{◌≡◌, refl, sym, ◌∙◌}
-use mathlib.Core.Bool.{Bool, true, false, cond, not, ◌&&◌, ◌||◌}
+use mathlib.Core.Bool.{Bool, true, false, cond, not, ◌&&◌, ◌||◌, and-false}
 use mathlib.Core.Option.{Option, none, some}
 use mathlib.Core.List.{List, [], ◌++◌}
-use native.Mathlib.Omega.{arith}
 use borrow.Author.Tests.{eq-eqb, ne_eqb}
 use lib.Dec.{eqb}
 use lib.ListN.{length}
@@ -28,9 +27,9 @@ module _ (same : Expression → Expression → Bool) (s : KeySheet) where
   collect_required n e h = rw e (go (eqb n 0 || eqb n 2) (eqb n 5 || (eqb n 7 || eqb n 9)) h)
     where
       go : (a b : Bool) → cond a false b ≡ true → passed s 1 s.required kept (given s.required) ≡ passed s 1 s.required kept (given (cond a (shift_right_required s.columns s.required) (cond b s.required [])))
-      go true b h = let z : ◌≡◌ {A = ℕ} 0 1 = cc in absurd (omega arith)
+      go true b h = absurd (cc)
       go false true h = refl
-      go false false h = let z : ◌≡◌ {A = ℕ} 0 1 = cc in absurd (omega arith)
+      go false false h = absurd (cc)
 
   pub collect_other :
       (s.join ≡ 0 → ⊥) → (s.join ≡ 2 → ⊥) → (s.join ≡ 5 → ⊥) → (s.join ≡ 7 → ⊥) → (s.join ≡ 9 → ⊥) →
@@ -124,19 +123,10 @@ module _ (same : Expression → Expression → Bool) (s : KeySheet) where
   lengths_differ h = rw (ne_eqb (length s.required) (length (columns_from 0 s.groups)) (λ e. h (e ∙ columns_length 0 s.groups)))
 
   pub null_there : s.plain ≡ false → searchable ≡ false
-  null_there e = rw e (and_none (eqb (length s.required) (length (columns_from 0 s.groups))))
-    where
-      and_none : (a : Bool) → a && false ≡ false
-      and_none true = refl
-      and_none false = refl
+  null_there e = rw e (and-false (eqb (length s.required) (length (columns_from 0 s.groups))))
 
   pub same_already : same_list same (columns_from 0 s.groups) s.required ≡ true → searchable ≡ false
-  same_already e = rw e (none_left (eqb (length s.required) (length (columns_from 0 s.groups))) s.plain)
-    where
-      none_left : (a b : Bool) → a && (b && false) ≡ false
-      none_left true true = refl
-      none_left true false = refl
-      none_left false b = refl
+  same_already e = rw (e, and-false s.plain) (and-false (eqb (length s.required) (length (columns_from 0 s.groups))))
 
   pub all_let :
       length s.required ≡ length s.groups → s.plain ≡ true → same_list same (columns_from 0 s.groups) s.required ≡ false → searchable ≡ true

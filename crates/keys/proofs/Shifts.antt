@@ -2,21 +2,18 @@
 -- Assumes nothing.
 use Prim.Native.Nat.{ℕ, suc, ◌+◌, ◌-◌, ◌/◌, ◌%◌, ◌≤◌, ◌<◌}
 use mathlib.Core.Path.{◌≡◌, refl, ap, sym}
-use mathlib.Core.Bool.{Bool, true, false, cond, ◌&&◌}
+use mathlib.Core.Bool.{Bool, false, cond, ◌&&◌}
 use mathlib.Core.Option.{Option, none, some}
-use mathlib.Core.List.{List, [], ◌∷◌, ◌++◌, map, append_assoc, append-nil}
+use mathlib.Core.List.{List, [], ◌∷◌, ◌++◌, append_assoc, append-nil, map-append}
 use native.Mathlib.Numerals.{add-one}
 use native.Mathlib.Omega.{arith}
 use borrow.Author.Tests.{eq-eqb, ne_eqb, le-leb, lt-leb}
 use lib.Dec.{eqb, leb}
 use lib.ListN.{length, get_or, drop, drop_of_length-le}
 use lib.Seq.{drop-cons}
+use Rattle.std.proofs.lemmas.Bool.{and_left, and_right}
 use Rattle.keys.specs.Expressions.{Expression, column, expression, expressions}
 use Rattle.keys.specs.Adjust.{onto, shifted}
-
-pub map-append : {A B : Type 0} (f : A → B) (xs ys : List A) → map f (xs ++ ys) ≡ map f xs ++ map f ys
-map-append f [] ys = refl
-map-append {B = B} f (x ∷ xs) ys = ap (λ (r : List B). f x ∷ r) (map-append f xs ys)
 
 -- entries before others, where those are there
 abbrev pub prefixed : List Expression → Option (List Expression) → Option (List Expression)
@@ -47,13 +44,6 @@ less columns n k h =
 
 stopped : (t u : Bool) (xs : List Expression) (e : Expression) (o : Option (List Expression)) → t && u ≡ false → prefixed xs (cond (t && u) (onto e o) none) ≡ none
 stopped t u xs e o z = rw z
-
-and_left : (a b : Bool) → a ≡ false → a && b ≡ false
-and_left a b e = rw e
-
-and_right : (a b : Bool) → b ≡ false → a && b ≡ false
-and_right true b e = e
-and_right false b e = refl
 
 module _ (columns : ℕ) (ns : List ℕ) (i : ℕ) (h : i < length ns) (done : List ℕ) where
   pub shift_turn :

@@ -2,7 +2,7 @@
 -- Assumes nothing.
 use Prim.Native.Nat.{ℕ, ◌+◌, ◌≤◌, ◌<◌}
 use mathlib.Core.Path.{◌≡◌, refl, ap}
-use mathlib.Core.Bool.{Bool, true, false, ◌||◌}
+use mathlib.Core.Bool.{Bool, true, false}
 use mathlib.Core.Option.{Option, none, some}
 use mathlib.Core.List.{List, [], ◌∷◌}
 use native.Mathlib.Numerals.{add-one}
@@ -14,12 +14,6 @@ use Rattle.keys.specs.Reorder.{Rule, met, moved_by, rewrite_one, rewrite, meets,
 use Rattle.keys.specs.Searched.{searched, searched_by}
 use Rattle.keys.specs.Arrange.{AllBelow}
 use Rattle.keys.proofs.Lists.{or_else_below, positions_below}
-
-pub or_left : (a b : Bool) → a ≡ true → true ≡ a || b
-or_left a b e = rw e
-
-pub or_right : (a b : Bool) → a ≡ false → b ≡ a || b
-or_right a b e = rw e
 
 pub first_found : (a b : Option (List ℕ)) (ps : List ℕ) → a ≡ some ps → a ≡ or_else a b
 first_found a b ps e = rw e
