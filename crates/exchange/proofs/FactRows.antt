@@ -4,17 +4,14 @@ use mathlib.Core.Path.{◌≡◌, refl, sym, ap, ◌∙◌}
 use mathlib.Core.Bool.{Bool, true, false, cond, ◌&&◌}
 use mathlib.Core.Option.{Option, none, some}
 use mathlib.Core.List.{List, [], ◌∷◌, map}
-use Prim.Native.Nat.{ℕ, suc, ◌+◌, ◌≤◌, ◌<◌}
-use native.Mathlib.Numerals.{add-one}
+use Prim.Native.Nat.{ℕ, suc, ◌<◌}
 use native.Mathlib.Omega.{arith}
 use lib.Dec.{eqb}
-use lib.ListN.{length, drop, get_or, drop_of_length-le}
-use lib.Seq.{drop-cons}
+use lib.ListN.{length, get_or}
 use Rattle.exchange.specs.Forms.{Form, form_number}
 use Rattle.exchange.specs.Facts.{Row, row_of}
 use Rattle.exchange.specs.Found.{child_of, later, row_for}
-use Rattle.exchange.specs.FactRows.{fact_row, row_at, asked_by}
-use Rattle.exchange.specs.declared.status.Asked.{Asked}
+use Rattle.exchange.specs.FactRows.{fact_row, row_at}
 
 row_later : (x : List ℕ) (xs : List (List ℕ)) (p : Option ℕ) → row_at xs p ≡ row_at (x ∷ xs) (later p)
 row_later x xs none = refl
@@ -35,12 +32,12 @@ row_found (x ∷ xs) child f =
 
 found_in : (xs : List (List ℕ)) (child n p : ℕ) → row_for xs child n ≡ some p → p < length xs
 unfolding row_for
-found_in [] child n p e = absurd (let z : ◌≡◌ {A = ℕ} 0 1 = cc in omega arith)
+found_in [] child n p e = absurd (cc)
 found_in (x ∷ xs) child n p e = go (eqb (child_of x) child && eqb (get_or x 1 0) n) (row_for xs child n) e (found_in xs child n)
   where
     go : (t : Bool) (o : Option ℕ) → cond t (some 0) (later o) ≡ some p → ((q : ℕ) → o ≡ some q → q < length xs) → p < length (x ∷ xs)
     go true o e h = let z : 0 ≡ p = cc in omega arith
-    go false none e h = absurd (let z : ◌≡◌ {A = ℕ} 0 1 = cc in omega arith)
+    go false none e h = absurd (cc)
     go false (some q) e h = let z : suc q ≡ p = cc in omega (arith, h q refl)
 
 module _ (rows : List (List ℕ)) (child : ℕ) (f : Form) where

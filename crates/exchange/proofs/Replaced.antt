@@ -1,6 +1,6 @@
 -- The rows of a replaced tree, clause by clause: those in the operator's place, then the children's (`rows_replace`).
 -- Assumes nothing.
-use mathlib.Core.Path.{◌≡◌, refl, sym, ap, ◌∙◌}
+use mathlib.Core.Path.{◌≡◌, refl, ap, ◌∙◌}
 use mathlib.Core.Bool.{Bool, true, false, cond, ◌&&◌}
 use mathlib.Core.List.{List, [], ◌∷◌, ◌++◌}
 use Prim.Native.Nat.{ℕ, suc, ◌+◌, ◌*◌, ◌≤◌}
@@ -14,7 +14,7 @@ use Rattle.exchange.specs.Trees.{node, none, ◌∷ᶠ◌, trees, root, Operator
 use Rattle.exchange.specs.Rows.{packed, node_of, operator_of, row_of, flatten, flattens}
 use Rattle.exchange.specs.Operators.{is_sort_preserving_merge, is_repartition, has_limit}
 use Rattle.exchange.specs.Replace.{coalesced, relaxed, replace_operator, replace_order_preserving_variants, replace_tracked}
-use Rattle.exchange.specs.ReplaceRows.{exchanges, merge_sort, relaxed_or, heads}
+use Rattle.exchange.specs.ReplaceRows.{merge_sort, relaxed_or, heads}
 use Rattle.exchange.proofs.Stored.{then}
 use Rattle.exchange.proofs.TreeRows.{row_packed, flatten_node, flattens_none, flattens_cons, flattens_one}
 

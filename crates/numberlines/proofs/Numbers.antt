@@ -82,10 +82,10 @@ row_line letter s at other b row row' end l early =
 -- what was stored where the numbers go on, and that they do not
 pub stored_to : (o : Option ℕ) (p : ℕ) → Ok p ≡ ok_or o Unusual → o ≡ Some p
 stored_to (Some q) p e = cc
-stored_to None p e = let z : ◌≡◌ {A = ℕ} 0 1 = cc in absurd (omega arith)
+stored_to None p e = absurd (cc)
 
 pub unusual_is : (o : Option ℕ) (u : Unread) → Err u ≡ ok_or o Unusual → u ≡ Unusual
-unusual_is (Some q) u e = let z : ◌≡◌ {A = ℕ} 0 1 = cc in absurd (omega arith)
+unusual_is (Some q) u e = absurd (cc)
 unusual_is None u e = cc
 
 -- two runs of numbers, and the last one
