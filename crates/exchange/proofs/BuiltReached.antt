@@ -5,7 +5,6 @@ use mathlib.Core.Path.{◌≡◌, refl, sym, ap, ◌∙◌}
 use mathlib.Core.Bool.{Bool, true, false, cond}
 use mathlib.Core.Option.{Option, none, some}
 use mathlib.Core.List.{List}
-use native.Mathlib.Omega.{arith}
 use lib.Dec.{eqb}
 use Rattle.exchange.specs.Trees.{node, root, Operator, Plan, Plans}
 use Rattle.exchange.specs.Settings.{is_set}
@@ -21,7 +20,7 @@ same_some : (t u : Plan) → some t ≡ some u → u ≡ t
 same_some t u e = let same : t ≡ u = cc in sym same
 
 none_some : {A : Type 0} (u : Plan) → none ≡ some u → A
-none_some u e = absurd (let z : ◌≡◌ {A = ℕ} 0 1 = cc in omega arith)
+none_some u e = absurd (cc)
 
 module _ (rows : List Row) (number : ℕ) (f : Form) where
   -- the root, split or not

@@ -3,11 +3,12 @@
 use Prim.Native.Nat.{ℕ}
 use mathlib.Core.Path.{◌≡◌, refl, ◌∙◌}
 use mathlib.Core.Logic.{◌⊎◌, inl, inr}
-use mathlib.Core.Bool.{Bool, true, false, cond, not, ◌&&◌, ◌||◌}
+use mathlib.Core.Bool.{Bool, true, false, cond, not, ◌&&◌, ◌||◌, or-true}
 use mathlib.Core.Option.{Option, some, none as nothing}
 use mathlib.Core.List.{List}
 use lib.Dec.{eqb, leb, ltb}
 use borrow.Author.Tests.{ltb-false, le-leb, eqb-true, not-false}
+use Rattle.std.proofs.lemmas.Bool.{or_parts, and_cases}
 use Rattle.keys.proofs.Truths.{true_false, and_first, and_second}
 use Rattle.exchange.specs.Trees.{node, root, Operator, Plan}
 use Rattle.exchange.specs.declared.settings.Settings.{Settings}
@@ -24,20 +25,6 @@ use Rattle.exchange.specs.Skeleton.{is_added_sort}
 use Rattle.exchange.specs.Partitioning.{is_new_keyed, is_had, is_split}
 use Rattle.exchange.proofs.Passing.{Holds, holds_then, holds_cond, holds_pass}
 use Rattle.exchange.proofs.RowsFit.{merge_one}
-
-or_false : (a b : Bool) → (a || b) ≡ false → (a ≡ false) × (b ≡ false)
-or_false false b e = (refl, e)
-or_false true true e = (e, e)
-or_false true false e = (e, refl)
-
--- which of two is false
-and-false : (a b : Bool) → (a && b) ≡ false → (a ≡ false) ⊎ (b ≡ false)
-and-false false b e = inl refl
-and-false true b e = inr e
-
-or-true : (a : Bool) → (a || true) ≡ true
-or-true true = refl
-or-true false = refl
 
 pick_keyed : (a k x y : Bool) → a ≡ false → k ≡ true → y ≡ true → cond a x (cond k y true) ≡ true
 pick_keyed a k x y p q r = rw (p, q) r
@@ -189,7 +176,7 @@ module _ (s : Settings) (w : Operator) (b : NodeFacts) (rows : List Row) where
       need = h.need;
       row = h.row;
       fresh = h.fresh;
-      had = had_keyed c d.row (root d.plan) (rw h.need at n) keyed (why (and-false _ _ e));
+      had = had_keyed c d.row (root d.plan) (rw h.need at n) keyed (why (and_cases _ _ e));
     }
       where
         keyed : is_keyed (need_of c) ≡ true
@@ -214,11 +201,11 @@ module _ (s : Settings) (w : Operator) (b : NodeFacts) (rows : List Row) where
 
         split_necessary : (is_keyed (need_of c) ≡ false) ⊎ ((ltb 1 (count_of c) || aligned) ≡ false) → Goal
         split_necessary (inl q) = absurd (true_false keyed q)
-        split_necessary (inr q) = unasked (or_false (ltb 1 (count_of c)) aligned q).0 (or_false (ltb 1 (count_of c)) aligned q).1 h.counted
+        split_necessary (inr q) = unasked (or_parts (ltb 1 (count_of c)) aligned q).0 (or_parts (ltb 1 (count_of c)) aligned q).1 h.counted
 
         why : ((is_keyed (need_of c) && (ltb 1 (count_of c) || aligned)) ≡ false) ⊎ (needs_hash_repartition s w (status_of s aligned c) d ≡ false) → Goal
-        why (inl q) = split_necessary (and-false (is_keyed (need_of c)) (ltb 1 (count_of c) || aligned) q)
-        why (inr q) = by_row (not-false satisfied (or_false (not satisfied) _ q).0)
+        why (inl q) = split_necessary (and_cases (is_keyed (need_of c)) (ltb 1 (count_of c) || aligned) q)
+        why (inr q) = by_row (not-false satisfied (or_parts (not satisfied) _ q).0)
 
     -- the need decides, as the step does
     satisfies : (c : Child) (aligned : Bool) → (asks_alignment s c ≡ true → aligned ≡ true) → (d : ChildState) → Comes c d

@@ -1,7 +1,7 @@
 -- The replacement keeps every limit with its owner, and so does every step of a child: what is added has no limit, or one that is not its own.
 use Prim.Native.Nat.{ℕ}
 use mathlib.Core.Path.{◌≡◌, refl, sym, ap, ap₂, ◌∙◌}
-use mathlib.Core.Bool.{Bool, true, false, cond, not, ◌&&◌}
+use mathlib.Core.Bool.{Bool, true, false, cond, not, ◌&&◌, and-false}
 use mathlib.Core.Option.{Option, some, none as nothing}
 use mathlib.Core.List.{[], ◌++◌, append-nil}
 use lib.Dec.{eqb, leb}
@@ -21,10 +21,6 @@ use Rattle.exchange.proofs.Growing.{Grows}
 use Rattle.exchange.proofs.Handling.{measure_handled}
 
 -- ---- one operator
-
-and-false : (b : Bool) → (b && false) ≡ false
-and-false true = refl
-and-false false = refl
 
 pub own_none : (o : Operator) (ts : Plans) → o.limit ≡ nothing → own_limit o ts ≡ []
 own_none o ts e = go (is_added_sort o) (eqb o.mask 0)

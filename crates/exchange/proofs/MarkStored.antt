@@ -14,7 +14,7 @@ use Rattle.exchange.specs.Runs.{Stands, Becomes, BecomeAll, Says, StandAll}
 use Rattle.exchange.specs.Operators.{mark, track, track_root}
 use Rattle.exchange.specs.Children.{update_each, update_children}
 use Rattle.exchange.specs.Update.{marks_child}
-use Rattle.exchange.proofs.Stored.{then, past, first_at, stored_stands}
+use Rattle.exchange.proofs.Stored.{then, past, first_at}
 use Rattle.exchange.proofs.TreeRows.{flatten_node, flattens_none, flattens_cons, tree_long}
 use Rattle.exchange.proofs.Marking.{row_at, head_stands, tail_stands, below_stands, children_read, PastTree}
 
@@ -59,7 +59,7 @@ marks_cons : (t : Plan) (ts : Plans) → update_each (t ∷ᶠ ts) ≡ track_roo
 unfolding update_each marks_child
 marks_cons (node o us) ts = refl
 
-trees_marks : (ts : Plans) → trees (update_each ts) ≡ trees ts
+pub trees_marks : (ts : Plans) → trees (update_each ts) ≡ trees ts
 unfolding update_each
 trees_marks none = refl
 trees_marks (t ∷ᶠ ts) = ap suc (trees_marks ts)
@@ -125,6 +125,3 @@ marks_long (t ∷ᶠ ts) =
 
 pub update_long : (t : Plan) → length (flatten (update_children t)) ≡ length (flatten t)
 update_long (node o ts) = omega (arith, ap length (flatten_node (track 0 o) (update_each ts)), marks_long ts, ap length (flatten_node o ts))
-
-pub update_stands : (d d₁ : List (List ℕ)) (at : ℕ) (t : Plan) (rest : List (List ℕ)) → drop at d ≡ flatten t ++ rest → Becomes update_children d at d₁ → drop at d₁ ≡ flatten (update_children t) ++ rest
-update_stands d d₁ at t rest h f = ap (drop at) (f t rest h) ∙ stored_stands d (flatten (update_children t)) (flatten t) rest at h (update_long t) (omega (arith, tree_long t))

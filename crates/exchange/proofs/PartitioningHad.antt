@@ -5,7 +5,8 @@ use mathlib.Core.Bool.{Bool, true, false, cond, not, ◌||◌}
 use mathlib.Core.List.{List, [], ◌∷◌}
 use lib.ListN.{length}
 use borrow.Author.Tests.{not-true}
-use Rattle.keys.proofs.Truths.{true_false, and_first, and_second, or_first, or_second}
+use Rattle.std.proofs.lemmas.Bool.{or_left, or_right}
+use Rattle.keys.proofs.Truths.{true_false, and_first, and_second}
 use Rattle.exchange.specs.Trees.{node, root, Operator, Plan}
 use Rattle.exchange.specs.declared.settings.Settings.{Settings}
 use Rattle.exchange.specs.Settings.{is_set}
@@ -42,8 +43,8 @@ module _ (s : Settings) (w : Operator) (b : NodeFacts) (rows : List Row) (ds : L
     step_has s w b rows ds fit c aligned
         (not-true (is_added_sort (root c.plan)) (and_first (not (is_added_sort (root c.plan))) (none_added cs) fresh))
         (implied (is_split s c) (is_set c.facts.gains) (and_first (not (is_split s c) || is_set c.facts.gains) (splits_gain s cs) gains))
-        (λ e. asks (or_first (asks_alignment s c) (needs_alignment s cs) e)),
-    steps_have cs (λ e. asks (or_second (asks_alignment s c) (needs_alignment s cs) e))
+        (λ e. asks (or_left (asks_alignment s c) (needs_alignment s cs) e)),
+    steps_have cs (λ e. asks (or_right (asks_alignment s c) (needs_alignment s cs) e))
         (and_second (not (is_split s c) || is_set c.facts.gains) (splits_gain s cs) gains)
         (and_second (not (is_added_sort (root c.plan))) (none_added cs) fresh),
   )
@@ -73,7 +74,7 @@ module _ (s : Settings) (f : Facts) (w : Operator) (n : ℕ) where
     each_had cs ds h.1,
   )
 
-whole : (u : Plan) → node (root u) (below u) ≡ u
+pub whole : (u : Plan) → node (root u) (below u) ≡ u
 whole (node o ts) = refl
 
 module _ (s : Settings) (f : Facts) where

@@ -7,11 +7,12 @@ use Prim.Native.Nat.{ℕ, zero, suc, ◌+◌, ◌≤◌, ◌<◌}
 use native.Mathlib.Numerals.{add-one}
 use native.Mathlib.Omega.{arith}
 use lib.ListN.{length, take, drop, get_or, set}
-use lib.Seq.{take_all, take-suc-set, drop-cons}
+use lib.Seq.{take_all, drop-cons}
+use Rattle.std.proofs.lemmas.List.{take_more_set}
 use Rattle.exchange.specs.declared.row.Node.{Node}
 use Rattle.exchange.specs.declared.status.Asked.{Asked}
 use Rattle.exchange.specs.Trees.{none, ◌∷ᶠ◌, root, trees, Operator, Plan, Plans}
-use Rattle.exchange.specs.Rows.{operator_of, node_at, others, flatten, flattens}
+use Rattle.exchange.specs.Rows.{operator_of, node_at, flatten, flattens}
 use Rattle.exchange.specs.States.{children_from}
 use Rattle.exchange.specs.FactRows.{child_facts, asked_by}
 use Rattle.exchange.specs.Standings.{SameChildren, done, also, no_child}
@@ -19,9 +20,6 @@ use Rattle.exchange.specs.Runs.{Stands}
 use Rattle.exchange.specs.Places.{places_of, needs_of, counts_of}
 use Rattle.exchange.proofs.Stored.{past}
 use Rattle.exchange.proofs.Marking.{root_read, head_stands, tail_stands, PastTree}
-
-one_more : {A : Type 0} (l : List A) (i : ℕ) (x : A) → i < length l → take (i + 1) (set l i x) ≡ take i l ++ (x ∷ [])
-one_more l i x h = rw (add-one i) (take-suc-set l i x h)
 
 -- ---- the places, one after the other
 
@@ -58,7 +56,7 @@ module _ (src : List (List ℕ)) (at : ℕ) (ts : Plans) (rest : List (List ℕ)
       go : (us : Plans) → trees us + i ≡ trees ts → drop next src ≡ flattens us ++ rest → places_of at ts ≡ take i places ++ places_of next us → Upto src at ts rest (i + 1) next₁ (set places i next)
       go none c h e = absurd (omega arith)
       go (t ∷ᶠ us) c h e =
-          let more : take (i + 1) (set places i next) ≡ take i places ++ (next ∷ []) = one_more places i next b in
+          let more : take (i + 1) (set places i next) ≡ take i places ++ (next ∷ []) = take_more_set places i next b in
           record {
             below = us;
             counted = omega arith;
@@ -120,7 +118,7 @@ module _ (src : List (List ℕ)) (ts : Plans) (rest facts : List (List ℕ)) whe
           → AskedUpto src ts rest facts (i + 1) next₁ (set asks i a)
       go none c h e = absurd (omega arith)
       go (t ∷ᶠ us) c h e =
-          let more : take (i + 1) (set asks i a) ≡ take i asks ++ (a ∷ []) = one_more asks i a b in
+          let more : take (i + 1) (set asks i a) ≡ take i asks ++ (a ∷ []) = take_more_set asks i a b in
           let o : root t ≡ operator_of n = sym (ap operator_of is ∙ root_read src next t _ (head_stands src next t us rest h)) in
           record {
             below = us;
@@ -150,22 +148,10 @@ unfolding places_of
 places_long at none = refl
 places_long at (t ∷ᶠ ts) = ap suc (places_long (at + length (flatten t)) ts)
 
-pub needs_long : (ts : Plans) → length (needs_of ts) ≡ trees ts
-unfolding needs_of
-needs_long none = refl
-needs_long (t ∷ᶠ ts) = ap suc (needs_long ts)
-
 pub counts_long : (ts : Plans) → length (counts_of ts) ≡ trees ts
 unfolding counts_of
 counts_long none = refl
 counts_long (t ∷ᶠ ts) = ap suc (counts_long ts)
-
-pub place_stands : (src : List (List ℕ)) (at : ℕ) (ts : Plans) (rest : List (List ℕ)) (k : ℕ) → k < trees ts → drop at src ≡ flattens ts ++ rest → drop (get_or (places_of at ts) k 0) src ≡ flattens (others k ts) ++ rest
-unfolding places_of
-place_stands src at none rest k l h = absurd (omega arith)
-place_stands src at (t ∷ᶠ ts) rest zero l h = h
-place_stands src at (t ∷ᶠ ts) rest (suc k) l h =
-    place_stands src (at + length (flatten t)) ts rest k (omega arith) (past src (flatten t) (flattens ts ++ rest) at (head_stands src at t ts rest h))
 
 -- ---- the children by those numbers
 

@@ -1,12 +1,12 @@
 -- Rows stored one run after the other are one run (`both`), and what stands past a run is read from there (`past`).
 -- Assumes nothing.
 use mathlib.Core.Path.{◌≡◌, sym, ap, ◌∙◌}
-use mathlib.Core.List.{List, [], ◌∷◌, ◌++◌, append_assoc}
+use mathlib.Core.List.{List, [], ◌∷◌, ◌++◌}
 use Prim.Native.Nat.{ℕ, suc, ◌+◌, ◌≤◌, ◌<◌}
 use native.Mathlib.Nat.{add-zero, add-suc, suc-add}
 use native.Mathlib.Omega.{arith}
-use lib.ListN.{length, take, drop, get_or, set, length-drop, length-append}
-use lib.Seq.{sets, sets-eq, drop_at, length-take-le, drop-drop, drop-append_seam, get_or-drop}
+use lib.ListN.{length, drop, get_or, set, length-drop, length-append}
+use lib.Seq.{sets, drop-drop, drop-append_seam, get_or-drop}
 use Rattle.exchange.specs.declared.row.Step.{Step}
 use Rattle.exchange.specs.Runs.{Wrote}
 
@@ -44,10 +44,3 @@ pub first_at : {A : Type 0} (src ys : List A) (a : ℕ) (z : A) → drop a src �
 first_at src ys a z h =
     let e : get_or (drop a src) 0 z ≡ get_or src a z = get_or-drop a src 0 z ∙ ap (λ (k : ℕ). get_or src k z) (add-zero a) in
     sym e ∙ ap (λ (l : List _). get_or l 0 z) h
-
--- a run stored over one of its length
-pub stored_stands : {A : Type 0} (d xs zs ys : List A) (at : ℕ) → drop at d ≡ zs ++ ys → length xs ≡ length zs → 0 < length zs → drop at (sets d at xs) ≡ xs ++ ys
-stored_stands d xs zs ys at h same more =
-    let fits : at + length xs ≤ length d = omega (arith, within d zs ys at h more) in
-    ap (drop at) (sets-eq xs d at fits ∙ append_assoc (take at d) xs (drop (at + length xs) d)) ∙ drop_at (take at d) (xs ++ drop (at + length xs) d) at (length-take-le at d (omega arith))
-    ∙ ap (λ (l : List _). xs ++ l) (ap (λ (n : ℕ). drop (at + n) d) same ∙ past d zs ys at h)

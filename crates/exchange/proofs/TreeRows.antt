@@ -51,7 +51,7 @@ trees_long (t ∷ᶠ ts) = omega (arith, trees_long ts, tree_long t, ap length (
 
 -- ---- a row says its operator and its count of children
 
-limit_held : (l : Option ℕ) → limit_of (limit_mark l) (limit_number l) ≡ l
+pub limit_held : (l : Option ℕ) → limit_of (limit_mark l) (limit_number l) ≡ l
 limit_held absent = refl
 limit_held (some l) = refl
 

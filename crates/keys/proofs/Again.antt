@@ -10,12 +10,12 @@ use native.Mathlib.Omega.{arith}
 use borrow.Author.Tests.{eq-eqb}
 use lib.Dec.{eqb}
 use lib.ListN.{length, get_or, length-map, get_or-map}
+use Rattle.std.proofs.lemmas.List.{get_or_default}
+use Rattle.std.proofs.lemmas.Bool.{or_left, or_right}
 use Rattle.keys.specs.Lists.{same_list, permute}
 use Rattle.keys.specs.Reorder.{Rule, Tried, met, moved_by, rewrite_one, rewrite, meets, try_reorder}
 use Rattle.keys.specs.Arrange.{Below, Equivalence, Lacks, FitsSide, left, right, left_rewritten, right_rewritten}
 use Rattle.keys.specs.Kept.{up_from}
-use Rattle.keys.proofs.Lists.{get_d_any}
-use Rattle.keys.proofs.Truths.{or_first, or_second}
 use Rattle.keys.proofs.OwnOrder.{same_list_sym}
 use Rattle.keys.proofs.Ways.{rewrite_length, meets_either, Way, unequal, meeting, moving, missing, way, side_arranges, found_fits}
 use Rattle.keys.proofs.Decided.{meets_fits}
@@ -31,7 +31,7 @@ module _ {A : Type 0} (same : A → A → Bool) (gone : A) (w : List (Rule A)) w
   rewrite_permute xs (p ∷ ps) b =
       let h : rewrite_one same w (get_or xs p gone) ≡ get_or (rewrite same w xs) p gone
       = sym (get_or-map (rewrite_one same w) xs p gone)
-      ∙ get_d_any (rewrite same w xs) p (rewrite_one same w gone) gone (rw (rewrite_length same w xs) b.0) in
+      ∙ get_or_default (rewrite same w xs) p (rewrite_one same w gone) gone (rw (rewrite_length same w xs) b.0) in
       rw (h, rewrite_permute xs ps b.1)
 
   -- two sides of which one meets the requirement, raw or rewritten
@@ -59,18 +59,18 @@ module _ {A : Type 0} (same : A → A → Bool) (gone : A) (w : List (Rule A)) w
 
         go : FitsSide same gone w r l g ps → meets_either same w r l' g' ≡ true
         go (left f) =
-            or_first (meets same r l' g') (meets same (new r) (new l') (new g'))
-            (or_first (same_list same r l') (same_list same r g') (same_list_sym same eq l' r f.equal))
+            or_left (meets same r l' g') (meets same (new r) (new l') (new g'))
+            (or_left (same_list same r l') (same_list same r g') (same_list_sym same eq l' r f.equal))
         go (right f) =
-            or_first (meets same r l' g') (meets same (new r) (new l') (new g'))
-            (or_second (same_list same r l') (same_list same r g') (same_list_sym same eq g' r f.equal))
+            or_left (meets same r l' g') (meets same (new r) (new l') (new g'))
+            (or_right (same_list same r l') (same_list same r g') (same_list_sym same eq g' r f.equal))
         go (left_rewritten f) =
-            or_second (meets same r l' g') (meets same (new r) (new l') (new g'))
-            (or_first (same_list same (new r) (new l')) (same_list same (new r) (new g'))
+            or_right (meets same r l' g') (meets same (new r) (new l') (new g'))
+            (or_left (same_list same (new r) (new l')) (same_list same (new r) (new g'))
             (rw (rewrite_permute l ps (rw (rewrite_length same w l) at f.arrangement.within)) (same_list_sym same eq (permute gone (new l) ps) (new r) f.equal)))
         go (right_rewritten f) =
-            or_second (meets same r l' g') (meets same (new r) (new l') (new g'))
-            (or_second (same_list same (new r) (new l')) (same_list same (new r) (new g'))
+            or_right (meets same r l' g') (meets same (new r) (new l') (new g'))
+            (or_right (same_list same (new r) (new l')) (same_list same (new r) (new g'))
             (rw (rewrite_permute g ps (rw (rewrite_length same w g) at f.arrangement.within)) (same_list_sym same eq (permute gone (new g) ps) (new r) f.equal)))
 
     module _ (clean : Lacks same gone r) (clean' : Lacks same gone (rewrite same w r)) where

@@ -11,11 +11,12 @@ use mathlib.Core.List.{List, [], ◌∷◌}
 use mathlib.Core.Logic.{⊎_elim}
 use native.Mathlib.Omega.{arith}
 use lib.ListN.{length}
+use Rattle.std.proofs.lemmas.Bool.{or_left, or_cases}
 use Rattle.keys.specs.Lists.{same_list, expected_expr_positions}
 use Rattle.keys.specs.Reorder.{Rule, Tried, rewrite, meets, either_side, try_reorder}
 use Rattle.keys.specs.Arrange.{Equivalence, Lacks, Fits, FitsSide, left, right, left_rewritten, right_rewritten}
 use Rattle.keys.specs.Kept.{up_from}
-use Rattle.keys.proofs.Truths.{true_false, or_first, or_either, neither_first, or_none_first, or_none_second}
+use Rattle.keys.proofs.Truths.{true_false, neither_first, or_none_first, or_none_second}
 use Rattle.keys.proofs.Exact.{positions_exact}
 use Rattle.keys.proofs.OwnOrder.{own_order_fits, same_list_sym}
 use Rattle.keys.proofs.Ways.{rewrite_length, meets_either, Way, unequal, meeting, moving, missing, way, side_length, found_fits}
@@ -25,9 +26,6 @@ both_empty same [] [] p q = refl
 both_empty same [] (y ∷ ys) p q = absurd (omega arith)
 both_empty same (x ∷ xs) ys p q = absurd (omega arith)
 
-positive : (n : ℕ) → (n ≡ 0 → ⊥) → 0 < n
-positive n h = omega arith
-
 module _ {A : Type 0} (same : A → A → Bool) (gone : A) (w : List (Rule A)) where
   -- two sides of which one is the requirement fit in their own order
   pub meets_fits :
@@ -35,11 +33,11 @@ module _ {A : Type 0} (same : A → A → Bool) (gone : A) (w : List (Rule A)) w
       FitsSide same gone w r l g (up_from 0 (length l))
   meets_fits eq r l g n m =
       ⊎_elim
-      (λ a. ⊎_elim (λ s. left (fit l r refl s)) (λ s. right (fit g r (sym n) s)) (or_either (same_list same r l) (same_list same r g) a))
+      (λ a. ⊎_elim (λ s. left (fit l r refl s)) (λ s. right (fit g r (sym n) s)) (or_cases (same_list same r l) (same_list same r g) a))
       (λ a. ⊎_elim (λ s. left_rewritten (fit (new l) (new r) (rewrite_length same w l) s))
       (λ s. right_rewritten (fit (new g) (new r) (rewrite_length same w g ∙ sym n) s))
-      (or_either (same_list same (new r) (new l)) (same_list same (new r) (new g)) a))
-      (or_either (meets same r l g) (meets same (new r) (new l) (new g)) m)
+      (or_cases (same_list same (new r) (new l)) (same_list same (new r) (new g)) a))
+      (or_cases (meets same r l g) (meets same (new r) (new l) (new g)) m)
     where
       new : List A → List A
       new xs = rewrite same w xs
@@ -79,10 +77,10 @@ module _ {A : Type 0} (same : A → A → Bool) (gone : A) (w : List (Rule A)) w
 
         filled : length l ≡ length r → meets_either same w r l g ≡ false → 0 < length r
         filled z m =
-            positive (length r)
-            (λ k. true_false
-            (or_first (same_list same r l) (same_list same r g) (both_empty same r l k (z ∙ k)))
-            (neither_first (meets same r l g) (meets same (new r) (new l) (new g)) m))
+            let some : length r ≡ 0 → ⊥ = λ k. true_false
+            (or_left (same_list same r l) (same_list same r g) (both_empty same r l k (z ∙ k)))
+            (neither_first (meets same r l g) (meets same (new r) (new l) (new g)) m) in
+            omega arith
 
         go : (t : Tried A) → Way same gone w r l g t → t.report ≡ 3 → ⊥
         go t (unequal u) e = u (side_length same gone w r l g n ps f)

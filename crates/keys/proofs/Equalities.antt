@@ -5,11 +5,12 @@ use mathlib.Core.Bool.{Bool, true, false, cond, ◌&&◌}
 use mathlib.Core.List.{List, [], ◌∷◌}
 use borrow.Author.Tests.{eq-eqb, eqb-true}
 use lib.Dec.{eqb}
+use Rattle.std.proofs.lemmas.Bool.{and_from}
 use Rattle.keys.specs.Reorder.{Rule, rewrite_one, rewrite}
 use Rattle.keys.specs.Expressions.{Expression, same_expr}
 use Rattle.keys.specs.Arrange.{Equivalence, Lacks}
 use Rattle.keys.specs.Kept.{LacksRules}
-use Rattle.keys.proofs.Truths.{and_first, and_second, and_both}
+use Rattle.keys.proofs.Truths.{and_first, and_second}
 
 -- an equality by the value of a function
 module _ {A : Type 0} (f : A → ℕ) where
@@ -24,10 +25,10 @@ module _ {A : Type 0} (f : A → ℕ) where
 module _ {A : Type 0} (s t : A → A → Bool) (p : Equivalence s) (q : Equivalence t) where
   pub both : Equivalence (λ a b. s a b && t a b)
   both = record {
-    reflexive = λ x. and_both (s x x) (t x x) (p.reflexive x) (q.reflexive x);
-    symmetric = λ x y e. and_both (s y x) (t y x) (p.symmetric x y (and_first (s x y) (t x y) e)) (q.symmetric x y (and_second (s x y) (t x y) e));
+    reflexive = λ x. and_from (s x x) (t x x) (p.reflexive x) (q.reflexive x);
+    symmetric = λ x y e. and_from (s y x) (t y x) (p.symmetric x y (and_first (s x y) (t x y) e)) (q.symmetric x y (and_second (s x y) (t x y) e));
     transitive = λ x y z d e.
-        and_both (s x z) (t x z)
+        and_from (s x z) (t x z)
         (p.transitive x y z (and_first (s x y) (t x y) d) (and_first (s y z) (t y z) e))
         (q.transitive x y z (and_second (s x y) (t x y) d) (and_second (s y z) (t y z) e));
   }

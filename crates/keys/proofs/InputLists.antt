@@ -1,8 +1,6 @@
 -- The lists of an I sheet's answer, by its positions.
 --     inputs_counted                   how many positions are reported, and that they are below the pairs' number
 --     inputs_lists                     the answer's keys and directions are those at the positions, or as they stood
---     left_marked, right_marked        the list followed has a mark, so the part handed back starts at 1
---     moved_below, moved_left, ..      for a caller of `reorder_join_keys_to_inputs`: the answer's lists, by what stands in the lent places
 -- Assumes nothing.
 use Prim.Native.Nat.{ℕ}
 use mathlib.Core.Path.{◌≡◌, refl, ap, sym, ◌∙◌, subst}
@@ -12,16 +10,16 @@ use mathlib.Core.Option.{some}
 use Rattle.std.specs.Prelude.{Option, Some, None}
 use mathlib.Core.List.{List}
 use native.Mathlib.Omega.{arith}
-use lib.ListN.{length, take, drop, length-map}
+use lib.ListN.{length, drop, length-map}
 use denote.Ref.{Bor}
 use lib.Seq.{take_all}
 use Rattle.keys.specs.Lists.{permute}
 use Rattle.keys.specs.Reorder.{Rule, Tried, try_reorder}
-use Rattle.keys.specs.Expressions.{Expression, same_expr, placeholder, gone_number, expression, expressions}
+use Rattle.keys.specs.Expressions.{Expression, same_expr, placeholder, expression, expressions}
 use Rattle.keys.specs.Arrange.{Below}
 use Rattle.keys.specs.Inputs.{JoinSheet, JoinAnswer, as_stood, following, reorder_join_keys_to_inputs, followed_keys}
 use Rattle.keys.specs.Kept.{asked_under}
-use Rattle.keys.specs.InputValues.{input_of, join_sheet, side_number, mark_length, HandedBack, attempt_of, report_by, side_by, positions_by, position_count, InputsOrdered, InputLists}
+use Rattle.keys.specs.InputValues.{input_of, join_sheet, side_number, HandedBack, attempt_of, report_by, side_by, positions_by, position_count, InputsOrdered, InputLists}
 use Rattle.keys.specs.declared.inputs.Side.{Side}
 use Rattle.keys.specs.declared.inputs.Side.TheVariants.{Left, Right}
 use Rattle.keys.specs.declared.inputs.Attempt.{Attempt}
@@ -31,7 +29,7 @@ use Rattle.keys.proofs.Placement.{AllLong, searched_long, searched_below}
 use Rattle.keys.proofs.Packed.{permute_expressions}
 use Rattle.keys.proofs.Ways.{Way, unequal, meeting, moving, missing, way, searched}
 use Rattle.keys.proofs.InputGuarantee.{InputWay, unasked, all_impossible, followed, input_way}
-use Rattle.keys.proofs.InputMarks.{marked_keys, mark_one, part_keys}
+use Rattle.keys.proofs.InputMarks.{marked_keys, part_keys}
 
 module _ {A : Type 0} (same : A → A → Bool) (gone : A) (w : List (Rule A)) (r l g : List A) (even : length l ≡ length g) (ps : List ℕ) (e : searched same gone w r l g ≡ some ps) where
   found_long : length l ≡ length r → length ps ≡ length l
@@ -118,13 +116,6 @@ module _ (op mode : ℕ) (l g s h n : List ℕ) (w v : List (List ℕ)) where
   right_input_lem a (all_impossible x f) e = absurd (omega arith)
   right_input_lem a (followed x side r k f) e = let i : input_of n ≡ some r = rw e at k in i ∙ ap {B = maybe.Option (List Expression)} some (marked_keys n r i)
 
-  -- so the part handed back starts at 1
-  pub left_marked : answered.followed ≡ 1 → mark_length h ≡ 1
-  left_marked e = mark_one h (expressions (drop 1 h)) (left_input_lem answered (input_way same_expr sheet) e)
-
-  pub right_marked : answered.followed ≡ 2 → mark_length n ≡ 1
-  right_marked e = mark_one n (expressions (drop 1 n)) (right_input_lem answered (input_way same_expr sheet) e)
-
   pub left_keys : answered.followed ≡ 1 → followed_keys sheet answered.followed ≡ expressions (drop 1 h)
   left_keys e = rw (e, left_input_lem answered (input_way same_expr sheet) e)
 
@@ -181,42 +172,3 @@ module _ (op mode : ℕ) (l g s : List ℕ) (h n : Bor (List ℕ)) (w v : List (
           below = m.below;
           handed = keys_are (side_by c) r side_is b;
         }
-
--- for a caller: the lists of the answer, by what stands in the lent places
-module _
-    (op mode : ℕ) (l g s h n : List ℕ) (w v : List (List ℕ)) (even : length g ≡ length l) {report number : ℕ} {at ks : List ℕ}
-    (o : InputsOrdered (sheet op mode l g s h n w v) (answered op mode l g s h n w v) l report number at ks) where
-  abbrev lists : InputLists l g s (answered op mode l g s h n w v)
-  lists = inputs_lists op mode l g s h n w v even
-
-  module _ (e : report ≡ 2) where
-    moved : (answered op mode l g s h n w v).report ≡ 2
-    moved = sym o.reported ∙ e
-
-    pub moved_positions : take (length l) at ≡ (answered op mode l g s h n w v).positions
-    moved_positions = rw e at o.positions
-
-    pub moved_below : Below (length l) (take (length l) at)
-    moved_below = rw moved_positions o.below
-
-    pub moved_left : expressions (permute gone_number l (take (length l) at)) ≡ (answered op mode l g s h n w v).left
-    moved_left = rw moved_positions (sym (lists.left moved))
-
-    pub moved_right : expressions (permute gone_number g (take (length l) at)) ≡ (answered op mode l g s h n w v).right
-    moved_right = rw moved_positions (sym (lists.right moved))
-
-    pub moved_directions_lem : length s ≡ length l → permute 0 s (take (length l) at) ≡ (answered op mode l g s h n w v).directions
-    moved_directions_lem d = rw moved_positions (sym (lists.directed moved d))
-
-  module _ (e : report ≡ 2 → ⊥) where
-    unmoved : (answered op mode l g s h n w v).report ≡ 2 → ⊥
-    unmoved k = e (o.reported ∙ k)
-
-    pub stood_left : expressions l ≡ (answered op mode l g s h n w v).left
-    stood_left = sym (lists.stood unmoved).0
-
-    pub stood_right : expressions g ≡ (answered op mode l g s h n w v).right
-    stood_right = sym (lists.stood unmoved).1
-
-    pub stood_directions : s ≡ (answered op mode l g s h n w v).directions
-    stood_directions = sym (lists.stood unmoved).2

@@ -11,7 +11,6 @@ use mathlib.Core.Option.{Option, none, some}
 use mathlib.Core.List.{List, [], ◌++◌}
 use mathlib.Core.Logic.{◌↔◌, inl, inr}
 use Prim.Native.Nat.{ℕ}
-use native.Mathlib.Omega.{arith}
 use lib.Dec.{eqb}
 use lib.ListN.{length}
 use Rattle.keys.specs.Lists.{permute}
@@ -52,7 +51,7 @@ module _ (same : Expression → Expression → Bool) where
         for b p e = let z : b ≡ a = cc in subst (PairsStand s) z p
 
         moved : (ps : List ℕ) (q : Option (List ℕ)) → s.op ≡ 3 → regrouped same s ps q ≡ answered a → PairsStand s a
-        moved ps none op e = let z : ◌≡◌ {A = ℕ} 0 1 = cc in absurd (omega arith)
+        moved ps none op e = absurd (cc)
         moved ps (some qs) op e = for _ (record { pairs = refl; report = inr (refl, op) }) e
 
         go : (x : Adjustment) → KeyWay same s x → x ≡ answered a → PairsStand s a

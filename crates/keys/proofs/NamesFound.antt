@@ -41,7 +41,7 @@ module _ (same : Expression → Expression → Bool) (s : KeySheet) where
   names_found clean e = go (adjust_input_keys_ordering same s) (key_way same s) e
     where
       clash : {a : KeyAnswer} → answered a ≡ name_not_found → ⊥
-      clash e = let z : ◌≡◌ {A = ℕ} 0 1 = cc in omega arith
+      clash e = cc
 
       named : (ps : List ℕ) (o : Option (List ℕ)) → (o ≡ none → ⊥) → regrouped same s ps o ≡ name_not_found → ⊥
       named ps none h e = h refl

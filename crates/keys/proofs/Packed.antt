@@ -10,11 +10,11 @@ use native.Mathlib.Omega.{arith}
 use borrow.Author.Tests.{eq-eqb, eqb-true, eqb-false}
 use lib.Dec.{eqb}
 use lib.ListN.{length, set, length-map, get_or-map}
+use lib.Seq.{map-set}
 use Rattle.keys.specs.Lists.{also, and_then, or_else, same_list, place_of, take_places, expected_expr_positions, permute}
 use Rattle.keys.specs.Reorder.{Rule, Tried, met, moved_by, rewrite_one, rewrite, meets, either_side, try_reorder}
 use Rattle.keys.specs.Expressions.{Expression, same_expr, placeholder, gone_number, expression, expressions, packed, rule, rules}
 use Rattle.keys.specs.Values.{number_rules}
-use Rattle.keys.proofs.Turns.{map_set}
 
 -- what is tried of the ones, as what is tried of the others
 abbrev pub map_tried : {A B : Type 0} → (A → B) → Tried A → Tried B
@@ -53,7 +53,7 @@ module _ {A B : Type 0} (f : A → B) (same : A → A → Bool) (same' : B → B
     take_places_map : (xs cur : List A) → take_places same' (f gone) (map f cur) (map f xs) ≡ take_places same gone cur xs
     take_places_map [] cur = refl
     take_places_map (x ∷ xs) cur =
-        rw (place_of_map x cur) (go (place_of same x cur) (λ p. rw (map_set f cur p gone) at (take_places_map xs (set cur p gone))))
+        rw (place_of_map x cur) (go (place_of same x cur) (λ p. rw (map-set f cur p gone) at (take_places_map xs (set cur p gone))))
       where
         go :
             (o : Option ℕ) → ((p : ℕ) → take_places same' (f gone) (set (map f cur) p (f gone)) (map f xs) ≡ take_places same gone (set cur p gone) xs) →

@@ -7,11 +7,11 @@ use mathlib.Core.Option.{Option, none, some}
 use mathlib.Core.List.{List, [], ◌∷◌}
 use lib.ListN.{length, set}
 use Rattle.keys.specs.Lists.{also, and_then, or_else, place_of, take_places, expected_expr_positions}
-use Rattle.keys.specs.Reorder.{Rule, Tried, rewrite, either_side, try_reorder}
+use Rattle.keys.specs.Reorder.{Rule, rewrite, either_side}
 use Rattle.keys.specs.Arrange.{AllBelow}
 use Rattle.keys.proofs.Lists.{or_else_below}
 use Rattle.keys.proofs.Tries.{either_below}
-use Rattle.keys.proofs.Ways.{rewrite_length, searched, Way, unequal, meeting, moving, missing, way}
+use Rattle.keys.proofs.Ways.{rewrite_length, searched}
 
 -- as many places as are expected, where they are found
 abbrev pub AllLong : ℕ → Option (List ℕ) → Type 0
@@ -56,12 +56,3 @@ module _ {A : Type 0} (same : A → A → Bool) (gone : A) where
         or_else_below (length l) (either_side same gone r l g) (either_side same gone (rewrite same w r) (rewrite same w l) (rewrite same w g))
         (either_below same gone (length l) r l g refl n)
         (either_below same gone (length l) (rewrite same w r) (rewrite same w l) (rewrite same w g) (rewrite_length same w l) (rewrite_length same w g ∙ n))
-
-    pub tried_stood : ((try_reorder same gone w r l g).report ≡ 2 → ⊥) → (try_reorder same gone w r l g).positions ≡ []
-    tried_stood h = go (try_reorder same gone w r l g) (way same gone w r l g) h
-      where
-        go : (t : Tried A) → Way same gone w r l g t → (t.report ≡ 2 → ⊥) → t.positions ≡ []
-        go t (unequal u) h = refl
-        go t (meeting z m) h = refl
-        go t (moving z ps o) h = absurd (h refl)
-        go t (missing z m o) h = refl

@@ -4,15 +4,10 @@ use mathlib.Core.Path.{◌≡◌, refl, sym}
 use mathlib.Core.Bool.{Bool, true, false, cond, ◌&&◌, ◌||◌}
 use mathlib.Core.Option.{Option, none, some}
 use mathlib.Core.List.{List}
-use mathlib.Core.Logic.{◌⊎◌, inl, inr}
-use native.Mathlib.Omega.{arith}
 use Rattle.keys.specs.Lists.{also, or_else}
 
 pub true_false : {b : Bool} → b ≡ true → b ≡ false → ⊥
-true_false p q = let z : ◌≡◌ {A = ℕ} 0 1 = clash p q in omega arith
-  where
-    clash : {b : Bool} → b ≡ true → b ≡ false → ◌≡◌ {A = ℕ} 0 1
-    clash p q = cc
+true_false p q = cc
 
 -- two tests of which each holds where the other does
 pub both_ways : (a b : Bool) → (a ≡ true → b ≡ true) → (b ≡ true → a ≡ true) → a ≡ b
@@ -28,26 +23,12 @@ pub and_second : (a b : Bool) → a && b ≡ true → b ≡ true
 and_second true b e = e
 and_second false b e = absurd (true_false e refl)
 
-pub and_both : (a b : Bool) → a ≡ true → b ≡ true → a && b ≡ true
-and_both a b p q = rw (p, q)
-
-pub or_first : (a b : Bool) → a ≡ true → a || b ≡ true
-or_first a b e = rw e
-
-pub or_second : (a b : Bool) → b ≡ true → a || b ≡ true
-or_second true b e = refl
-or_second false b e = e
-
-pub or_either : (a b : Bool) → a || b ≡ true → (a ≡ true) ⊎ (b ≡ true)
-or_either true b e = inl refl
-or_either false b e = inr e
-
 pub neither_first : (a b : Bool) → a || b ≡ false → a ≡ false
 neither_first true b e = e
 neither_first false b e = refl
 
 pub none_some : {A X : Type 0} {x : A} {o : Option A} → o ≡ none → o ≡ some x → X
-none_some p q = let z : ◌≡◌ {A = ℕ} 0 1 = cc in absurd (omega arith)
+none_some p q = absurd (cc)
 
 pub also_none : (p : ℕ) (o : Option (List ℕ)) → also p o ≡ none → o ≡ none
 also_none p none e = refl

@@ -13,15 +13,11 @@ use Rattle.std.specs.Simd.{first_chunks}
 use Rattle.std.specs.Prelude.{slice_index, slice_index_or, IsTrue, ◌↔◌}
 use Rattle.linekinds.specs.KeyLines.{defined_expr, undefined_exprs, over}
 use Rattle.linekinds.specs.Reading.{row_value, row_values}
-
-same_truth : (a b : Bool) → (a ≡ true → b ≡ true) → (b ≡ true → a ≡ true) → a ≡ b
-same_truth true b f g = cc (f refl)
-same_truth false true f g = g refl
-same_truth false false f g = refl
+use Rattle.keys.proofs.Truths.{both_ways}
 
 -- what is true exactly where some element passes a test
 pub any_is : {X : Type 0} (b : Bool) (p : X → Bool) (xs : List X) → IsTrue b ↔ Any (λ x. p x ≡ true) xs → b ≡ list_any p xs
-any_is b p xs e = same_truth b (list_any p xs) (λ h. list_any-from_Any p xs (e.0 h)) (λ h. e.1 (Any-from_list_any p xs h))
+any_is b p xs e = both_ways b (list_any p xs) (λ h. list_any-from_Any p xs (e.0 h)) (λ h. e.1 (Any-from_list_any p xs h))
 
 -- a row over the largest, and a number over it
 pub over_any : (m : ℕ) (rs : List (List ℕ)) → list_any (λ r. ltb m (slice_index r 1)) rs ≡ over m (row_values rs)

@@ -2,12 +2,12 @@
 -- Assumes nothing.
 use Prim.Native.Nat.{ℕ, zero, suc, ◌+◌, ◌-◌, ◌*◌, ◌≤◌}
 use mathlib.Core.Path.{◌≡◌, refl, ap, sym, ◌∙◌}
-use mathlib.Core.Bool.{Bool, true, false, cond, ◌&&◌, ◌||◌}
+use mathlib.Core.Bool.{Bool, true, false, cond, ◌&&◌, ◌||◌, and_assoc}
 use mathlib.Core.Option.{some}
 use mathlib.Core.List.{List, [], ◌∷◌, map}
 use native.Mathlib.Omega.{arith}
-use borrow.Author.Tests.{le-leb, lt-leb, leb-true, leb-false, ltb-false, eqb-true}
-use lib.Dec.{eqb, leb, ltb}
+use borrow.Author.Tests.{le-leb, lt-leb, leb-true, ltb-false, eqb-true}
+use lib.Dec.{eqb, leb, ltb, leb-suc-suc}
 use lib.ListN.{length, get_or, take, drop, length-drop, get_or-map}
 use Rattle.text.specs.declared.field.Field.{Field}
 use Rattle.text.specs.declared.field.Field.TheVariants.{Number as number}
@@ -21,25 +21,11 @@ use Rattle.linekinds.specs.Reading.{kind_of, head_count, entry_width, large_by, 
 use Rattle.linekinds.specs.declared.kind.Codes.{Codes}
 use Rattle.linekinds.specs.declared.kind.Codes.TheVariants.{Key, Join, Exprs, Rules, Input, Directions, Names}
 
-and_assoc : (a b c : Bool) → a && (b && c) ≡ (a && b) && c
-and_assoc true b c = refl
-and_assoc false b c = refl
-
-and_swap : (a b c : Bool) → (a && b) && c ≡ a && (b && c)
-and_swap a b c = sym (and_assoc a b c)
-
-and_middle : (a b c : Bool) → a && (b && c) ≡ b && (a && c)
+pub and_middle : (a b c : Bool) → a && (b && c) ≡ b && (a && c)
 and_middle true true c = refl
 and_middle true false c = refl
 and_middle false true c = refl
 and_middle false false c = refl
-
-leb_suc : (m n : ℕ) → leb (suc m) (suc n) ≡ leb m n
-leb_suc m n = go (leb m n) refl
-  where
-    go : (t : Bool) → leb m n ≡ t → leb (suc m) (suc n) ≡ t
-    go true e = le-leb (suc m) (suc n) (omega (arith, leb-true m n e))
-    go false e = lt-leb (suc m) (suc n) (omega (arith, leb-false m n e))
 
 -- so many plain fields
 abbrev plains : ℕ → List Bound
@@ -51,8 +37,8 @@ unfolding fits allows_all
 plain_heads zero fs = rw (le-leb 0 (length fs) (omega arith))
 plain_heads (suc n) [] = rw (lt-leb (suc n) 0 (omega arith))
 plain_heads (suc n) (f ∷ fs) =
-    rw (leb_suc n (length fs))
-    (and_swap (allows plain f) (fits (plains n) (take n fs)) (allows_all plain (drop n fs))
+    rw (leb-suc-suc n (length fs))
+    (and_assoc (allows plain f) (fits (plains n) (take n fs)) (allows_all plain (drop n fs))
     ∙ ap (λ (b : Bool). allows plain f && b) (plain_heads n fs)
     ∙ and_middle (allows plain f) (leb n (length fs)) (allows_all plain fs))
 
@@ -62,9 +48,9 @@ fit_counts :
     fits (plains n) (take n fs) && (allows_all plain (drop n fs) && whole_entries w (length (drop n fs)))
     ≡ leb n (length fs) && ((leb (greatest 0 (map state_of fs)) 0 && leb (greatest 0 (map value_of fs)) 65535) && whole_entries w (length fs - n))
 fit_counts n w fs =
-    and_assoc (fits (plains n) (take n fs)) (allows_all plain (drop n fs)) (whole_entries w (length (drop n fs)))
+    sym (and_assoc (fits (plains n) (take n fs)) (allows_all plain (drop n fs)) (whole_entries w (length (drop n fs))))
     ∙ rw (plain_heads n fs, length-drop n fs, all_largest plain fs)
-    (and_swap (leb n (length fs)) (leb (greatest 0 (map state_of fs)) 0 && leb (greatest 0 (map value_of fs)) 65535) (whole_entries w (length fs - n)))
+    (and_assoc (leb n (length fs)) (leb (greatest 0 (map state_of fs)) 0 && leb (greatest 0 (map value_of fs)) 65535) (whole_entries w (length fs - n)))
 
 -- the tests in two groups
 grouped :

@@ -2,7 +2,7 @@
 -- Assumes nothing.
 use Prim.Native.Nat.{ℕ, ◌-◌, ◌≤◌}
 use mathlib.Core.Path.{◌≡◌, refl, ap, sym, ◌∙◌}
-use mathlib.Core.Bool.{Bool, true, false, cond, ◌&&◌}
+use mathlib.Core.Bool.{Bool, true, false, cond, false≢true}
 use mathlib.Core.Option.{Option, none, some}
 use mathlib.Core.List.{List, [], ◌∷◌, map}
 use native.Mathlib.Omega.{arith}
@@ -10,6 +10,7 @@ use borrow.Author.Tests.{ne_eqb, eqb-true, eqb-false, leb-true}
 use lib.Dec.{eqb, leb}
 use lib.ListN.{length, take}
 use lib.Seq.{length-take-le}
+use Rattle.std.proofs.lemmas.Bool.{and_parts}
 use Rattle.text.specs.declared.field.Field.{Field}
 use Rattle.text.specs.declared.field.Field.TheVariants.{Number as number, Empty as empty, Malformed as malformed}
 use Rattle.text.specs.Text.{state_of, value_of, greatest}
@@ -42,7 +43,7 @@ module _ (c : Codes) (letter seen next : ℕ) where
   unfolding line_number
   read_at none count after true p e = let z : ◌≡◌ {A = ℕ} 1 0 = eqb-true 1 0 p in absurd (omega arith)
   read_at (some fs) count after true p e = record { zero = eqb-true _ 0 p; fs = fs; is = refl; counts = cc; goes = cc }
-  read_at x count after false p e = let z : ◌≡◌ {A = ℕ} 0 1 = cc in absurd (omega arith)
+  read_at x count after false p e = absurd (cc)
 
   pub was_read : (x : Option (List Field)) (count after : ℕ) → R.Line count after ≡ read_by (line_number (kind_of c letter) seen next x) next x → Good c letter seen next x count after
   was_read x count after e = read_at x count after (eqb (line_number (kind_of c letter) seen next x) 0) refl e
@@ -50,7 +51,7 @@ module _ (c : Codes) (letter seen next : ℕ) where
   turned_at : (x : Option (List Field)) (r : Refusal) (t : Bool) → eqb (line_number (kind_of c letter) seen next x) 0 ≡ t →
       R.Refused r ≡ cond t (R.Line (length (fields_of x)) next) (R.Refused (refusal_of (line_number (kind_of c letter) seen next x))) →
       (r ≡ refusal_of (line_number (kind_of c letter) seen next x)) × (line_number (kind_of c letter) seen next x ≡ 0 → ⊥)
-  turned_at x r true p e = let z : ◌≡◌ {A = ℕ} 0 1 = cc in absurd (omega arith)
+  turned_at x r true p e = absurd (cc)
   turned_at x r false p e = (cc, eqb-false _ 0 p)
 
   pub was_turned : (x : Option (List Field)) (r : Refusal) → R.Refused r ≡ read_by (line_number (kind_of c letter) seen next x) next x →
@@ -71,19 +72,12 @@ counts_fit Input count worst largest next e =
 counts_fit Directions count worst largest next e = let h : count - 0 ≤ 32 = counts_few Directions count worst largest next e in omega arith
 counts_fit Names count worst largest next e = let h : count - 0 ≤ 32 = counts_few Names count worst largest next e in omega arith
 
-never : false ≡ true → ⊥
-never e = let z : ◌≡◌ {A = ℕ} 0 1 = cc in omega arith
-
-split : (a b : Bool) → a && b ≡ true → (a ≡ true) × (b ≡ true)
-split true b e = (refl, e)
-split false b e = absurd (never e)
-
 pub plain_small : (fs : List Field) → allows_all plain fs ≡ true → Small (values fs)
 unfolding allows_all
 plain_small [] e = tt
-plain_small (number n ∷ fs) e = let p = split (leb n 65535) (allows_all plain fs) e in (omega (arith, leb-true n 65535 p.0), plain_small fs p.1)
-plain_small (empty ∷ fs) e = absurd (never e)
-plain_small (malformed ∷ fs) e = absurd (never e)
+plain_small (number n ∷ fs) e = let p = and_parts (leb n 65535) (allows_all plain fs) e in (omega (arith, leb-true n 65535 p.0), plain_small fs p.1)
+plain_small (empty ∷ fs) e = absurd (false≢true e)
+plain_small (malformed ∷ fs) e = absurd (false≢true e)
 
 pub good_small :
     (c : Codes) (letter seen next : ℕ) (fs : List Field) → line_number (kind_of c letter) seen next (some fs) ≡ 0 → Small (values fs)

@@ -2,8 +2,8 @@
 -- Assumes nothing.
 use Prim.Native.Nat.{ℕ, zero, suc, ◌+◌, ◌-◌, ◌≤◌, ◌<◌}
 use mathlib.Core.Path.{◌≡◌, refl, sym, ap, subst, ◌∙◌}
-use mathlib.Core.Bool.{Bool, true, false, cond}
-use mathlib.Core.Option.{Option, none, some}
+use mathlib.Core.Bool.{Bool, true, false}
+use mathlib.Core.Option.{none, some}
 use mathlib.Core.List.{List, [], ◌∷◌}
 use native.Mathlib.Omega.{arith}
 use borrow.Author.Tests.{ltb-true, ltb-false, lt-ltb, eq-eqb, ne_eqb}
@@ -12,11 +12,12 @@ use Rattle.std.specs.Char.{is_ascii_digit}
 use Rattle.std.proofs.Common.{rules}
 use lib.ListN.{length, get_or, drop, length-drop}
 use lib.Seq.{drop-cons, get_or-drop}
-use Rattle.text.specs.declared.field.Field.{Field}
 use Rattle.text.specs.Text.{until, line, fields, line_fields, line_at}
+use Rattle.text.proofs.Parts.{until_le_at}
 use Rattle.linekinds.specs.PlainText.{StandsAt, DigitAt}
 use Rattle.numberlines.specs.NumberLines.{Closed, Begins}
 use Rattle.numberlines.specs.declared.comma.Comma.{Comma}
+use Rattle.keys.proofs.Truths.{none_some}
 
 pub closed_next : (s : List ℕ) (p : ℕ) → Closed s → p < length s → (get_or s p 0 ≡ 10 → ⊥) → p + 1 < length s
 closed_next s p k h n = go (ltb (p + 1) (length s)) refl
@@ -37,16 +38,12 @@ digit_here s p h e = search rules
 pub digit_next : (s : List ℕ) (p : ℕ) → Closed s → DigitAt s p → p + 1 < length s
 digit_next s p k d = closed_next s p k d.0 (λ e. omega (arith, d.1, e))
 
-one_more : (t : Bool) (u i : ℕ) → u ≤ i → cond t 0 (suc u) ≤ suc i
-one_more true u i h = omega arith
-one_more false u i h = omega arith
-
 -- the first LF stands no later than any other
 until_before : (xs : List ℕ) (i : ℕ) → i < length xs → get_or xs i 0 ≡ 10 → until 10 xs ≤ i
 unfolding until
 until_before [] i h e = absurd (omega arith)
 until_before (x ∷ xs) zero h e = rw (eq-eqb x 10 e) (omega arith)
-until_before (x ∷ xs) (suc i) h e = one_more (eqb x 10) (until 10 xs) i (until_before xs i (omega arith) e)
+until_before (x ∷ xs) (suc i) h e = until_le_at (eqb x 10) (until 10 xs) i (until_before xs i (omega arith) e)
 
 -- the byte after the letter
 second : (s : List ℕ) (at : ℕ) → StandsAt s (at + 1) 44 → get_or s (suc at) 0 ≡ 44
@@ -56,14 +53,6 @@ fields_begun : (letter : ℕ) (r : List ℕ) → (letter ≡ 10 → ⊥) → lin
 unfolding line until line_fields
 fields_begun letter r other = rw (ne_eqb letter 10 other, eq-eqb letter letter refl)
 
-mark : Option (List Field) → ℕ
-mark none = 0
-mark (some fs) = 1
-
-some_none : (x : List Field) → some x ≡ none → ⊥
-unfolding mark
-some_none x z = let e : ◌≡◌ {A = ℕ} 1 0 = ap mark z in omega arith
-
 pub begun : (s : List ℕ) (at letter : ℕ) → Closed s → Begins s at letter → (letter ≡ 10 → ⊥) → line_at letter s at ≡ none → ⊥
 unfolding line_at
 begun s at letter k b other e =
@@ -71,4 +60,4 @@ begun s at letter k b other e =
     let last : get_or (drop at s) (length s - 1 - at) 0 ≡ 10 = get_or-drop at s (length s - 1 - at) 0 ∙ subst (λ (i : ℕ). get_or s i 0 ≡ 10) (omega (arith, b.0.0)) k in
     let ended : until 10 (drop at s) < length (drop at s) = omega (arith, length-drop at s, b.0.0, until_before (drop at s) (length s - 1 - at) (omega (arith, length-drop at s, b.0.0)) last) in
     let is : line_fields letter (line (drop at s)) ≡ none = sym (rw (lt-ltb (until 10 (drop at s)) (length (drop at s)) ended)) ∙ e in
-    some_none _ (sym (ap (λ (l : List ℕ). line_fields letter (line l)) opened ∙ fields_begun letter (drop (suc (suc at)) s) other) ∙ is)
+    none_some is (ap (λ (l : List ℕ). line_fields letter (line l)) opened ∙ fields_begun letter (drop (suc (suc at)) s) other)

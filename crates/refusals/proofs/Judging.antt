@@ -11,14 +11,14 @@ judged_at t n = cond t (Ok tt) (Err (refusal_of n))
 
 ok_at : (t : Bool) (n : ℕ) (u : Unit {0}) → eqb n 0 ≡ t → Ok u ≡ judged_at t n → n ≡ 0
 ok_at true n u e q = eqb-true n 0 e
-ok_at false n u e q = let z : ◌≡◌ {A = ℕ} 0 1 = cc in absurd (omega arith)
+ok_at false n u e q = absurd (cc)
 
 -- nothing was turned back
 pub judged_ok : (n : ℕ) (u : Unit {0}) → Ok u ≡ judged_by n → n ≡ 0
 judged_ok n u q = ok_at (eqb n 0) n u refl q
 
 err_at : (t : Bool) (n : ℕ) (r : Refusal) → eqb n 0 ≡ t → Err r ≡ judged_at t n → (n ≡ 0 → ⊥) × (r ≡ refusal_of n)
-err_at true n r e q = let z : ◌≡◌ {A = ℕ} 0 1 = cc in absurd (omega arith)
+err_at true n r e q = absurd (cc)
 err_at false n r e q = (eqb-false n 0 e, cc)
 
 -- it was turned back, for the refusal of the number

@@ -30,10 +30,10 @@ each_kind (c ∷ cs) h = each_append Counted (replicate c.count c.kind) (kinds_o
 
 nothing_at : (xs : List ℕ) (ps : List (List ℕ)) → led 10 ps ≡ 10 ∷ xs → at_end ps ≡ true → xs ≡ []
 unfolding led
-nothing_at xs [] e h = let z : ◌≡◌ {A = ℕ} 0 1 = cc in absurd (omega arith)
+nothing_at xs [] e h = absurd (cc)
 nothing_at xs ([] ∷ []) e h = cc
-nothing_at xs ([] ∷ m ∷ ms) e h = let z : ◌≡◌ {A = ℕ} 0 1 = cc in absurd (omega arith)
-nothing_at xs ((b ∷ bs) ∷ ms) e h = let z : ◌≡◌ {A = ℕ} 0 1 = cc in absurd (omega arith)
+nothing_at xs ([] ∷ m ∷ ms) e h = absurd (cc)
+nothing_at xs ((b ∷ bs) ∷ ms) e h = absurd (cc)
 
 pub nothing_follows : (xs : List ℕ) → at_end (parts 10 xs) ≡ true → xs ≡ []
 nothing_follows xs h = nothing_at xs (parts 10 xs) (led_parts 10 xs) h
@@ -52,10 +52,10 @@ module _ {A : Type 0} (whole : List (List Field) → Reading A) where
       (t : Bool) (rs : List (List Field)) (ls : List (List ℕ)) (l p : ℕ) (x : A) → at_end ls ≡ t → cond t (whole rs) (turned 1 l) ≡ sheet x →
       Whole (read rs ls l p) x
   whole_at true rs ls l p x t e = record { rows = rs; lines = ls; line = l; place = p; was = refl; end = t; is = e }
-  whole_at false rs ls l p x t e = let z : ◌≡◌ {A = ℕ} 0 1 = cc in absurd (omega arith)
+  whole_at false rs ls l p x t e = absurd (cc)
 
   whole_of : (r : Run) (x : A) → ended whole r ≡ sheet x → Whole r x
-  whole_of (refused n l) x e = let z : ◌≡◌ {A = ℕ} 0 1 = cc in absurd (omega arith)
+  whole_of (refused n l) x e = absurd (cc)
   whole_of (read rs ls l p) x e = whole_at (at_end ls) rs ls l p x refl e
 
 -- ---- the sheet

@@ -50,15 +50,15 @@ refused_bounded most n line h s g = record {
   number = λ m l e. let z : n ≡ m = cc in omega arith;
   some = λ m l e f. let z : n ≡ m = cc in s (omega arith);
   line = λ m l e. let z : line ≡ l = cc in omega arith;
-  after = λ rs ls l p e. let z : ◌≡◌ {A = ℕ} 0 1 = cc in absurd (omega arith);
+  after = λ rs ls l p e. absurd (cc);
 }
 
 before_bounded : (most : ℕ) (fs : List Field) (r : Run) → Bounded most r → Bounded most (before fs r)
 before_bounded most fs (refused n line) b = refused_bounded most n line (b.number n line refl) (b.some n line refl) (b.line n line refl)
 before_bounded most fs (read qs ms m q) b = record {
-  number = λ n l e. let z : ◌≡◌ {A = ℕ} 0 1 = cc in absurd (omega arith);
-  some = λ n l e f. let z : ◌≡◌ {A = ℕ} 0 1 = cc in omega arith;
-  line = λ n l e. let z : ◌≡◌ {A = ℕ} 0 1 = cc in absurd (omega arith);
+  number = λ n l e. absurd (cc);
+  some = λ n l e f. cc;
+  line = λ n l e. absurd (cc);
   after = λ rs ls l p e. let z : m ≡ l = cc in omega (arith, b.after qs ms m q refl);
 }
 
@@ -69,9 +69,9 @@ turn_at false most fs r n line e h g b = refused_bounded most n line h (eqb-fals
 turn_bounded : (ks : List Kind) (line at : ℕ) (ls : List (List ℕ)) (most : ℕ) → line + length ks ≤ suc most → Bounded most (in_turn ks line at ls)
 unfolding in_turn
 turn_bounded [] line at ls most h = record {
-  number = λ n l e. let z : ◌≡◌ {A = ℕ} 0 1 = cc in absurd (omega arith);
-  some = λ n l e f. let z : ◌≡◌ {A = ℕ} 0 1 = cc in omega arith;
-  line = λ n l e. let z : ◌≡◌ {A = ℕ} 0 1 = cc in absurd (omega arith);
+  number = λ n l e. absurd (cc);
+  some = λ n l e f. cc;
+  line = λ n l e. absurd (cc);
   after = λ rs ms l p e. let z : line ≡ l = cc in omega arith;
 }
 turn_bounded (k ∷ ks) line at ls most h =
@@ -115,7 +115,7 @@ pub word_again : (n l : ℕ) → Numbered n l → refused_word (refused_on n l) 
 word_again n l h = ap (λ (m : ℕ). m * 4294967296 + l) (number_again n h.2 (omega (arith, h.0)))
 
 unfit_at : {A : Type 0} (t : Bool) (y : A) (n l : ℕ) → cond t (sheet y) (turned 5 0) ≡ turned n l → Numbered n l
-unfit_at true y n l e = let z : ◌≡◌ {A = ℕ} 0 1 = cc in absurd (omega arith)
+unfit_at true y n l e = absurd (cc)
 unfit_at false y n l e = let a : 5 ≡ n = cc in let b : 0 ≡ l = cc in (omega arith, omega arith, λ z. omega arith)
 
 module _ {A : Type 0} (whole : List (List Field) → Reading A) (few : (rs : List (List Field)) (n l : ℕ) → whole rs ≡ turned n l → Numbered n l) where

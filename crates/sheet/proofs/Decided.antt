@@ -18,7 +18,7 @@ use Rattle.sheet.proofs.Refused.{key_refused_exactly, join_refused_exactly}
 
 -- ---- the number of line i
 
-drop_tail : (i : ℕ) (ls : List (List ℕ)) → drop i (tail ls) ≡ drop (suc i) ls
+pub drop_tail : (i : ℕ) (ls : List (List ℕ)) → drop i (tail ls) ≡ drop (suc i) ls
 drop_tail zero [] = refl
 drop_tail (suc i) [] = refl
 drop_tail i (l ∷ ls) = refl
@@ -40,7 +40,7 @@ number_after (k ∷ ks) at ls = number_after ks (next_of at ls) (tail ls) ∙ rw
 -- ---- decisions
 
 missing_by : (s : List ℕ) (x : KeySheet) (o : Adjustment) (n l : ℕ) → read_key_sheet s ≡ sheet x → adjust_input_keys_ordering same_expr x ≡ o → adjusted o ≡ refused n l → NameMissing s n l
-missing_by s x (answered a) n l r q e = let z : ◌≡◌ {A = ℕ} 0 1 = cc in absurd (omega arith)
+missing_by s x (answered a) n l r q e = absurd (cc)
 missing_by s x name_not_found n l r q e = record { is = x; reads = r; missing = q; number = cc; line = cc }
 
 key_refused_by : (s : List ℕ) (r : Reading KeySheet) (n l : ℕ) → read_key_sheet s ≡ r → key_outcome r ≡ refused n l → (read_key_sheet s ≡ turned n l) ⊎ NameMissing s n l
@@ -49,7 +49,7 @@ key_refused_by s (sheet x) n l q e = inr (missing_by s x (adjust_input_keys_orde
 
 join_refused_by : (s : List ℕ) (r : Reading JoinSheet) (n l : ℕ) → read_join_sheet s ≡ r → join_outcome r ≡ refused n l → read_join_sheet s ≡ turned n l
 join_refused_by s (turned m k) n l q e = let a : m ≡ n = cc in let b : k ≡ l = cc in q ∙ rw (a, b)
-join_refused_by s (sheet x) n l q e = let z : ◌≡◌ {A = ℕ} 0 1 = cc in absurd (omega arith)
+join_refused_by s (sheet x) n l q e = absurd (cc)
 
 module _ (s : List ℕ) (n l : ℕ) where
   wrong : (read_key_sheet s ≡ turned n l) ⊎ NameMissing s n l → TurnedBack (key_numbers s) (key_lists_fit (key_sheet_in s)) n l ⊎ NameMissing s n l

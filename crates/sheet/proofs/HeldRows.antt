@@ -49,7 +49,7 @@ join_kinds_lem = refl
 
 before_many : (r : Run) (n : ℕ) (fs : List Field) (rs : List (List Field)) (ls : List (List ℕ)) (l p : ℕ) →
     ((qs : List (List Field)) (ms : List (List ℕ)) (m q : ℕ) → r ≡ read qs ms m q → length qs ≡ n) → before fs r ≡ read rs ls l p → (length rs ≡ suc n) × (head_of rs ≡ fs)
-before_many (refused m q) n fs rs ls l p h e = let z : ◌≡◌ {A = ℕ} 0 1 = cc in absurd (omega arith)
+before_many (refused m q) n fs rs ls l p h e = absurd (cc)
 before_many (read qs ms m q) n fs rs ls l p h e =
     let z : fs ∷ qs ≡ rs = cc in
     (rw (← z) (ap suc (h qs ms m q refl)), rw (← z))
@@ -58,7 +58,7 @@ turn_at : (t : Bool) (r : Run) (fs : List Field) (n k line : ℕ) (rs : List (Li
     ((qs : List (List Field)) (ms : List (List ℕ)) (m q : ℕ) → r ≡ read qs ms m q → length qs ≡ n) →
     cond t (before fs r) (refused k line) ≡ read rs ls l p → (length rs ≡ suc n) × (head_of rs ≡ fs)
 turn_at true r fs n k line rs ls l p h e = before_many r n fs rs ls l p h e
-turn_at false r fs n k line rs ls l p h e = let z : ◌≡◌ {A = ℕ} 0 1 = cc in absurd (omega arith)
+turn_at false r fs n k line rs ls l p h e = absurd (cc)
 
 turn_many : (ks : List Kind) (line at : ℕ) (ls : List (List ℕ)) (rs : List (List Field)) (ms : List (List ℕ)) (l p : ℕ) → in_turn ks line at ls ≡ read rs ms l p → length rs ≡ length ks
 unfolding in_turn

@@ -8,9 +8,9 @@ use mathlib.Core.Bool.{Bool, true, false, cond, not}
 use lib.Dec.{eqb}
 use lib.ListN.{length, drop}
 use borrow.Author.Tests.{not-true, eqb-false}
+use Rattle.std.proofs.lemmas.Bool.{and_parts}
 use Rattle.text.specs.declared.field.Field.{Field}
 use Rattle.text.specs.Text.{parts}
-use Rattle.text.proofs.Exact.{both}
 use Rattle.keys.specs.Adjust.{KeySheet}
 use Rattle.keys.specs.Inputs.{JoinSheet}
 use Rattle.linekinds.specs.Lines.{Stage, Run, read, refused, rows_of}
@@ -105,7 +105,7 @@ module _ (s : List ℕ) where
 
 pub made_fits : {A : Type 0} (t : Bool) (y x : A) → cond t (sheet y) (turned 5 0) ≡ sheet x → (t ≡ true) × (y ≡ x)
 made_fits true y x e = (refl, cc)
-made_fits false y x e = let z : ◌≡◌ {A = ℕ} 0 1 = cc in absurd (omega arith)
+made_fits false y x e = absurd (cc)
 
 pub key_made : (k : List Field) (rs : List (List Field)) (x : KeySheet) → key_whole k rs ≡ sheet x → (key_lists_fit (key_sheet_of k rs) ≡ true) × (key_sheet_of k rs ≡ x)
 key_made k rs x e = made_fits (key_lists_fit (key_sheet_of k rs)) (key_sheet_of k rs) x e
@@ -125,9 +125,9 @@ pub record JoinFits (y : JoinSheet) (rs : List (List Field)) : Type 0 where
 pub join_fits_lem : (y : JoinSheet) (rs : List (List Field)) → join_lists_fit y rs ≡ true → JoinFits y rs
 unfolding join_lists_fit
 join_fits_lem y rs e =
-    let a = both (eqb (length y.left) (length y.right)) _ e in
-    let b = both (directions_fit y.op y.directions y.left) _ a.1 in
-    let c = both (not (unused_keys (row rs 3))) (not (unused_keys (row rs 4))) b.1 in
+    let a = and_parts (eqb (length y.left) (length y.right)) _ e in
+    let b = and_parts (directions_fit y.op y.directions y.left) _ a.1 in
+    let c = and_parts (not (unused_keys (row rs 3))) (not (unused_keys (row rs 4))) b.1 in
     record { even = a.0; directed = b.0; left = not-true (unused_keys (row rs 3)) c.0; right = not-true (unused_keys (row rs 4)) c.1 }
 
 -- ---- writing what was read gives the bytes

@@ -3,16 +3,16 @@ use mathlib.Core.Path.{◌≡◌, refl, sym, ap, ◌∙◌}
 use Prim.Native.Nat.{ℕ, zero, suc, ◌+◌, ◌%◌, ◌≤◌}
 use native.Mathlib.Omega.{arith}
 use mathlib.Core.List.{List, [], ◌∷◌, ◌++◌, append-nil, map}
-use mathlib.Core.Bool.{Bool, true, false, ◌||◌}
+use mathlib.Core.Bool.{Bool, true, false}
 use lib.Dec.{ltb, leb}
 use lib.ListN.{length, take, drop, length-map, length-take, length-drop, replicate}
 use borrow.Author.Tests.{eqb-true, leb-true, not-false, ltb-false}
+use Rattle.std.proofs.lemmas.Bool.{and_parts, or_parts}
 use Rattle.text.specs.declared.field.Field.{Field}
 use Rattle.text.specs.declared.field.Field.TheVariants.{Number as number}
 use Rattle.text.specs.Text.{value_of}
 use Rattle.text.specs.Bounds.{fits}
 use Rattle.text.specs.Write.{line_text}
-use Rattle.text.proofs.Exact.{both}
 use Rattle.text.proofs.Limits.{fits_length}
 use Rattle.linekinds.specs.Lines.{Kind, whole_entries}
 use Rattle.linekinds.specs.KeyLines.{at, values, undefined_exprs, list_line, expr_line, rule_line, input_line, key_line, input_head, key_stages, input_stages, defined_mode, defined_join}
@@ -65,10 +65,10 @@ pub record KeyCodes (fs : List Field) : Type 0 where
 
 pub key_codes : (fs : List Field) → Fine key_line fs → KeyCodes fs
 key_codes fs fine =
-    let a = both (leb (at fs 0) 6) _ (not-false _ fine.defined) in
-    let b = both (defined_mode (at fs 0) (at fs 1)) _ a.1 in
-    let c = both (defined_join (at fs 0) (at fs 2)) _ b.1 in
-    let d = both (leb (at fs 4) 1) (leb (at fs 5) 1) c.1 in
+    let a = and_parts (leb (at fs 0) 6) _ (not-false _ fine.defined) in
+    let b = and_parts (defined_mode (at fs 0) (at fs 1)) _ a.1 in
+    let c = and_parts (defined_join (at fs 0) (at fs 2)) _ b.1 in
+    let d = and_parts (leb (at fs 4) 1) (leb (at fs 5) 1) c.1 in
     record {
       op = leb-true (at fs 0) 6 a.0;
       mode = b.0;
@@ -109,17 +109,13 @@ key_text k rs (more fk (more {fs = r} fr (more {fs = l} fl (more {fs = g} fg (mo
 
 -- ---- an I sheet
 
-pub either_false : (a b : Bool) → (a || b) ≡ false → (a ≡ false) × (b ≡ false)
-either_false true b e = let z : ◌≡◌ {A = ℕ} 0 1 = cc in absurd (omega arith)
-either_false false b e = (refl, e)
-
 input_row :
     (letter : ℕ) (fs : List Field) → Fine (input_line letter) fs → unused_keys (values fs) ≡ false →
     numbers_line letter (input_numbers (input_of (values fs))) ≡ line_text letter fs
 unfolding fits filled
-input_row letter [] fine u = let e = fit_heads (input_line letter) [] fine in let z : ◌≡◌ {A = ℕ} 0 1 = cc in absurd (omega arith)
+input_row letter [] fine u = let e = fit_heads (input_line letter) [] fine in absurd (cc)
 input_row letter (f ∷ gs) fine u =
-    let m : value_of f ≤ 1 = ltb-false 1 (value_of f) (either_false (ltb 1 (value_of f)) (undefined_exprs (values gs)) fine.defined).0 in
+    let m : value_of f ≤ 1 = ltb-false 1 (value_of f) (or_parts (ltb 1 (value_of f)) (undefined_exprs (values gs)) fine.defined).0 in
     let w : length gs % 3 ≡ 0 = eqb-true (length gs % 3) 0 (fit_list (input_line letter) (f ∷ gs) fine).1 in
     ap (numbers_line letter) (input_again (value_of f) (values gs) m (rw (values_length gs) w) u)
     ∙ ap (line_text letter) (row_numbers_lem (input_line letter) (f ∷ gs) fine refl)

@@ -8,11 +8,11 @@ use mathlib.Core.Option.{Option, none, some}
 use lib.Dec.{eqb, ltb}
 use lib.ListN.{length, get_or, length-map, replicate}
 use borrow.Author.Tests.{eqb-true, eq-eqb, leb-true, le-leb, ltb-false, le-ltb, not-false}
+use Rattle.std.proofs.lemmas.Bool.{and_parts, or_parts}
 use Rattle.text.specs.declared.field.Field.{Field}
 use Rattle.text.specs.declared.field.Field.TheVariants.{Number as number, Empty as empty, Malformed as malformed}
 use Rattle.text.specs.Text.{value_of}
 use Rattle.text.specs.Bounds.{allows, allows_all, fits}
-use Rattle.text.proofs.Exact.{both}
 use Rattle.keys.specs.Reorder.{Rule}
 use Rattle.keys.specs.Expressions.{Expression}
 use Rattle.linekinds.specs.Lines.{plain, whole_entries, never, most_entries}
@@ -25,7 +25,6 @@ use Rattle.sheet.proofs.InTurn.{Fine}
 use Rattle.sheet.specs.LegalSheets.{Small, LegalExpr, LegalRule, Listed, LegalExprs, LegalInput}
 use Rattle.sheet.proofs.Entries.{each_weaker}
 use Rattle.sheet.proofs.Numbers.{fit_list, exprs_length, exprs_even, rules_length}
-use Rattle.sheet.proofs.KeyRows.{either_false}
 
 -- ---- numbers
 
@@ -51,23 +50,23 @@ allowed_at_lem (number n) e = leb-true n 65535 e
 allowed_at_lem empty e = omega arith
 allowed_at_lem malformed e = omega arith
 
-allowed_small : (fs : List Field) → allows_all plain fs ≡ true → Each Small (values fs)
+pub allowed_small : (fs : List Field) → allows_all plain fs ≡ true → Each Small (values fs)
 unfolding allows_all
 allowed_small [] e = tt
-allowed_small (f ∷ fs) e = let p = both (allows plain f) (allows_all plain fs) e in (allowed_at_lem f p.0, allowed_small fs p.1)
+allowed_small (f ∷ fs) e = let p = and_parts (allows plain f) (allows_all plain fs) e in (allowed_at_lem f p.0, allowed_small fs p.1)
 
 pub allowed_at : (fs : List Field) (i : ℕ) → allows_all plain fs ≡ true → Small (value_of (get_or fs i (number 0)))
 unfolding allows_all
 allowed_at [] i e = omega arith
-allowed_at (f ∷ fs) zero e = allowed_at_lem f (both (allows plain f) (allows_all plain fs) e).0
-allowed_at (f ∷ fs) (suc i) e = allowed_at fs i (both (allows plain f) (allows_all plain fs) e).1
+allowed_at (f ∷ fs) zero e = allowed_at_lem f (and_parts (allows plain f) (allows_all plain fs) e).0
+allowed_at (f ∷ fs) (suc i) e = allowed_at fs i (and_parts (allows plain f) (allows_all plain fs) e).1
 
 pub fits_plain : (n : ℕ) (fs : List Field) → fits (replicate n plain) fs ≡ true → allows_all plain fs ≡ true
 unfolding fits allows_all
 fits_plain zero [] e = refl
-fits_plain zero (f ∷ fs) e = let z : ◌≡◌ {A = ℕ} 0 1 = cc in absurd (omega arith)
+fits_plain zero (f ∷ fs) e = absurd (cc)
 fits_plain (suc n) [] e = refl
-fits_plain (suc n) (f ∷ fs) e = let p = both (allows plain f) (fits (replicate n plain) fs) e in rw p.0 (fits_plain n fs p.1)
+fits_plain (suc n) (f ∷ fs) e = let p = and_parts (allows plain f) (fits (replicate n plain) fs) e in rw p.0 (fits_plain n fs p.1)
 
 over_none : (m : ℕ) (ns : List ℕ) → Each (λ n. n ≤ m) ns → over m ns ≡ false
 unfolding over
@@ -77,7 +76,7 @@ over_none m (n ∷ ns) h = rw (le-ltb m n h.0) (over_none m ns h.1)
 none_over : (m : ℕ) (ns : List ℕ) → over m ns ≡ false → Each (λ n. n ≤ m) ns
 unfolding over
 none_over m [] e = tt
-none_over m (n ∷ ns) e = let p = either_false (ltb m n) (over m ns) e in (ltb-false m n p.0, none_over m ns p.1)
+none_over m (n ∷ ns) e = let p = or_parts (ltb m n) (over m ns) e in (ltb-false m n p.0, none_over m ns p.1)
 
 -- ---- expressions and rules as numbers
 
@@ -104,7 +103,7 @@ kind_at_lem : (a b c : Bool) (k n i : ℕ) → eqb k 0 ≡ a → eqb k 1 ≡ b �
 kind_at_lem true b c k n i p q r e = omega (arith, eqb-true k 0 p)
 kind_at_lem false true c k n i p q r e = omega (arith, eqb-true k 1 q)
 kind_at_lem false false true k n i p q r e = omega (arith, eqb-true k 2 r)
-kind_at_lem false false false k n i p q r e = let z : ◌≡◌ {A = ℕ} 0 1 = cc in absurd (omega arith)
+kind_at_lem false false false k n i p q r e = absurd (cc)
 
 pub kind_small : (e : Expression) → LegalExpr e → e.kind ≤ 2
 kind_small e l = kind_at_lem (eqb e.kind 0) (eqb e.kind 1) (eqb e.kind 2) e.kind e.name e.index refl refl refl l.defined
@@ -124,7 +123,7 @@ defined_exprs [] h e = tt
 defined_exprs (k ∷ []) h e = tt
 defined_exprs (k ∷ n ∷ []) h e = tt
 defined_exprs (k ∷ n ∷ i ∷ ns) h e =
-    let p = either_false (not (defined_expr k n i)) (undefined_exprs ns) e in
+    let p = or_parts (not (defined_expr k n i)) (undefined_exprs ns) e in
     (record { defined = not-false (defined_expr k n i) p.0; name = h.1.0; index = h.1.1.0 }, defined_exprs ns h.1.1.1 p.1)
 
 rules_exprs : (rs : List (Rule Expression)) → Each LegalRule rs → Each LegalExpr (rule_exprs rs)
@@ -233,7 +232,7 @@ fine_input letter (f ∷ gs) fine =
       formed = refl;
       few = fine.few;
       small = refl;
-      defined = (either_false (ltb 1 (value_of f)) (undefined_exprs (values gs)) fine.defined).1;
+      defined = (or_parts (ltb 1 (value_of f)) (undefined_exprs (values gs)) fine.defined).1;
       suited = refl;
     })
 

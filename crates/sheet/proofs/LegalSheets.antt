@@ -10,10 +10,10 @@ use lib.Dec.{eqb, leb}
 use lib.ListN.{length, take, length-map, replicate}
 use lib.Seq.{get_or-take}
 use borrow.Author.Tests.{eqb-true, eq-eqb, leb-true, le-leb, le-ltb, ltb-false, not-false}
+use Rattle.std.proofs.lemmas.Bool.{and_parts}
 use Rattle.text.specs.declared.field.Field.{Field}
 use Rattle.text.specs.declared.field.Field.TheVariants.{Number as number}
 use Rattle.text.specs.Bounds.{allows_all, fits}
-use Rattle.text.proofs.Exact.{both}
 use Rattle.keys.specs.Reorder.{Rule}
 use Rattle.keys.specs.Expressions.{Expression}
 use Rattle.keys.specs.Adjust.{KeySheet}
@@ -242,7 +242,7 @@ join_legal :
     (k : List Field) (rs : List (List Field)) → FineRows (input_head ∷ kinds_of input_stages) (k ∷ rs) → JoinFits (join_sheet_of k rs) rs →
     length (join_sheet_text (join_sheet_of k rs)) ≤ most_bytes → LegalJoinSheet (join_sheet_of k rs)
 join_legal k rs (more fk (more {fs = l} fl (more {fs = g} fg (more {fs = s} fs (more {fs = h} fh (more {fs = n} fn (more {fs = w} fw (more {fs = v} fv empty)))))))) fit bytes =
-    let c = both (leb (at k 0) 6) (defined_mode (at k 0) (at k 1)) (not-false _ fk.defined) in
+    let c = and_parts (leb (at k 0) 6) (defined_mode (at k 0) (at k 1)) (not-false _ fk.defined) in
     record {
       op = leb-true (at k 0) 6 c.0;
       mode = c.1;

@@ -43,10 +43,10 @@ lowest_only from (false ∷ cs) n ne e = one_more from cs n (lowest_only (suc fr
 
 lowest_holds : (from : ℕ) (cs : List Bool) (n p : ℕ) → n ≡ from + p → get_or cs p false ≡ true → ((i : ℕ) → i < p → get_or cs i false ≡ false) → lowest_of from cs ≡ n
 unfolding lowest_of
-lowest_holds from [] n p e h l = let z : ◌≡◌ {A = ℕ} 0 1 = cc in absurd (omega arith)
+lowest_holds from [] n p e h l = absurd (cc)
 lowest_holds from (true ∷ cs) n zero e h l = omega arith
-lowest_holds from (true ∷ cs) n (suc p) e h l = let f : true ≡ false = l 0 (omega arith) in let z : ◌≡◌ {A = ℕ} 0 1 = cc in absurd (omega arith)
-lowest_holds from (false ∷ cs) n zero e h l = let z : ◌≡◌ {A = ℕ} 0 1 = cc in absurd (omega arith)
+lowest_holds from (true ∷ cs) n (suc p) e h l = let f : true ≡ false = l 0 (omega arith) in absurd (cc)
+lowest_holds from (false ∷ cs) n zero e h l = absurd (cc)
 lowest_holds from (false ∷ cs) n (suc p) e h l = lowest_holds (suc from) cs n p (omega arith) h (λ i k. l (suc i) (omega arith))
 
 none_holds : (from : ℕ) (cs : List Bool) → 1 ≤ from → lowest_of from cs ≡ 0 → NoCondition cs

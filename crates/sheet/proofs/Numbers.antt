@@ -9,11 +9,11 @@ use lib.Dec.{eqb}
 use lib.ListN.{length, take, drop, get_or, take-append-drop, drop_of_length-le}
 use lib.Seq.{drop-cons}
 use borrow.Author.Tests.{eqb-true, eqb-false, not-true, not-false}
+use Rattle.std.proofs.lemmas.Bool.{and_parts}
 use Rattle.text.specs.declared.field.Field.{Field}
 use Rattle.text.specs.declared.field.Field.TheVariants.{Number as number, Empty as empty, Malformed as malformed}
 use Rattle.text.specs.Text.{value_of}
 use Rattle.text.specs.Bounds.{Bound, allows, allows_all, fits}
-use Rattle.text.proofs.Exact.{both}
 use Rattle.keys.specs.Expressions.{Expression}
 use Rattle.linekinds.specs.Lines.{Kind, plain, whole_entries}
 use Rattle.linekinds.specs.KeyLines.{values}
@@ -31,21 +31,21 @@ filled (b ∷ bs) = not b.optional && filled bs
 
 allows_number : (b : Bound) (f : Field) → b.optional ≡ false → allows b f ≡ true → number (value_of f) ≡ f
 allows_number b (number n) o e = refl
-allows_number b empty o e = let z : ◌≡◌ {A = ℕ} 0 1 = cc in absurd (omega arith)
-allows_number b malformed o e = let z : ◌≡◌ {A = ℕ} 0 1 = cc in absurd (omega arith)
+allows_number b empty o e = absurd (cc)
+allows_number b malformed o e = absurd (cc)
 
 pub all_numbers : (fs : List Field) → allows_all plain fs ≡ true → map number (values fs) ≡ fs
 unfolding allows_all
 all_numbers [] e = refl
-all_numbers (f ∷ fs) e = let p = both (allows plain f) (allows_all plain fs) e in λ j. allows_number plain f refl p.0 j ∷ all_numbers fs p.1 j
+all_numbers (f ∷ fs) e = let p = and_parts (allows plain f) (allows_all plain fs) e in λ j. allows_number plain f refl p.0 j ∷ all_numbers fs p.1 j
 
 fits_numbers : (bs : List Bound) (fs : List Field) → filled bs ≡ true → fits bs fs ≡ true → map number (values fs) ≡ fs
 unfolding fits filled
 fits_numbers bs [] o e = refl
-fits_numbers [] (f ∷ fs) o e = let z : ◌≡◌ {A = ℕ} 0 1 = cc in absurd (omega arith)
+fits_numbers [] (f ∷ fs) o e = absurd (cc)
 fits_numbers (b ∷ bs) (f ∷ fs) o e =
-    let p = both (allows b f) (fits bs fs) e in
-    let q = both (not b.optional) (filled bs) o in
+    let p = and_parts (allows b f) (fits bs fs) e in
+    let q = and_parts (not b.optional) (filled bs) o in
     λ j. allows_number b f (not-true b.optional q.0) p.0 j ∷ fits_numbers bs fs q.1 p.1 j
 
 numbers_append : (fs gs : List Field) → map number (values fs) ≡ fs → map number (values gs) ≡ gs → map number (values (fs ++ gs)) ≡ fs ++ gs
@@ -60,12 +60,12 @@ module _ (k : Kind) (fs : List Field) (fine : Fine k fs) where
   heads = length k.heads
 
   pub fit_heads : fits k.heads (take heads fs) ≡ true
-  fit_heads = (both (fits k.heads (take heads fs)) (allows_all plain (drop heads fs) && whole_entries k.width (length (drop heads fs))) fine.fit).0
+  fit_heads = (and_parts (fits k.heads (take heads fs)) (allows_all plain (drop heads fs) && whole_entries k.width (length (drop heads fs))) fine.fit).0
 
   pub fit_list : (allows_all plain (drop heads fs) ≡ true) × (whole_entries k.width (length (drop heads fs)) ≡ true)
   fit_list =
-      both (allows_all plain (drop heads fs)) (whole_entries k.width (length (drop heads fs)))
-      (both (fits k.heads (take heads fs)) (allows_all plain (drop heads fs) && whole_entries k.width (length (drop heads fs))) fine.fit).1
+      and_parts (allows_all plain (drop heads fs)) (whole_entries k.width (length (drop heads fs)))
+      (and_parts (fits k.heads (take heads fs)) (allows_all plain (drop heads fs) && whole_entries k.width (length (drop heads fs))) fine.fit).1
 
   -- a line without empty fields is its numbers
   pub row_numbers_lem : filled k.heads ≡ true → map number (values fs) ≡ fs

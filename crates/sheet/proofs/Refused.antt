@@ -109,7 +109,7 @@ module _ {A : Type 0} where
       (t : Bool) (line m : ℕ) (ns : List ℕ) (r : Reading A) (x : A) → eqb m 0 ≡ t → cond t (judged (suc line) ns r) (turned m line) ≡ sheet x →
       (judged (suc line) ns r ≡ sheet x → NoLine ns × (r ≡ sheet x)) → NoLine (m ∷ ns) × (r ≡ sheet x)
   sheet_at true line m ns r x t e ih = let p = ih e in (no_line m ns (eqb-true m 0 t) p.0, p.1)
-  sheet_at false line m ns r x t e ih = let z : ◌≡◌ {A = ℕ} 0 1 = cc in absurd (omega arith)
+  sheet_at false line m ns r x t e ih = absurd (cc)
 
   judged_sheet : (line : ℕ) (ns : List ℕ) (r : Reading A) (x : A) → judged line ns r ≡ sheet x → NoLine ns × (r ≡ sheet x)
   unfolding judged
@@ -120,7 +120,7 @@ module _ {A : Type 0} where
 
   module _ (r : Reading A) (ns : List ℕ) (fit : Bool) (y : A) (is : r ≡ judged 1 ns (cond fit (sheet y) (turned 5 0))) where
     unfit_at : (t : Bool) (n l : ℕ) → cond t (sheet y) (turned 5 0) ≡ turned n l → (t ≡ false) × (n ≡ 5) × (l ≡ 0)
-    unfit_at true n l e = let z : ◌≡◌ {A = ℕ} 0 1 = cc in absurd (omega arith)
+    unfit_at true n l e = absurd (cc)
     unfit_at false n l e = (refl, (cc), (cc))
 
     refused_by_lem : (n l : ℕ) → FirstLine 1 ns n l ⊎ (NoLine ns × (cond fit (sheet y) (turned 5 0) ≡ turned n l)) → TurnedBack ns fit n l

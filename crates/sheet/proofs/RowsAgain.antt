@@ -9,13 +9,13 @@ use mathlib.Core.Option.{Option, none, some}
 use lib.Dec.{eqb, ltb, leb}
 use lib.ListN.{length, take, drop, length-append, take-append-drop}
 use borrow.Author.Tests.{eqb-true, ltb-false, le-ltb, le-leb, leb-true}
+use Rattle.std.proofs.lemmas.Bool.{and_parts}
 use Rattle.text.specs.declared.field.Field.{Field}
 use Rattle.text.specs.declared.field.Field.TheVariants.{Number as number, Empty as empty, Malformed as malformed}
 use Rattle.text.specs.Text.{most, parts, after}
 use Rattle.text.specs.Lines.{first_of, next_of}
 use Rattle.text.specs.Bounds.{Bound, widest, allows, allows_all, fits}
 use Rattle.text.specs.Write.{fields_text, line_text}
-use Rattle.text.proofs.Exact.{both}
 use Rattle.text.proofs.Limits.{all_well}
 use Rattle.text.proofs.Lengths.{line_length}
 use Rattle.text.proofs.Places.{bridge}
@@ -36,28 +36,28 @@ allows_wider b malformed h e = e
 all_wider : (b : Bound) (fs : List Field) → b.largest ≤ most → allows_all b fs ≡ true → allows_all widest fs ≡ true
 unfolding allows_all
 all_wider b [] h e = refl
-all_wider b (f ∷ fs) h e = let p = both (allows b f) (allows_all b fs) e in rw (allows_wider b f h p.0) (all_wider b fs h p.1)
+all_wider b (f ∷ fs) h e = let p = and_parts (allows b f) (allows_all b fs) e in rw (allows_wider b f h p.0) (all_wider b fs h p.1)
 
 fits_wider : (bs : List Bound) (fs : List Field) → readable bs ≡ true → fits bs fs ≡ true → allows_all widest fs ≡ true
 unfolding fits allows_all readable
 fits_wider bs [] h e = refl
-fits_wider [] (f ∷ fs) h e = let z : ◌≡◌ {A = ℕ} 0 1 = cc in absurd (omega arith)
+fits_wider [] (f ∷ fs) h e = absurd (cc)
 fits_wider (b ∷ bs) (f ∷ fs) h e =
-    let p = both (allows b f) (fits bs fs) e in
-    let q = both (leb b.largest most) (readable bs) h in
+    let p = and_parts (allows b f) (fits bs fs) e in
+    let q = and_parts (leb b.largest most) (readable bs) h in
     rw (allows_wider b f (leb-true b.largest most q.0) p.0) (fits_wider bs fs q.1 p.1)
 
 all_append : (b : Bound) (fs gs : List Field) → allows_all b fs ≡ true → allows_all b gs ≡ true → allows_all b (fs ++ gs) ≡ true
 unfolding allows_all
 all_append b [] gs e h = h
-all_append b (f ∷ fs) gs e h = let p = both (allows b f) (allows_all b fs) e in rw p.0 (all_append b fs gs p.1 h)
+all_append b (f ∷ fs) gs e h = let p = and_parts (allows b f) (allows_all b fs) e in rw p.0 (all_append b fs gs p.1 h)
 
 module _ (k : Kind) (c : Counted k) (fs : List Field) (fine : Fine k fs) where
   pub fine_wide : allows_all widest fs ≡ true
   fine_wide =
       let n : ℕ = length k.heads in
-      let p = both (fits k.heads (take n fs)) (allows_all plain (drop n fs) && whole_entries k.width (length (drop n fs))) fine.fit in
-      let q = both (allows_all plain (drop n fs)) (whole_entries k.width (length (drop n fs))) p.1 in
+      let p = and_parts (fits k.heads (take n fs)) (allows_all plain (drop n fs) && whole_entries k.width (length (drop n fs))) fine.fit in
+      let q = and_parts (allows_all plain (drop n fs)) (whole_entries k.width (length (drop n fs))) p.1 in
       rw take-append-drop at (all_append widest (take n fs) (drop n fs) (fits_wider k.heads (take n fs) c.heads p.0) (all_wider plain (drop n fs) (omega arith) q.0))
 
 -- ---- one line
@@ -135,8 +135,8 @@ goes_on true fs (read qs ms m q) n line rs ls l p e =
     let b : m ≡ l = cc in
     let d : q ≡ p = cc in
     record { tested = refl; qs = qs; rows = cc; goes = rw (a, b, d) }
-goes_on true fs (refused m q) n line rs ls l p e = let z : ◌≡◌ {A = ℕ} 0 1 = cc in absurd (omega arith)
-goes_on false fs r n line rs ls l p e = let z : ◌≡◌ {A = ℕ} 0 1 = cc in absurd (omega arith)
+goes_on true fs (refused m q) n line rs ls l p e = absurd (cc)
+goes_on false fs r n line rs ls l p e = absurd (cc)
 
 module _ (k : Kind) (c : Counted k) (ks : List Kind) (line at : ℕ) (s : List ℕ) (rs : List (List Field)) (ls : List (List ℕ)) (l p : ℕ) where
   more_written :

@@ -98,14 +98,14 @@ module _ (s : List ℕ) (k : SheetKind) (i p : ℕ) where
       let c : r.count ≡ length (packed_by (line_codes k i) (values fs)) = ap (λ (x : Packed). x.count) q in
       let g : take r.count list ≡ packed_by (line_codes k i) (values fs) = rw c (h z) in
       record { fs = fs; is = a; zero = z; goes = ap (λ (x : Packed). x.next) q; counts = c; room = fits_room r.count list _ f c g; held = g }
-  taken_at x false r list a t e f h = let z : ◌≡◌ {A = ℕ} 0 1 = cc in absurd (omega arith)
+  taken_at x false r list a t e f h = absurd (cc)
 
   taken : (x : Result Packed Reason) (r : Packed) (list : List ℕ) → ListRead s p k i x list → x ≡ Ok r → Taken s k i p r.count r.next list
   taken x r list h e = taken_at (line_at (line_letter k i) s p) _ r list refl refl (sym e ∙ h.answer) h.full h.held
 
   refusal_at : (x : Option (List Field)) (t : Bool) (w : Reason) → eqb (N x) 0 ≡ t →
       Err w ≡ cond t (Ok (listed x)) (Err (refusal_of (N x))) → (w ≡ refusal_of (N x)) × (N x ≡ 0 → ⊥)
-  refusal_at x true w t e = let z : ◌≡◌ {A = ℕ} 0 1 = cc in absurd (omega arith)
+  refusal_at x true w t e = absurd (cc)
   refusal_at x false w t e = (cc, eqb-false (N x) 0 t)
 
   -- the number of a line that was turned back, and what it was turned back for
@@ -145,7 +145,11 @@ module _ (s : List ℕ) (k : SheetKind) (i p : ℕ) where
 
 -- ---- rows in front
 
-behind_before : (qs : List (List Field)) (fs : List Field) (r : Run) → behind qs (before fs r) ≡ behind (qs ++ (fs ∷ [])) r
+pub behind_none : (r : Run) → behind [] r ≡ r
+behind_none (read rs ls l p) = refl
+behind_none (refused n l) = refl
+
+pub behind_before : (qs : List (List Field)) (fs : List Field) (r : Run) → behind qs (before fs r) ≡ behind (qs ++ (fs ∷ [])) r
 behind_before qs fs (read rs ls l p) = ap (λ (xs : List (List Field)). read xs ls l p) (sym (append_assoc qs (fs ∷ []) rs))
 behind_before qs fs (refused n l) = refl
 
@@ -204,17 +208,13 @@ pub record Head (s : List ℕ) (k : SheetKind) (n : ℕ) (whole : Run) (i p l : 
   pub held : (j : ℕ) → j < length rows → HeldLine k lists counts (1 + j) (get_or rows j [])
 
 module _ (s : List ℕ) (k : SheetKind) (n : ℕ) where
-  none_before : (r : Run) → behind [] r ≡ r
-  none_before (read rs ls l p) = refl
-  none_before (refused m l) = refl
-
   pub head_first : (at : ℕ) (lists : List (List ℕ)) (counts : List ℕ) → 1 ≤ n → Head s k n (lines_from s k 1 (n - 1) at) 1 at 2 lists counts
   head_first at lists counts h = record {
     rows = [];
     counted = refl;
     line = refl;
     within = h;
-    answer = none_before (lines_from s k 1 (n - 1) at);
+    answer = behind_none (lines_from s k 1 (n - 1) at);
     held = λ j e. absurd (omega arith);
   }
 

@@ -137,8 +137,8 @@ module _ (s : List ℕ) (k : SheetKind) (lists : List (List ℕ)) (counts : List
         let a : t.next ≡ p = ap (λ (x : LinesRead). x.next) q in
         let b : t.line ≡ l = ap (λ (x : LinesRead). x.line) q in
         rw (h.0, more_here s p (rw a at g), b)
-    end_extra (refused m q) e h g = let z : ◌≡◌ {A = ℕ} 0 1 = cc in absurd (omega arith)
+    end_extra (refused m q) e h g = absurd (cc)
 
     pub end_none : (run : Run) → Ok t ≡ lines_by run → HeldLines s k 0 run lists counts → length s ≤ t.next → Ok t ≡ ended_by run
     end_none (read rs ls l p) e h g = let q : t ≡ record { next = p; line = l } = cc in let a : t.next ≡ p = ap (λ (x : LinesRead). x.next) q in rw (h.0, end_here s p (rw a at g)) e
-    end_none (refused m q) e h g = let z : ◌≡◌ {A = ℕ} 0 1 = cc in absurd (omega arith)
+    end_none (refused m q) e h g = absurd (cc)

@@ -55,10 +55,10 @@ pub record AllRead (run : Run) (next line : ℕ) : Type 0 where
 
 all_at_lem : (t : Bool) (rs : List (List Field)) (ls : List (List ℕ)) (l p : ℕ) (r : LinesRead) → at_end ls ≡ t → Ok r ≡ cond t (lines_by (read rs ls l p)) (Err (refused_on 1 l)) → AllRead (read rs ls l p) r.next r.line
 all_at_lem true rs ls l p r t e = let q : record { next = p; line = l } ≡ r = cc in let a : p ≡ r.next = ap (λ (x : LinesRead). x.next) q in let b : l ≡ r.line = ap (λ (x : LinesRead). x.line) q in record { rows = rs; lines = ls; is = rw (a, b); end = t }
-all_at_lem false rs ls l p r t e = let z : ◌≡◌ {A = ℕ} 0 1 = cc in absurd (omega arith)
+all_at_lem false rs ls l p r t e = absurd (cc)
 
 all_read : (run : Run) (r : LinesRead) → Ok r ≡ ended_by run → AllRead run r.next r.line
-all_read (refused n l) r e = let z : ◌≡◌ {A = ℕ} 0 1 = cc in absurd (omega arith)
+all_read (refused n l) r e = absurd (cc)
 all_read (read rs ls l p) r e = all_at_lem (at_end ls) rs ls l p r refl e
 
 -- a sheet that is turned back, and what for
@@ -70,7 +70,7 @@ pub record Back {A : Type 0} (x : Reading A) (r : Refused) : Type 0 where
 
 module _ {A : Type 0} (whole : List (List Field) → Reading A) where
   turned_at : (t : Bool) (rs : List (List Field)) (ls : List (List ℕ)) (l p : ℕ) (r : Refused) → Err r ≡ cond t (lines_by (read rs ls l p)) (Err (refused_on 1 l)) → Back (cond t (whole rs) (turned 1 l)) r
-  turned_at true rs ls l p r e = let z : ◌≡◌ {A = ℕ} 0 1 = cc in absurd (omega arith)
+  turned_at true rs ls l p r e = absurd (cc)
   turned_at false rs ls l p r e = record { number = 1; line = l; is = refl; refusal = cc }
 
   ended_turned : (run : Run) (r : Refused) → Err r ≡ ended_by run → Back (ended whole run) r
@@ -279,7 +279,7 @@ module _ (s : List ℕ) (lists : List (List ℕ)) (counts : List ℕ) (t : Lines
 -- ---- what reading answers
 
 apart : {A : Type 0} (r : Reading A) (x : A) (n l : ℕ) → r ≡ turned n l → r ≡ sheet x → ⊥
-apart r x n l e f = let z : ◌≡◌ {A = ℕ} 0 1 = cc in omega arith
+apart r x n l e f = cc
 
 same_sheet : {A : Type 0} (r : Reading A) (x y : A) → r ≡ sheet x → r ≡ sheet y → x ≡ y
 same_sheet r x y e f = cc

@@ -32,12 +32,12 @@ pub record Opened (next : ℕ) (x : Option (List Field)) (f : Fields) : Type 0 w
   pub goes : f.next ≡ next
 
 pub opened : (next : ℕ) (x : Option (List Field)) (f : Fields) → Some f ≡ line_read next x → Opened next x f
-opened next none f e = let z : ◌≡◌ {A = ℕ} 0 1 = cc in absurd (omega arith)
+opened next none f e = absurd (cc)
 opened next (some fs) f e = let is : f ≡ tallied next fs = cc in record { fs = fs; is = refl; counts = rw is refl; states = rw is refl; values = rw is refl; goes = rw is refl }
 
 pub wrong_none : (next : ℕ) (x : Option (List Field)) → None ≡ line_read next x → x ≡ none
 wrong_none next none e = refl
-wrong_none next (some fs) e = let z : ◌≡◌ {A = ℕ} 0 1 = cc in absurd (omega arith)
+wrong_none next (some fs) e = absurd (cc)
 
 -- ---- of `fixed_at`
 
@@ -53,10 +53,10 @@ line_of fs next = Ok (record { count = length fs; next = next })
 
 passed_at : (t : Bool) (bs : List (List ℕ)) (next : ℕ) (fs : List Field) (j : Judged) → fits_rows bs (map row fs) ≡ t → Ok j ≡ cond t (line_of fs next) (Err Unfit) → Passed bs next (some fs) j
 passed_at true bs next fs j t e = let is : j ≡ record { count = length fs; next = next } = cc in record { fs = fs; is = refl; counts = rw is refl; goes = rw is refl; within = t }
-passed_at false bs next fs j t e = let z : ◌≡◌ {A = ℕ} 0 1 = cc in absurd (omega arith)
+passed_at false bs next fs j t e = absurd (cc)
 
 pub passed : (bs : List (List ℕ)) (next : ℕ) (x : Option (List Field)) (j : Judged) → Ok j ≡ judged bs next x → Passed bs next x j
-passed bs next none j e = let z : ◌≡◌ {A = ℕ} 0 1 = cc in absurd (omega arith)
+passed bs next none j e = absurd (cc)
 passed bs next (some fs) j e = passed_at (fits_rows bs (map row fs)) bs next fs j refl e
 
 pub record Failed (bs : List (List ℕ)) (x : Option (List Field)) : Type 0 where
@@ -65,11 +65,11 @@ pub record Failed (bs : List (List ℕ)) (x : Option (List Field)) : Type 0 wher
   pub outside : fits_rows bs (map row fs) ≡ false
 
 failed_at : (t : Bool) (bs : List (List ℕ)) (next : ℕ) (fs : List Field) → fits_rows bs (map row fs) ≡ t → Err Unfit ≡ cond t (line_of fs next) (Err Unfit) → Failed bs (some fs)
-failed_at true bs next fs t e = let z : ◌≡◌ {A = ℕ} 0 1 = cc in absurd (omega arith)
+failed_at true bs next fs t e = absurd (cc)
 failed_at false bs next fs t e = record { fs = fs; is = refl; outside = t }
 
 pub failed : (bs : List (List ℕ)) (next : ℕ) (x : Option (List Field)) → Err Unfit ≡ judged bs next x → Failed bs x
-failed bs next none e = let z : ◌≡◌ {A = ℕ} 0 1 = cc in absurd (omega arith)
+failed bs next none e = absurd (cc)
 failed bs next (some fs) e = failed_at (fits_rows bs (map row fs)) bs next fs refl e
 
 judged_at : (t : Bool) (fs : List Field) (next : ℕ) → Err Wrong ≡ cond t (line_of fs next) (Err Unfit) → ◌≡◌ {A = ℕ} 0 1

@@ -8,16 +8,13 @@ use native.Mathlib.Omega.{arith}
 use lib.Dec.{ltb, leb, eqb}
 use lib.ListN.{length, get_or, get_or-append}
 use borrow.Author.Tests.{le-leb, leb-true, ne_eqb, eqb-false, ltb-true, ltb-false}
+use Rattle.std.proofs.lemmas.Bool.{and_parts}
 use Rattle.text.specs.declared.field.Field.{Field}
 use Rattle.text.specs.declared.field.Field.TheVariants.{Number as number, Empty as empty, Malformed as malformed}
 use Rattle.text.specs.Text.{run, field, is_digit}
 use Rattle.text.specs.Write.{decimal}
 use Rattle.text.specs.Bounds.{Bound, allows}
 use Rattle.text.proofs.Decimal.{decimal_one, decimal_more, decimal_some, length_one, length_more, by_tenths}
-
-pub both : (a b : Bool) → (a && b) ≡ true → (a ≡ true) × (b ≡ true)
-both true b e = (refl, e)
-both false b e = let z : ◌≡◌ {A = ℕ} 0 1 = cc in absurd (omega arith)
 
 -- ---- what is read as a number is its decimal text
 
@@ -29,8 +26,8 @@ record Digit (m a x : ℕ) : Type 0 where
 
 digit : (m a x : ℕ) → (is_digit x && leb (a * 10 + (x - 48)) m) ≡ true → Digit m a x
 digit m a x e =
-    let p = both (is_digit x) (leb (a * 10 + (x - 48)) m) e in
-    let q = both (leb 48 x) (leb x 57) p.0 in
+    let p = and_parts (is_digit x) (leb (a * 10 + (x - 48)) m) e in
+    let q = and_parts (leb 48 x) (leb x 57) p.0 in
     record { low = leb-true 48 x q.0; high = leb-true x 57 q.1; within = leb-true (a * 10 + (x - 48)) m p.1 }
 
 -- the digits xs after those of a are the digits of v
@@ -46,7 +43,7 @@ run_at true m a x xs v t h e ih =
     let whole : decimal (a * 10 + (x - 48)) ≡ decimal a ++ (x ∷ []) = decimal_more (a * 10 + (x - 48)) (omega arith) ∙ rw (tenth, last) in
     let r = ih (omega arith) d.within e in
     record { text = r.text ∙ ap (λ (ys : List ℕ). ys ++ xs) whole ∙ append_assoc (decimal a) (x ∷ []) xs; within = r.within }
-run_at false m a x xs v t h e ih = let z : ◌≡◌ {A = ℕ} 0 1 = cc in absurd (omega arith)
+run_at false m a x xs v t h e ih = absurd (cc)
 
 run_after : (xs : List ℕ) (m a v : ℕ) → 1 ≤ a → a ≤ m → run m a xs ≡ number v → After m a xs v
 unfolding run
@@ -60,7 +57,7 @@ one_at true m b v t e =
     let q : 0 * 10 + (b - 48) ≡ v = cc in
     let w : 48 + v ≡ b = omega (arith, d.low) in
     (sym (decimal_one v (omega (arith, d.high)) ∙ ap (λ (x : ℕ). x ∷ []) w), omega (arith, d.within))
-one_at false m b v t e = let z : ◌≡◌ {A = ℕ} 0 1 = cc in absurd (omega arith)
+one_at false m b v t e = absurd (cc)
 
 two_at : (t : Bool) (m b c : ℕ) (cs : List ℕ) (v : ℕ) → (is_digit b && leb (0 * 10 + (b - 48)) m) ≡ t → (b ≡ 48 → ⊥) → cond t (run m (0 * 10 + (b - 48)) (c ∷ cs)) malformed ≡ number v → (b ∷ c ∷ cs ≡ decimal v) × (v ≤ m)
 two_at true m b c cs v t ne e =
@@ -69,16 +66,16 @@ two_at true m b c cs v t ne e =
     let w : 48 + (0 * 10 + (b - 48)) ≡ b = omega (arith, d.low) in
     let f : decimal (0 * 10 + (b - 48)) ≡ b ∷ [] = decimal_one (0 * 10 + (b - 48)) (omega (arith, d.high)) ∙ ap (λ (x : ℕ). x ∷ []) w in
     (sym (r.text ∙ ap (λ (ys : List ℕ). ys ++ (c ∷ cs)) f), r.within)
-two_at false m b c cs v t ne e = let z : ◌≡◌ {A = ℕ} 0 1 = cc in absurd (omega arith)
+two_at false m b c cs v t ne e = absurd (cc)
 
 lead_at : (t : Bool) (m b c : ℕ) (cs : List ℕ) (v : ℕ) → eqb b 48 ≡ t → cond t malformed (run m 0 (b ∷ c ∷ cs)) ≡ number v → (b ∷ c ∷ cs ≡ decimal v) × (v ≤ m)
 unfolding run
-lead_at true m b c cs v t e = let z : ◌≡◌ {A = ℕ} 0 1 = cc in absurd (omega arith)
+lead_at true m b c cs v t e = absurd (cc)
 lead_at false m b c cs v t e = two_at (is_digit b && leb (0 * 10 + (b - 48)) m) m b c cs v refl (eqb-false b 48 t) e
 
 number_only : (m : ℕ) (xs : List ℕ) (n : ℕ) → field m xs ≡ number n → (xs ≡ decimal n) × (n ≤ m)
 unfolding field run
-number_only m [] n e = let z : ◌≡◌ {A = ℕ} 0 1 = cc in absurd (omega arith)
+number_only m [] n e = absurd (cc)
 number_only m (b ∷ []) n e = one_at (is_digit b && leb (0 * 10 + (b - 48)) m) m b n refl e
 number_only m (b ∷ c ∷ cs) n e = lead_at (eqb b 48) m b c cs n refl e
 
@@ -86,7 +83,7 @@ number_only m (b ∷ c ∷ cs) n e = lead_at (eqb b 48) m b c cs n refl e
 
 last_at : (t : Bool) (p q r : Field) (v : ℕ) → cond t p malformed ≡ number v → (p ≡ number v → q ≡ r) → cond t q malformed ≡ r
 last_at true p q r v e ih = ih e
-last_at false p q r v e ih = let z : ◌≡◌ {A = ℕ} 0 1 = cc in absurd (omega arith)
+last_at false p q r v e ih = absurd (cc)
 
 run_last : (xs : List ℕ) (m a v d : ℕ) → run m a xs ≡ number v → run m a (xs ++ (d ∷ [])) ≡ run m v (d ∷ [])
 unfolding run
@@ -140,15 +137,15 @@ number_exact m xs n = (number_only m xs n, λ e l. rw e (number_every m n l))
 
 some_at_lem : (t : Bool) (f : Field) → (f ≡ empty → ⊥) → cond t f malformed ≡ empty → ⊥
 some_at_lem true f n e = n e
-some_at_lem false f n e = let z : ◌≡◌ {A = ℕ} 0 1 = cc in omega arith
+some_at_lem false f n e = cc
 
 run_some : (m a : ℕ) (xs : List ℕ) → run m a xs ≡ empty → ⊥
 unfolding run
-run_some m a [] e = let z : ◌≡◌ {A = ℕ} 0 1 = cc in omega arith
+run_some m a [] e = cc
 run_some m a (x ∷ xs) e = some_at_lem (is_digit x && leb (a * 10 + (x - 48)) m) (run m (a * 10 + (x - 48)) xs) (run_some m (a * 10 + (x - 48)) xs) e
 
 empty_at : (t : Bool) (f : Field) → (f ≡ empty → ⊥) → cond t malformed f ≡ empty → ⊥
-empty_at true f n e = let z : ◌≡◌ {A = ℕ} 0 1 = cc in omega arith
+empty_at true f n e = cc
 empty_at false f n e = n e
 
 empty_only : (m : ℕ) (xs : List ℕ) → field m xs ≡ empty → xs ≡ []

@@ -21,7 +21,7 @@ use Rattle.text.proofs.Limits.{uneven}
 
 pub wrong : (bs : List (List ℕ)) (next : ℕ) (x : Option (List Field)) → None ≡ line_read next x → Err Wrong ≡ judged bs next x
 wrong bs next none e = refl
-wrong bs next (some fs) e = let z : ◌≡◌ {A = ℕ} 0 1 = cc in absurd (omega arith)
+wrong bs next (some fs) e = absurd (cc)
 
 -- what is answered of a line within its bounds
 abbrev line_of : Fields → Judged

@@ -8,12 +8,12 @@ use native.Mathlib.Nat.{suc-mul}
 use native.Mathlib.Omega.{arith}
 use lib.ListN.{length, get_or, length-append}
 use borrow.Author.Tests.{leb-true}
+use Rattle.std.proofs.lemmas.Bool.{and_parts}
 use Rattle.text.specs.declared.field.Field.{Field}
 use Rattle.text.specs.declared.field.Field.TheVariants.{Number as number, Empty as empty, Malformed as malformed}
 use Rattle.text.specs.Bounds.{Bound, allows, allows_all}
 use Rattle.text.specs.Write.{field_text, fields_text, line_text}
 use Rattle.text.proofs.Decimal.{decimal_below}
-use Rattle.text.proofs.Exact.{both}
 
 pub line_length : (letter : ℕ) (fs : List Field) → length (line_text letter fs) ≡ 2 + length (fields_text fs)
 unfolding line_text
@@ -49,5 +49,5 @@ allows_short b k h malformed e = omega arith
 pub all_short : (b : Bound) (k : ℕ) → b.largest < 10 ^ suc k → (fs : List Field) → allows_all b fs ≡ true → Short (suc k) fs
 unfolding allows_all
 all_short b k h [] e i l = absurd (omega arith)
-all_short b k h (f ∷ fs) e zero l = allows_short b k h f (both (allows b f) (allows_all b fs) e).0
-all_short b k h (f ∷ fs) e (suc i) l = all_short b k h fs (both (allows b f) (allows_all b fs) e).1 i (omega arith)
+all_short b k h (f ∷ fs) e zero l = allows_short b k h f (and_parts (allows b f) (allows_all b fs) e).0
+all_short b k h (f ∷ fs) e (suc i) l = all_short b k h fs (and_parts (allows b f) (allows_all b fs) e).1 i (omega arith)

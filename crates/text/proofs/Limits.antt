@@ -9,12 +9,13 @@ use native.Mathlib.Omega.{arith}
 use lib.Dec.{leb, eqb}
 use lib.ListN.{length, get_or}
 use borrow.Author.Tests.{le-leb, lt-leb, leb-true, leb-false}
+use Rattle.std.proofs.lemmas.Bool.{and_parts}
 use Rattle.std.specs.Prelude.{slice_index, slice_index_or, EachIndex}
 use Rattle.text.specs.declared.field.Field.{Field}
 use Rattle.text.specs.declared.field.Field.TheVariants.{Number as number, Empty as empty, Malformed as malformed}
 use Rattle.text.specs.Text.{most, field, parts, fields, line_fields, state_of, value_of, row, greatest}
 use Rattle.text.specs.Bounds.{Bound, widest, allows, allows_all, well_formed, fits, bound_row, row_within, fits_rows}
-use Rattle.text.proofs.Exact.{both, number_exact}
+use Rattle.text.proofs.Exact.{number_exact}
 
 allows_number : (t : Bool) (m n : ℕ) → leb n m ≡ leb 0 (cond t 1 0) && leb n m
 allows_number true m n = refl
@@ -64,11 +65,11 @@ fits_each (b ∷ bs) (f ∷ fs) e h =
 pub each_fits : (bs fs : List (List ℕ)) → fits_rows bs fs ≡ true → EachIndex bs (Within bs fs)
 unfolding fits_rows
 each_fits [] fs e k l = absurd (omega arith)
-each_fits (b ∷ bs) [] e k l = let z : ◌≡◌ {A = ℕ} 0 1 = cc in absurd (omega arith)
+each_fits (b ∷ bs) [] e k l = absurd (cc)
 each_fits (b ∷ bs) (f ∷ fs) e zero l =
-    let p = both (leb (get_or f 0 0) (get_or b 0 0)) (leb (get_or f 1 0) (get_or b 1 0)) (both (row_within b f) (fits_rows bs fs) e).0 in
+    let p = and_parts (leb (get_or f 0 0) (get_or b 0 0)) (leb (get_or f 1 0) (get_or b 1 0)) (and_parts (row_within b f) (fits_rows bs fs) e).0 in
     (leb-true (get_or f 0 0) (get_or b 0 0) p.0, leb-true (get_or f 1 0) (get_or b 1 0) p.1)
-each_fits (b ∷ bs) (f ∷ fs) e (suc k) l = each_fits bs fs (both (row_within b f) (fits_rows bs fs) e).1 k (omega arith)
+each_fits (b ∷ bs) (f ∷ fs) e (suc k) l = each_fits bs fs (and_parts (row_within b f) (fits_rows bs fs) e).1 k (omega arith)
 
 -- a row that is not within its bound
 pub row_outside : (bs fs : List (List ℕ)) (i : ℕ) → i < length bs → (Within bs fs i → ⊥) → fits_rows bs fs ≡ false
@@ -127,18 +128,18 @@ well_worst fs = well_rows fs ∙ sym (least 1 0 (map state_of fs) (omega arith))
 allows_well : (b : Bound) (f : Field) → allows b f ≡ true → leb (state_of f) 1 ≡ true
 allows_well b (number n) e = refl
 allows_well b empty e = refl
-allows_well b malformed e = let z : ◌≡◌ {A = ℕ} 0 1 = cc in absurd (omega arith)
+allows_well b malformed e = absurd (cc)
 
 pub fits_well : (bs : List Bound) (fs : List Field) → fits bs fs ≡ true → well_formed fs ≡ true
 unfolding fits well_formed
 fits_well bs [] e = refl
-fits_well [] (f ∷ fs) e = let z : ◌≡◌ {A = ℕ} 0 1 = cc in absurd (omega arith)
-fits_well (b ∷ bs) (f ∷ fs) e = let p = both (allows b f) (fits bs fs) e in rw (allows_well b f p.0) (fits_well bs fs p.1)
+fits_well [] (f ∷ fs) e = absurd (cc)
+fits_well (b ∷ bs) (f ∷ fs) e = let p = and_parts (allows b f) (fits bs fs) e in rw (allows_well b f p.0) (fits_well bs fs p.1)
 
 pub all_well : (b : Bound) (fs : List Field) → allows_all b fs ≡ true → well_formed fs ≡ true
 unfolding allows_all well_formed
 all_well b [] e = refl
-all_well b (f ∷ fs) e = let p = both (allows b f) (allows_all b fs) e in rw (allows_well b f p.0) (all_well b fs p.1)
+all_well b (f ∷ fs) e = let p = and_parts (allows b f) (allows_all b fs) e in rw (allows_well b f p.0) (all_well b fs p.1)
 
 -- ---- what was read is within 64 bits
 
@@ -154,11 +155,11 @@ parts_widest (p ∷ ps) = λ k. widest_at p (field most p) refl k && parts_wides
 
 some_at_lem : (t : Bool) (gs fs : List Field) → cond t (some gs) none ≡ some fs → allows_all widest gs ≡ well_formed gs → allows_all widest fs ≡ well_formed fs
 some_at_lem true gs fs e h = let q : gs ≡ fs = cc in rw q at h
-some_at_lem false gs fs e h = let z : ◌≡◌ {A = ℕ} 0 1 = cc in absurd (omega arith)
+some_at_lem false gs fs e h = absurd (cc)
 
 pub read_widest : (letter : ℕ) (l : List ℕ) (fs : List Field) → line_fields letter l ≡ some fs → allows_all widest fs ≡ well_formed fs
 unfolding line_fields fields allows_all well_formed
-read_widest letter [] fs e = let z : ◌≡◌ {A = ℕ} 0 1 = cc in absurd (omega arith)
+read_widest letter [] fs e = absurd (cc)
 read_widest letter (x ∷ []) fs e = some_at_lem (eqb x letter) [] fs e refl
 read_widest letter (x ∷ c ∷ cs) fs e = some_at_lem (eqb x letter && eqb c 44) (map (field most) (parts 44 cs)) fs e (parts_widest (parts 44 cs))
 
@@ -167,20 +168,20 @@ read_widest letter (x ∷ c ∷ cs) fs e = some_at_lem (eqb x letter && eqb c 44
 pub fits_length : (bs : List Bound) (fs : List Field) → fits bs fs ≡ true → length fs ≡ length bs
 unfolding fits
 fits_length [] [] e = refl
-fits_length [] (f ∷ fs) e = let z : ◌≡◌ {A = ℕ} 0 1 = cc in absurd (omega arith)
-fits_length (b ∷ bs) [] e = let z : ◌≡◌ {A = ℕ} 0 1 = cc in absurd (omega arith)
-fits_length (b ∷ bs) (f ∷ fs) e = ap suc (fits_length bs fs (both (allows b f) (fits bs fs) e).1)
+fits_length [] (f ∷ fs) e = absurd (cc)
+fits_length (b ∷ bs) [] e = absurd (cc)
+fits_length (b ∷ bs) (f ∷ fs) e = ap suc (fits_length bs fs (and_parts (allows b f) (fits bs fs) e).1)
 
 pub fits_at : (bs : List Bound) (fs : List Field) → fits bs fs ≡ true → (i : ℕ) → i < length fs → allows (get_or bs i widest) (get_or fs i empty) ≡ true
 unfolding fits
 fits_at [] [] e i h = absurd (omega arith)
-fits_at [] (f ∷ fs) e i h = let z : ◌≡◌ {A = ℕ} 0 1 = cc in absurd (omega arith)
+fits_at [] (f ∷ fs) e i h = absurd (cc)
 fits_at (b ∷ bs) [] e i h = absurd (omega arith)
-fits_at (b ∷ bs) (f ∷ fs) e zero h = (both (allows b f) (fits bs fs) e).0
-fits_at (b ∷ bs) (f ∷ fs) e (suc i) h = fits_at bs fs (both (allows b f) (fits bs fs) e).1 i (omega arith)
+fits_at (b ∷ bs) (f ∷ fs) e zero h = (and_parts (allows b f) (fits bs fs) e).0
+fits_at (b ∷ bs) (f ∷ fs) e (suc i) h = fits_at bs fs (and_parts (allows b f) (fits bs fs) e).1 i (omega arith)
 
 pub all_at : (b : Bound) (fs : List Field) → allows_all b fs ≡ true → (i : ℕ) → i < length fs → allows b (get_or fs i empty) ≡ true
 unfolding allows_all
 all_at b [] e i h = absurd (omega arith)
-all_at b (f ∷ fs) e zero h = (both (allows b f) (allows_all b fs) e).0
-all_at b (f ∷ fs) e (suc i) h = all_at b fs (both (allows b f) (allows_all b fs) e).1 i (omega arith)
+all_at b (f ∷ fs) e zero h = (and_parts (allows b f) (allows_all b fs) e).0
+all_at b (f ∷ fs) e (suc i) h = all_at b fs (and_parts (allows b f) (allows_all b fs) e).1 i (omega arith)

@@ -9,7 +9,7 @@ use lib.Dec.{eqb}
 use lib.ListN.{length, take, drop}
 use Rattle.text.specs.Text.{until, onto, parts}
 
-until_le_at : (t : Bool) (u l : ℕ) → u ≤ l → cond t 0 (suc u) ≤ suc l
+pub until_le_at : (t : Bool) (u l : ℕ) → u ≤ l → cond t 0 (suc u) ≤ suc l
 until_le_at true u l h = omega arith
 until_le_at false u l h = omega arith
 

@@ -69,7 +69,7 @@ after_next s at = omega (arith, next_until 10 at (drop at s))
 
 ended_at : (t : Bool) (x : Option (List Field)) (fs : List Field) → cond t x none ≡ some fs → t ≡ true
 ended_at true x fs e = refl
-ended_at false x fs e = let z : ◌≡◌ {A = ℕ} 0 1 = cc in absurd (omega arith)
+ended_at false x fs e = absurd (cc)
 
 -- a line that was read is ended
 pub ended : (letter : ℕ) (s : List ℕ) (at : ℕ) (fs : List Field) → line_at letter s at ≡ some fs → until 10 (drop at s) < length (drop at s)
@@ -78,7 +78,7 @@ ended letter s at fs e = ltb-true (until 10 (drop at s)) (length (drop at s)) (e
 
 fields_at_lem : (t : Bool) (x : Option (List Field)) (fs : List Field) → cond t x none ≡ some fs → x ≡ some fs
 fields_at_lem true x fs e = e
-fields_at_lem false x fs e = let z : ◌≡◌ {A = ℕ} 0 1 = cc in absurd (omega arith)
+fields_at_lem false x fs e = absurd (cc)
 
 -- its fields are those of its bytes
 pub read_fields : (letter : ℕ) (s : List ℕ) (at : ℕ) (fs : List Field) → line_at letter s at ≡ some fs → line_fields letter (line (drop at s)) ≡ some fs

@@ -10,6 +10,7 @@ use lib.Dec.{eqb}
 use lib.ListN.{length, drop, length-append}
 use lib.Seq.{take-append_seam, drop-append_seam, drop-append-add}
 use borrow.Author.Tests.{lt-ltb, leb-true, eq-eqb, ne_eqb}
+use Rattle.std.proofs.lemmas.Bool.{and_parts}
 use Rattle.text.specs.declared.field.Field.{Field}
 use Rattle.text.specs.declared.field.Field.TheVariants.{Number as number, Empty as empty, Malformed as malformed}
 use Rattle.text.specs.Text.{most, until, parts, field, fields, line, line_fields, line_at, after}
@@ -17,7 +18,7 @@ use Rattle.text.specs.Lines.{first_of}
 use Rattle.text.specs.Bounds.{widest, allows, allows_all}
 use Rattle.text.specs.Write.{decimal, field_text, fields_text, line_text}
 use Rattle.text.proofs.Decimal.{decimal_one, decimal_more, by_tenths}
-use Rattle.text.proofs.Exact.{both, number_exact, empty_exact}
+use Rattle.text.proofs.Exact.{number_exact, empty_exact}
 use Rattle.text.proofs.Parts.{parts_last, parts_more}
 use Rattle.text.proofs.Places.{first_cons}
 
@@ -27,7 +28,7 @@ pub field_back : (f : Field) → allows widest f ≡ true → field most (field_
 unfolding field_text
 field_back (number n) e = (number_exact most (decimal n) n).1 refl (leb-true n most e)
 field_back empty e = (empty_exact most []).1 refl
-field_back malformed e = let z : ◌≡◌ {A = ℕ} 0 1 = cc in absurd (omega arith)
+field_back malformed e = absurd (cc)
 
 -- ---- a byte that a text has not
 
@@ -84,7 +85,7 @@ fields_back : (f : Field) (fs : List Field) → allows widest f ≡ true → all
 unfolding fields fields_text allows_all
 fields_back f [] l ls = rw (append-nil (field_text f), parts_last 44 (field_text f) (free_text 44 (omega arith) f), field_back f l)
 fields_back f (g ∷ gs) l ls =
-    let p = both (allows widest g) (allows_all widest gs) ls in
+    let p = and_parts (allows widest g) (allows_all widest gs) ls in
     rw (parts_append 44 (field_text f) (field_text g ++ fields_text gs) (free_text 44 (omega arith) f), field_back f l)
     (ap (λ (t : List Field). f ∷ t) (fields_back g gs p.0 p.1))
 
@@ -92,7 +93,7 @@ pub line_fields_back : (letter : ℕ) (fs : List Field) → allows_all widest fs
 unfolding line_fields fields_text allows_all
 line_fields_back letter [] ls = rw (eq-eqb letter letter refl)
 line_fields_back letter (f ∷ fs) ls =
-    let p = both (allows widest f) (allows_all widest fs) ls in
+    let p = and_parts (allows widest f) (allows_all widest fs) ls in
     rw (eq-eqb letter letter refl, fields_back f fs p.0 p.1)
 
 -- ---- a line within a text

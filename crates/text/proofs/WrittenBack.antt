@@ -10,13 +10,14 @@ use lib.Dec.{leb, eqb}
 use lib.ListN.{length, take, drop, length-append, length-drop, take-append-drop}
 use lib.Seq.{drop-drop}
 use borrow.Author.Tests.{eqb-true}
+use Rattle.std.proofs.lemmas.Bool.{and_parts}
 use Rattle.text.specs.declared.field.Field.{Field}
 use Rattle.text.specs.declared.field.Field.TheVariants.{Number as number, Empty as empty, Malformed as malformed}
 use Rattle.text.specs.Text.{most, state_of, until, onto, parts, field, fields, line, line_fields, line_at, after}
 use Rattle.text.specs.Lines.{first_of}
 use Rattle.text.specs.Bounds.{well_formed}
 use Rattle.text.specs.Write.{field_text, fields_text, line_text}
-use Rattle.text.proofs.Exact.{both, number_exact, empty_exact}
+use Rattle.text.proofs.Exact.{number_exact, empty_exact}
 use Rattle.text.proofs.Places.{ended, read_fields, after_within}
 
 -- ---- a field
@@ -25,7 +26,7 @@ again_at : (m : ℕ) (p : List ℕ) (f : Field) → field m p ≡ f → leb (sta
 unfolding field_text
 again_at m p (number n) e h = sym ((number_exact m p n).0 e).0
 again_at m p empty e h = sym ((empty_exact m p).0 e)
-again_at m p malformed e h = let z : ◌≡◌ {A = ℕ} 0 1 = cc in absurd (omega arith)
+again_at m p malformed e h = absurd (cc)
 
 pub field_again : (m : ℕ) (p : List ℕ) → leb (state_of (field m p)) 1 ≡ true → field_text (field m p) ≡ p
 field_again m p = again_at m p (field m p) refl
@@ -38,7 +39,7 @@ led b (p ∷ ps) = b ∷ (p ++ led b ps)
 
 led_onto : (b x : ℕ) (xs : List ℕ) (ps : List (List ℕ)) → led b ps ≡ b ∷ xs → led b (onto x ps) ≡ b ∷ (x ∷ xs)
 unfolding led onto
-led_onto b x xs [] e = let z : ◌≡◌ {A = ℕ} 0 1 = cc in absurd (omega arith)
+led_onto b x xs [] e = absurd (cc)
 led_onto b x xs (p ∷ ps) e = let q : p ++ led b ps ≡ xs = cc in ap (λ (ys : List ℕ). b ∷ (x ∷ ys)) q
 
 led_at : (t : Bool) (b x : ℕ) (xs : List ℕ) (ps : List (List ℕ)) → eqb x b ≡ t → led b ps ≡ b ∷ xs → led b (cond t ([] ∷ ps) (onto x ps)) ≡ b ∷ (x ∷ xs)
@@ -57,30 +58,30 @@ fields_again : (ps : List (List ℕ)) → well_formed (map (field most) ps) ≡ 
 unfolding well_formed fields_text led
 fields_again [] h = refl
 fields_again (p ∷ ps) h =
-    let q = both (leb (state_of (field most p)) 1) (well_formed (map (field most) ps)) h in
+    let q = and_parts (leb (state_of (field most p)) 1) (well_formed (map (field most) ps)) h in
     ap₂ (λ (x y : List ℕ). 44 ∷ (x ++ y)) (field_again most p q.0) (fields_again ps q.1)
 
 bare_at : (t : Bool) (letter x : ℕ) (fs : List Field) → eqb x letter ≡ t → cond t (some []) none ≡ some fs → letter ∷ fields_text fs ≡ x ∷ []
 unfolding fields_text
 bare_at true letter x fs t e = let z : [] ≡ fs = cc in rw (← z, eqb-true x letter t)
-bare_at false letter x fs t e = let z : ◌≡◌ {A = ℕ} 0 1 = cc in absurd (omega arith)
+bare_at false letter x fs t e = absurd (cc)
 
 line_at_lem : (t : Bool) (letter x c : ℕ) (cs : List ℕ) (fs : List Field) → (eqb x letter && eqb c 44) ≡ t → cond t (some (map (field most) (parts 44 cs))) none ≡ some fs → well_formed fs ≡ true → letter ∷ fields_text fs ≡ x ∷ c ∷ cs
 line_at_lem true letter x c cs fs t e l =
     let z : map (field most) (parts 44 cs) ≡ fs = cc in
-    let q = both (eqb x letter) (eqb c 44) t in
+    let q = and_parts (eqb x letter) (eqb c 44) t in
     rw (eqb-true x letter q.0, eqb-true c 44 q.1, ← z) (ap (λ (ys : List ℕ). letter ∷ ys) (fields_again (parts 44 cs) (rw z l) ∙ led_parts 44 cs))
-line_at_lem false letter x c cs fs t e l = let z : ◌≡◌ {A = ℕ} 0 1 = cc in absurd (omega arith)
+line_at_lem false letter x c cs fs t e l = absurd (cc)
 
 pub line_fields_again : (letter : ℕ) (l : List ℕ) (fs : List Field) → line_fields letter l ≡ some fs → well_formed fs ≡ true → letter ∷ fields_text fs ≡ l
 unfolding line_fields fields
-line_fields_again letter [] fs e h = let z : ◌≡◌ {A = ℕ} 0 1 = cc in absurd (omega arith)
+line_fields_again letter [] fs e h = absurd (cc)
 line_fields_again letter (x ∷ []) fs e h = bare_at (eqb x letter) letter x fs refl e
 line_fields_again letter (x ∷ c ∷ cs) fs e h = line_at_lem (eqb x letter && eqb c 44) letter x c cs fs refl e h
 
 pub first_again : (letter : ℕ) (l : List ℕ) (ls : List (List ℕ)) (fs : List Field) → first_of letter (l ∷ ls) ≡ some fs → well_formed fs ≡ true → letter ∷ fields_text fs ≡ l
 unfolding first_of
-first_again letter l [] fs e h = let z : ◌≡◌ {A = ℕ} 0 1 = cc in absurd (omega arith)
+first_again letter l [] fs e h = absurd (cc)
 first_again letter l (m ∷ ms) fs e h = line_fields_again letter l fs e h
 
 -- ---- a line at a place
