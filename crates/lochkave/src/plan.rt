@@ -41,7 +41,7 @@ pub(crate) fn held_facts<'a>(
 {
     PlanFacts {
         node,
-        children: &facts[..p.children as usize],
+        children: &facts[..p.children],
         xs: FactRows {
             index,
             rows: &xs[..p.rows],
@@ -73,7 +73,11 @@ pub(crate) fn answer_plan(
                 interleave: done.interleave,
                 tracked: done.tracked,
             };
-            write_plan(head, &dst[..done.lines], out)
+            match write_plan(head, &dst[..done.lines], out) {
+                // No From goes from usize to u64.
+                Ok(bytes) => bytes as u64,
+                Err(refused) => refused.word(),
+            }
         }
     }
 }
