@@ -31,14 +31,6 @@ struct KeyAnswer<'a> {
     ghost few: { KeyFew lists children } by { Prim.hlevel props },
 }
 
-// Room for the pairs, for R shifted and for the projection.
-#[derive(Drop)]
-struct Rooms {
-    pairs: PairRooms,
-    shifted: [u64; 32],
-    projection: [u64; 128],
-}
-
 // How many children a K line has. No From goes from u64 to usize.
 fn child_count(h: &[u64]) -> usize
     requires { 7 ≤ length h.now }
@@ -73,7 +65,13 @@ fn write_key(roomy: bool, a: &KeyAnswer<'_>, out: &mut [u8]) -> Result<usize, Re
 }
 
 // The lists of an answer, in the rooms lent.
-fn chosen<'a>(sheet: HeldKey<'a>, x: &Adjusted, rooms: &'a mut Rooms) -> KeyAnswer<'a>
+fn chosen<'a>(
+    sheet: HeldKey<'a>,
+    x: &Adjusted,
+    pairs: &'a mut PairRooms,
+    shifts: &'a mut [u64; 32],
+    names: &'a mut [u64; 128],
+) -> KeyAnswer<'a>
     ensures { whole_text result.lists result.children result.sheet.held ≡ key_answer_text (answer_of (held_key_sheet sheet.entry.held.lists.now sheet.entry.held.counts.now) x.now) }
 {
     let o = &x.outcome;
@@ -82,10 +80,10 @@ fn chosen<'a>(sheet: HeldKey<'a>, x: &Adjusted, rooms: &'a mut Rooms) -> KeyAnsw
     let right = sheet.list(3);
     let directions = sheet.list(4);
     let mapped = sheet.list(8);
-    let moved = moved_pairs(left, right, directions, o.positions(), &mut rooms.pairs);
+    let moved = moved_pairs(left, right, directions, o.positions(), pairs);
     let columns = sheet.list(0)[3];
-    let shifted = shifted_keys(x.first, x.others, required, columns, &mut rooms.shifted);
-    let projection = projected_by(o, sheet.list(6), sheet.list(7), &mut rooms.projection);
+    let shifted = shifted_keys(x.first, x.others, required, columns, shifts);
+    let projection = projected_by(o, sheet.list(6), sheet.list(7), names);
     let lists = KeyLists {
         changed: o.changed(),
         report: o.report(),
@@ -116,11 +114,9 @@ pub fn answer_key_sheet(roomy: bool, held: Lists<'_>, rules: &mut [[u64; 2]], ou
     let Some(x) = adjust(sheet, rules) else {
         return word(Err(Refusal::NameNotFound));
     };
-    let mut rooms = Rooms {
-        pairs: PairRooms::EMPTY,
-        shifted: [0; 32],
-        projection: [0; 128],
-    };
-    let answer = chosen(sheet, &x, &mut rooms);
+    let mut pairs = PairRooms::EMPTY;
+    let mut shifts = [0; 32];
+    let mut names = [0; 128];
+    let answer = chosen(sheet, &x, &mut pairs, &mut shifts, &mut names);
     word(write_key(roomy, &answer, out))
 }

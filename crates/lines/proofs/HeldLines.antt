@@ -10,7 +10,7 @@ use Rattle.text.specs.declared.field.Field.TheVariants.{Number as number}
 use Rattle.text.specs.Write.{fields_text, line_text}
 use Rattle.text.proofs.Lengths.{fields_append}
 use Rattle.keys.specs.Expressions.{expressions}
-use Rattle.keys.proofs.Shifts.{map-append}
+use Rattle.std.proofs.lemmas.List.{map-append}
 use Rattle.linekinds.specs.ListLines.{line_letter, line_codes}
 use Rattle.linekinds.specs.declared.kind.Codes.TheVariants as C
 use Rattle.linekinds.specs.declared.lists.SheetKind.{SheetKind}
