@@ -50,6 +50,7 @@ pub fn answered(word: u64) -> Result<usize, Refused>
     ensures refused { 4294967296 ≤ word → result ≡ Err (record { number = word / 4294967296; line = word % 4294967296 }) }
 {
     if word < 0x1_0000_0000 {
+        // No From goes between u64 and usize.
         Ok(word as usize)
     } else {
         Err(Refused {

@@ -65,9 +65,7 @@ fn undefined_exprs(rows: &[[u64; 2]]) -> bool
     ensures { result ≡ undefined_exprs (row_values rows.now) }
 {
     let (entries, _) = rows.as_chunks::<3>();
-    entries
-        .iter()
-        .any(|[kind, name, index]| !defined_expr(kind[1], name[1], index[1]))
+    entries.iter().any(|[kind, name, index]| !defined_expr(kind[1], name[1], index[1]))
 }
 
 // Whether one of the numbers is over the largest.
@@ -77,6 +75,7 @@ fn over(rows: &[[u64; 2]], most: u64) -> bool
     rows.iter().any(|row| most < row[1])
 }
 
+// A hash join and an aggregate have modes; elsewhere the number is 0.
 fn defined_mode(op: u64, mode: u64) -> bool
     ensures { result ≡ defined_mode op mode }
 {
@@ -87,6 +86,7 @@ fn defined_mode(op: u64, mode: u64) -> bool
     }
 }
 
+// A hash join has a join type; elsewhere the number is 0.
 fn defined_join(op: u64, join: u64) -> bool
     ensures { result ≡ defined_join op join }
 {

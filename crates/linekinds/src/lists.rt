@@ -68,7 +68,7 @@ impl SheetKind {
     }
 }
 
-// How long the list of a line is, packed, and the place after the line.
+// How long the list of a line is, packed, and the place after the line. The list stands at the front of the room lent.
 #[derive(Clone, Copy)]
 pub struct Packed {
     pub count: usize,

@@ -13,7 +13,7 @@ pub struct Number {
     pub end: usize,
 }
 
-// How many entries, and the place of the LF.
+// How many entries, and the place of the LF. The entries stand at the front of the room lent.
 #[derive(Clone, Copy)]
 pub struct Entries {
     pub count: usize,

@@ -2,6 +2,7 @@
 ghost use Rattle.std.specs.Prelude.{◌≡◌, ◌≤◌, ◌<◌, length, get_or};
 ghost use Rattle.sheet.specs.Held.{held_at};
 
+// Each list is a room of 64 numbers, and its count says how many of them are the line's.
 #[derive(Clone, Copy)]
 pub struct Lists<'a> {
     pub lists: &'a [[u64; 64]],

@@ -12,7 +12,8 @@ pub struct LinesRead {
     pub line: u64,
 }
 
-// The lines after the head, up to line n: line i goes into list i.
+// The lines after the head, up to line n: line i goes into list i. The rooms stand apart, since of a struct of `&mut` each function would
+// have to promise that its references are still the same.
 fn read_lists(
     s: &[u8],
     at: usize,
@@ -50,25 +51,7 @@ fn line_count(k: SheetKind, children: u64) -> usize
     }
 }
 
-// All lines of a sheet: line i goes into list i. The first is no list, and is judged by its fields.
-fn read_lines(
-    s: &[u8],
-    k: SheetKind,
-    rows: &mut [[u64; 2]],
-    lists: &mut [[u64; 64]],
-    counts: &mut [usize],
-) -> Result<LinesRead, Refused>
-    requires { (192 ≤ length rows.old) × (most_lists k ≤ length lists.old) × (most_lists k ≤ length counts.old) }
-    ensures answer { result ≡ lines_by (whole_lines k s.now) }
-    ensures held { HeldLines s.now k 0 (whole_lines k s.now) lists.new counts.new }
-{
-    let head = read_list(s, 0, k, 0, rows, &mut lists[0]).map_err(|r| r.on_line(1))?;
-    counts[0] = head.count;
-    let n = line_count(k, lists[0][6]);
-    read_lists(s, head.next, k, n, rows, lists, counts)
-}
-
-// All lines of a sheet, and nothing after them.
+// All lines of a sheet, and nothing after them: line i goes into list i. The first is no list.
 pub fn read_whole(
     s: &[u8],
     k: SheetKind,
@@ -80,7 +63,10 @@ pub fn read_whole(
     ensures answer { result ≡ ended_by (whole_lines k s.now) }
     ensures held { HeldLines s.now k 0 (whole_lines k s.now) lists.new counts.new }
 {
-    let read = read_lines(s, k, rows, lists, counts)?;
+    let head = read_list(s, 0, k, 0, rows, &mut lists[0]).map_err(|r| r.on_line(1))?;
+    counts[0] = head.count;
+    let n = line_count(k, lists[0][6]);
+    let read = read_lists(s, head.next, k, n, rows, lists, counts)?;
     if read.next < s.len() {
         return Err(Refusal::WrongLine.on_line(read.line));
     }

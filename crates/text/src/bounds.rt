@@ -6,7 +6,7 @@ ghost use Rattle.text.specs.Bounds.{fits_rows, judged};
 
 use crate::line::{Fields, line_at};
 
-// A line whose fields are within their bounds, with the place after it.
+// A line whose fields are within their bounds, with the place after it. They stand in the room lent, and here is only their number.
 #[derive(Clone, Copy)]
 pub struct Judged {
     pub count: usize,

@@ -23,7 +23,8 @@ fn line_ended(s: &[u8], at: usize) -> bool
     s.len() <= at || s[at] == b'\n'
 }
 
-// How many fields, the largest of their states, the largest of their values, and the place where reading goes on.
+// How many fields, the largest of their states, the largest of their values, and the place where reading goes on. The fields stand in the
+// room lent, which may have ended before them.
 #[derive(Clone, Copy)]
 pub struct Fields {
     pub count: usize,

@@ -37,5 +37,5 @@ returns c =
     let few = simp (length-take, length-drop) at c.as_chunks.ensures.front_len in (
       omega (arith, v.1, few, c.loop-kind.auto.kind-index-end, c.requires),
       fill_end (packed_behind i out xs) c.loop-kind.out c.loop-kind.n v.2 (omega (arith, long, v.1, c.loop-kind-test.false))
-      ∙ ap (λ (ns : List ℕ). take i out ++ ns) (ap (map pack_three) c.as_chunks.ensures.front ∙ threes_packed (length rest / 3) rest refl ∙ packs_from rs i),
+          ∙ ap (λ (ns : List ℕ). take i out ++ ns) (ap (map pack_three) c.as_chunks.ensures.front ∙ threes_packed (length rest / 3) rest refl ∙ packs_from rs i),
     )

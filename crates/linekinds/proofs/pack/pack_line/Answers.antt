@@ -16,7 +16,7 @@ returns-in-Input c =
       omega (arith, c.pack_exprs-in-Input.array_long),
       e.0,
       rw c.in-Input.is (
-        e.1 ∙ ap (λ (xs : List ℕ). xs ++ packs (drop 1 (row_values rs)))
-            (first_put c.args.out.now (row_values rs) (get_or (get_or rs 0 []) 1 0) (omega (arith, c.told-out)) (rw (length-map rs row_value) fits.0) (sym (row_value_lem rs 0)))
-      ),
+          e.1 ∙ ap (λ (xs : List ℕ). xs ++ packs (drop 1 (row_values rs)))
+          (first_put c.args.out.now (row_values rs) (get_or (get_or rs 0 []) 1 0) (omega (arith, c.told-out)) (rw (length-map rs row_value) fits.0) (sym (row_value_lem rs 0)))
+          ),
     )
