@@ -51,7 +51,7 @@ fn text_fits(roomy: bool, room: usize, a: &KeyAnswer<'_>) -> bool
     key_lists_length(&a.lists) + children_length(a.children, a.sheet.held, n) <= room
 }
 
-// The lists and the children's lists, where there is room for them; else refusal 12. Two writers as `write_join` is one: over closures it would be no plainer.
+// The lists and the children's lists, where there is room for them; else refusal 12. Apart from `write_join`: it writes other lists, in another order.
 fn write_key(roomy: bool, a: &KeyAnswer<'_>, out: &mut [u8]) -> Result<usize, Refusal>
     requires { roomy ≡ true → length (whole_text a.now.lists a.now.children a.now.sheet.held) ≤ length out.old }
     ensures { let t = within (length out.old) (wrote (whole_text a.now.lists a.now.children a.now.sheet.held)) in (word_of result ≡ answer t) × (out.new ≡ after t out.old) }

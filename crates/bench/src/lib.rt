@@ -11,7 +11,7 @@ ghost use Rattle.keys.specs.Lists.{permute};
 ghost use Rattle.keys.specs.Expressions.{gone_number};
 ghost use Rattle.bench.specs.Orders.{report_for, left_for, right_for};
 
-use keys::list::entry;
+use keys::list::{Positions, entry};
 use keys::reorder::{GONE, Pairs, Reordered, try_reorder};
 use text::line::line_at;
 use text::write::{line_length, put_line};
@@ -72,11 +72,11 @@ fn store(out: &mut [u64], i: usize, value: u64)
     }
 }
 
-// Stores the keys at the positions where there is room.
-fn store_moved(all: &[u64], at: &[u8], out: &mut [u64])
-    ensures { out.new ≡ sets out.old 0 (permute gone_number all.now at.now) }
+// Stores the keys at the positions where there is room, one by one, since C's array may be shorter.
+fn store_moved(all: &[u64], at: Positions<'_>, out: &mut [u64])
+    ensures { out.new ≡ sets out.old 0 (permute gone_number all.now at.entry.list.now) }
 {
-    for (i, &p) in at.iter().enumerate() {
+    for (i, &p) in at.list.iter().enumerate() {
         store(out, i, entry(GONE, all, p));
     }
 }
@@ -107,7 +107,7 @@ pub extern "C" fn bench_try_reorder(
     let Reordered::Moved(at) = tried else {
         return tried.report();
     };
-    store_moved(l, at.numbers(), left);
-    store_moved(g, at.numbers(), right);
+    store_moved(l, at.positions(), left);
+    store_moved(g, at.positions(), right);
     tried.report()
 }

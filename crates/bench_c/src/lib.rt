@@ -1,4 +1,4 @@
-// The functions of `bench` for Rust: target/staticlib/libbench.a.
+// The functions of `bench` for Rust: target/staticlib/libbench.a. Each stands here again, since such a library holds its own crate's alone.
 #![tactic(auto)]
 
 ghost use Rattle.std.specs.Prelude.{◌≡◌, map, length, drop};

@@ -28,5 +28,4 @@ pub mod Joins
 pub mod InputMarks
 pub mod InputTurns
 pub mod InputLists
-pub mod Few
 pub mod ByCode

@@ -2,7 +2,7 @@
 ghost use Rattle.std.specs.Prelude.{◌≡◌, false, true};
 ghost use Rattle.keys.specs.Answers.{changed_by, reported_by, positions_by, places_by};
 
-use crate::list::NumberList;
+use crate::list::{NumberList, Positions};
 use crate::reorder::Reordered;
 
 // The numbers of a K line; `columns` is its `left`.
@@ -57,23 +57,23 @@ impl Outcome {
     }
 
     // The positions of the pairs or groups that moved.
-    pub fn positions(&self) -> &[u8]
-        ensures { result.now ≡ positions_by self.now }
+    pub fn positions(&self) -> Positions<'_>
+        ensures { result.list.now ≡ positions_by self.now }
     {
         match self {
-            Outcome::Unchanged | Outcome::Passed => &[],
+            Outcome::Unchanged | Outcome::Passed => Positions::NONE,
             Outcome::Tried(tried) => tried.positions(),
-            Outcome::Regrouped { at, .. } => at.numbers(),
+            Outcome::Regrouped { at, .. } => at.positions(),
         }
     }
 
     // The places of the group names, where the groups moved.
-    pub fn places(&self) -> &[u8]
-        ensures { result.now ≡ places_by self.now }
+    pub fn places(&self) -> Positions<'_>
+        ensures { result.list.now ≡ places_by self.now }
     {
         match self {
-            Outcome::Regrouped { places, .. } => places.numbers(),
-            _ => &[],
+            Outcome::Regrouped { places, .. } => places.positions(),
+            _ => Positions::NONE,
         }
     }
 }

@@ -4,6 +4,7 @@ ghost use Rattle.keys.specs.Kept.{order_tried};
 ghost use Rattle.keys.specs.InputValues.{side_number, report_by, side_by, positions_by};
 
 use crate::codes::{HashMode, Op};
+use crate::list::Positions;
 use crate::reorder::Reordered;
 
 #[derive(Clone, Copy, PartialEq, Eq, Debug)]
@@ -59,12 +60,12 @@ impl Attempt {
     }
 
     // The positions of the pairs that moved.
-    pub fn positions(&self) -> &[u8]
-        ensures { result.now ≡ positions_by self.now }
+    pub fn positions(&self) -> Positions<'_>
+        ensures { result.list.now ≡ positions_by self.now }
     {
         match self {
             Attempt::Followed(_, tried) => tried.positions(),
-            Attempt::Untried | Attempt::Failed => &[],
+            Attempt::Untried | Attempt::Failed => Positions::NONE,
         }
     }
 }

@@ -23,6 +23,17 @@ pub struct NumberList {
     ghost within: { count ≤ 32 },
 }
 
+// Positions that were found, handed on.
+#[derive(Clone, Copy)]
+pub struct Positions<'a> {
+    pub list: &'a [u8],
+    pub ghost few: { length list.now ≤ 32 },
+}
+
+impl Positions<'_> {
+    pub const NONE: Positions<'static> = Positions { list: &[] };
+}
+
 impl KeyList {
     ghost use Rattle.std.specs.Prelude.{◌<◌, eqb, set, IfSome};
     ghost use Rattle.keys.specs.Expressions.{gone_number};
@@ -53,18 +64,17 @@ impl KeyList {
     }
 
     // The keys at the positions.
-    pub fn moved(keys: &[u64], at: &[u8]) -> KeyList
-        requires { length at.now ≤ 32 }
-        ensures keys { packed_keys result ≡ permute gone_number keys.now at.now }
-        ensures count { result.count ≡ length at.now }
+    pub fn moved(keys: &[u64], at: Positions<'_>) -> KeyList
+        ensures keys { packed_keys result ≡ permute gone_number keys.now at.entry.list.now }
+        ensures count { result.count ≡ length at.entry.list.now }
     {
         let mut list = KeyList::empty();
-        for (i, &p) in at.iter().enumerate() {
+        for (i, &p) in at.list.iter().enumerate() {
             list.items[i] = Expr {
                 number: entry(GONE, keys, p),
             };
         }
-        list.count = at.len();
+        list.count = at.list.len();
         list
     }
 
@@ -103,10 +113,12 @@ impl NumberList {
         NumberList { items, count }
     }
 
-    pub fn numbers(&self) -> &[u8]
-        ensures { result.now ≡ numbers self.now }
+    pub fn positions(&self) -> Positions<'_>
+        ensures { result.list.now ≡ numbers self.now }
     {
-        &self.items[..self.count]
+        Positions {
+            list: &self.items[..self.count],
+        }
     }
 }
 
@@ -117,13 +129,12 @@ pub fn entry(gone: u64, all: &[u64], p: u8) -> u64
     all.get(usize::from(p)).copied().unwrap_or(gone)
 }
 
-// By index, since a list is filled from its front. The numbers at the positions, in the room lent; `gone` where nothing stands.
-pub fn permute<'a>(gone: u64, all: &[u64], at: &[u8], out: &'a mut [u64; 32]) -> &'a [u64]
-    requires { length at.now ≤ 32 }
-    ensures { result.now ≡ permute gone all.now at.now }
+// The numbers at the positions, in the room lent; `gone` where nothing stands. By index: over a chain the room's front would be no plainer.
+pub fn permute<'a>(gone: u64, all: &[u64], at: Positions<'_>, out: &'a mut [u64; 32]) -> &'a [u64]
+    ensures { result.now ≡ permute gone all.now at.entry.list.now }
 {
-    for (i, &p) in at.iter().enumerate() {
+    for (i, &p) in at.list.iter().enumerate() {
         out[i] = entry(gone, all, p);
     }
-    &out[..at.len()]
+    &out[..at.list.len()]
 }

@@ -6,7 +6,7 @@ ghost use Rattle.keys.specs.Reorder.{rewrite_one, rewrite, meets, either_side, m
 ghost use Rattle.keys.specs.Searched.{searched, searched_by};
 ghost use Rattle.keys.specs.Values.{number_rules, positions_of, positions_in, tried_of, report_of};
 
-use crate::list::{KeyList, NumberList};
+use crate::list::{KeyList, NumberList, Positions};
 
 // The placeholder, packed.
 pub const GONE: u64 = 8589934592;
@@ -105,12 +105,12 @@ impl Reordered {
     }
 
     // The positions of the pairs that moved.
-    pub fn positions(&self) -> &[u8]
-        ensures { result.now ≡ positions_in self.now }
+    pub fn positions(&self) -> Positions<'_>
+        ensures { result.list.now ≡ positions_in self.now }
     {
         match self {
-            Reordered::Moved(at) => at.numbers(),
-            Reordered::Met | Reordered::Impossible => &[],
+            Reordered::Moved(at) => at.positions(),
+            Reordered::Met | Reordered::Impossible => Positions::NONE,
         }
     }
 }

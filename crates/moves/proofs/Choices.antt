@@ -19,7 +19,7 @@ use Rattle.keys.specs.declared.answer.Handed.{Handed}
 use Rattle.keys.specs.declared.answer.Handed.TheVariants.{Kept, Cleared, Required, Keys, Shifted, Mapped}
 use Rattle.keys.specs.declared.answer.Outcome.{Outcome}
 use Rattle.keys.specs.declared.answer.Outcome.TheVariants.{Unchanged, Passed, Tried, Regrouped}
-use Rattle.keys.proofs.Truths.{or_first, or_second}
+use Rattle.std.proofs.lemmas.Bool.{or_left, or_right}
 use Rattle.moves.specs.Chosen.{tried_or, followed_or, handed_list, shifts_by, shifted_for}
 
 pub tried_is : {A : Type 0} (o : Reordered) (moved stood : A) → tried_or o moved stood ≡ moved_or (Tried o) moved stood
@@ -33,10 +33,10 @@ ShiftedBy h columns r k = shifts_by h ≡ true → expressions k ≡ shift_right
 
 module _ (first others : Handed) (columns : ℕ) (r k : List ℕ) (e : expressions k ≡ shifted_for first others columns (expressions r)) where
   pub shifted_first : ShiftedBy first columns r k
-  shifted_first h = rw (or_first (shifts_by first) (shifts_by others) h) at e
+  shifted_first h = rw (or_left (shifts_by first) (shifts_by others) h) at e
 
   pub shifted_others : ShiftedBy others columns r k
-  shifted_others h = rw (or_second (shifts_by first) (shifts_by others) h) at e
+  shifted_others h = rw (or_right (shifts_by first) (shifts_by others) h) at e
 
 -- a list that a line has room for
 abbrev pub Short : List ℕ → Type 0

@@ -1,6 +1,6 @@
--- The lines of an I sheet that is held: they are there, they are as long as the decision asks, and what is decided of them is decided of the sheet.
+-- The lines of an I sheet that is held are as long as the decision asks, and what is decided of them is decided of the sheet.
 -- Assumes nothing.
-use Prim.Native.Nat.{ℕ, ◌≤◌, ◌<◌}
+use Prim.Native.Nat.{ℕ, ◌≤◌}
 use mathlib.Core.Path.{◌≡◌, sym, ◌∙◌, subst}
 use mathlib.Core.List.{List}
 use lib.ListN.{length, get_or, length-map}
@@ -9,7 +9,6 @@ use Rattle.keys.specs.Inputs.{reorder_join_keys_to_inputs}
 use Rattle.keys.specs.InputValues.{join_sheet, attempt_of}
 use Rattle.keys.specs.declared.inputs.Attempt.{Attempt}
 use Rattle.sheet.specs.Held.{held_at, pair_rows, held_join_sheet, JoinHeld}
-use Rattle.moves.proofs.HeldRoom.{held_there, held_short}
 
 -- what a decision asks of the lists
 abbrev pub JoinSuited : List ℕ → List ℕ → List ℕ → List ℕ → Type 0
@@ -20,12 +19,6 @@ module _ (lists : List (List ℕ)) (counts : List ℕ) where
   At i = held_at lists counts i
 
   module _ (k : JoinHeld lists counts) where
-    pub join_there : (i : ℕ) → i < 8 → (i < length lists) × (i < length counts) × (get_or counts i 0 ≤ 64)
-    join_there i e = held_there lists counts i (k.room i e) 8 k.lines e
-
-    pub join_short : (i : ℕ) → i < 8 → length (At i) ≤ 64
-    join_short i e = held_short lists counts i (k.room i e)
-
     pub join_even : length (At 2) ≡ length (At 1)
     unfolding held_join_sheet
     join_even = sym (length-map (At 2) expression) ∙ sym k.legal.even ∙ length-map (At 1) expression

@@ -1,13 +1,13 @@
--- The lines of a K sheet that is held: they are there, they are as long as the decision asks, and what is decided of them is decided of the sheet.
+-- The lines of a K sheet that is held are as long as the decision asks, and what is decided of them is decided of the sheet.
 -- Assumes nothing.
-use Prim.Native.Nat.{ℕ, ◌≤◌, ◌<◌}
+use Prim.Native.Nat.{ℕ, ◌≤◌}
 use mathlib.Core.Path.{◌≡◌, sym, ◌∙◌, subst}
 use mathlib.Core.Bool.{true}
 use mathlib.Core.List.{List, [], ◌∷◌}
 use native.Mathlib.Omega.{arith}
 use borrow.Author.Tests.{eqb-true}
 use lib.Dec.{eqb}
-use lib.ListN.{length, get_or, length-map}
+use lib.ListN.{length, length-map}
 use Rattle.keys.specs.Expressions.{Expression, same_expr, expression}
 use Rattle.keys.specs.Adjust.{KeySheet, adjust_input_keys_ordering}
 use Rattle.keys.specs.Arrange.{Below}
@@ -19,7 +19,6 @@ use Rattle.keys.proofs.Truths.{and_first}
 use Rattle.sheet.specs.KeySheets.{key_lists_fit}
 use Rattle.sheet.specs.Sizes.{Each}
 use Rattle.sheet.specs.LegalSheets.{Small}
-use Rattle.moves.proofs.HeldRoom.{held_there, held_short}
 use Rattle.sheet.specs.Held.{held_at, pair_rows, operator_of, expr_lists, child_count, held_key_sheet, KeyHeld}
 
 small_below : (ns : List ℕ) → Each Small ns → Below 65536 ns
@@ -40,12 +39,6 @@ module _ (lists : List (List ℕ)) (counts : List ℕ) where
   At i = held_at lists counts i
 
   module _ (h : KeyHeld lists counts) where
-    pub key_there : (i : ℕ) → i < 9 → (i < length lists) × (i < length counts) × (get_or counts i 0 ≤ 64)
-    key_there i k = held_there lists counts i (h.room i (omega arith)) 17 h.lines (omega arith)
-
-    pub key_short : (i : ℕ) → i < 9 → length (At i) ≤ 64
-    key_short i k = held_short lists counts i (h.room i (omega arith))
-
     pub key_lines : KeySuited (At 1) (At 2) (At 3) (At 6) (At 7)
     unfolding held_key_sheet
     key_lines =

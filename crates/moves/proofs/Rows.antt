@@ -1,11 +1,11 @@
 -- A turn of making rows of a list's numbers, two to a row.
 -- Assumes nothing.
 use Prim.Native.Nat.{ℕ, suc, ◌+◌, ◌-◌, ◌≤◌, ◌<◌}
-use mathlib.Core.Path.{◌≡◌, refl, ap, sym, ◌∙◌}
+use mathlib.Core.Path.{◌≡◌, refl, ap, ◌∙◌}
 use mathlib.Core.List.{List, [], ◌∷◌, ◌++◌, append_assoc, append-nil}
 use native.Mathlib.Omega.{arith}
 use lib.ListN.{length, get_or, take, drop, set, length-drop}
-use lib.Seq.{drop-cons, length-take-le}
+use lib.Seq.{drop-cons}
 use Rattle.keys.proofs.Lists.{first_pushed}
 use Rattle.sheet.specs.Held.{pair_rows}
 
@@ -34,6 +34,3 @@ module _ (xs : List ℕ) (rows all : List (List ℕ)) (n i : ℕ) (so : take n r
 
   pub rows_end : length xs - i < 2 → take n rows ≡ all
   rows_end h = rw (none_left (drop i xs) (rw (length-drop i xs) h), append-nil) at so
-
-  pub rows_count : length xs - i < 2 → n ≤ length rows → n ≡ length all
-  rows_count h k = sym (length-take-le n rows k) ∙ ap length (rows_end h)

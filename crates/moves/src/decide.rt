@@ -15,16 +15,16 @@ use inputs::sheet::{Input, Inputs};
 use keys::answer::{Adjusted, Operator};
 use keys::inputs::Attempt;
 
-// Every two numbers a row.
-fn rule_rows(list: &[u64], rows: &mut [[u64; 2]]) -> usize
+// Every two numbers a row, in the room lent.
+fn rule_rows<'a>(list: &[u64], rows: &'a mut [[u64; 2]]) -> &'a [[u64; 2]]
     requires { (length list.now ≤ 64) × (32 ≤ length rows.old) }
-    ensures { (result ≡ length (pair_rows list.now)) × (result ≤ 32) × (take result rows.new ≡ pair_rows list.now) × (length rows.new ≡ length rows.old) }
+    ensures { result.now ≡ pair_rows list.now }
 {
     let n = list.len() / 2;
     for i in 0..n {
         rows[i] = [list[2 * i], list[2 * i + 1]];
     }
-    n
+    &rows[..n]
 }
 
 // The numbers of a K line.
@@ -42,18 +42,17 @@ fn operator(h: &[u64]) -> Operator
     }
 }
 
-// R, L, G, W, O, A and M of a K sheet; W as rows in the room lent.
+// R, L, G, W, O, A and M of a K sheet; W as rows in the room lent. C lends rooms of any length, so a condition says how long this one is.
 pub fn adjust(sheet: HeldKey<'_>, rules: &mut [[u64; 2]]) -> Option<Adjusted>
     requires { 32 ≤ length rules.old }
     ensures { let s = held_key_sheet sheet.entry.held.lists.now sheet.entry.held.counts.now in adjusted_of s result ≡ adjust_input_keys_ordering same_expr s }
 {
-    let n = rule_rows(sheet.list(5), rules);
     adjust_input_keys_ordering(&Sheet {
         operator: operator(sheet.list(0)),
         required: sheet.list(1),
         left: sheet.list(2),
         right: sheet.list(3),
-        rewriting: &rules[..n],
+        rewriting: rule_rows(sheet.list(5), rules),
         groups: sheet.list(6),
         aggregates: sheet.list(7),
         mapped: sheet.list(8),
@@ -66,8 +65,6 @@ pub fn follow(sheet: HeldJoin<'_>, w: &mut [[u64; 2]], v: &mut [[u64; 2]]) -> At
     ensures { let s = held_join_sheet sheet.entry.held.lists.now sheet.entry.held.counts.now in attempt_of s result ≡ reorder_join_keys_to_inputs s same_expr }
 {
     let head = sheet.list(0);
-    let p = rule_rows(sheet.list(6), w);
-    let q = rule_rows(sheet.list(7), v);
     join_keys_to_inputs(Inputs {
         op: head[0],
         mode: head[1],
@@ -75,11 +72,11 @@ pub fn follow(sheet: HeldJoin<'_>, w: &mut [[u64; 2]], v: &mut [[u64; 2]]) -> At
         right: sheet.list(2),
         left_input: Input {
             list: sheet.list(4),
-            rewriting: &w[..p],
+            rewriting: rule_rows(sheet.list(6), w),
         },
         right_input: Input {
             list: sheet.list(5),
-            rewriting: &v[..q],
+            rewriting: rule_rows(sheet.list(7), v),
         },
     })
 }

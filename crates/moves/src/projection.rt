@@ -45,7 +45,7 @@ pub fn projected_by<'a>(
     let Outcome::Regrouped { places, .. } = outcome else {
         return &[];
     };
-    let at = placed_names(o, places.numbers(), &mut *out);
+    let at = placed_names(o, places.positions().list, &mut *out);
     let n = names_from(o.len(), a, &mut *out, at);
     &out[..n]
 }

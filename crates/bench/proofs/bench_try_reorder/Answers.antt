@@ -25,8 +25,8 @@ all_moved c =
     let a = c.args in let t = c.try_reorder-tried in
     let is_taken : taken a.r.now a.l.now a.g.now ≡ true = even a.r.now a.l.now a.g.now c.if-r-gt32.false c.if-l-gt32.false c.if-g-l.false in
     moved a.w.now a.r.now a.l.now a.g.now a.left.now a.right.now is_taken t.result (was_tried a.w.now a.r.now a.l.now a.g.now t.result t.ensures) c.in-Moved.at c.in-Moved.is _ _
-    (c.store_moved.ensures ∙ ap (λ ps. sets a.left.now 0 (permute gone_number a.l.now ps)) c.numbers.ensures)
-    (c.store_moved-2.ensures ∙ ap (λ ps. sets a.right.now 0 (permute gone_number a.g.now ps)) c.numbers-2.ensures)
+    (c.store_moved.ensures ∙ ap (λ ps. sets a.left.now 0 (permute gone_number a.l.now ps)) c.positions.ensures)
+    (c.store_moved-2.ensures ∙ ap (λ ps. sets a.right.now 0 (permute gone_number a.g.now ps)) c.positions-2.ensures)
 
 pub returns-clause-answer : goal.returns-clause-answer
 returns-clause-answer c = c.report-2.ensures ∙ ap report_of (sym c.in-Moved.is) ∙ (all_moved (goal.at.returns-clause-answer c).After-report-2).0

@@ -6,7 +6,6 @@ use lib.ListN.{length, get_or}
 use Rattle.keys.specs.Expressions.{expressions}
 use Rattle.keys.specs.Adjust.{placed_names, names_from}
 use Rattle.keys.specs.Answers.{moved_or, positions_by, places_by, projected_by}
-use Rattle.keys.proofs.Few.{outcome_few}
 use Rattle.sheet.specs.KeyAnswers.{projected_numbers}
 use Rattle.lines.specs.declared.key_text.KeyLists.{KeyLists}
 use Rattle.lines.specs.declared.children.Children.{Children}
@@ -43,7 +42,7 @@ ready :
     (c : After-handed_list-2) → let h = c.args.sheet.held in let x = c.args.x.now in
     ReadyKey h.lists.now h.counts.now x.outcome x.cleared x.first x.others (positions_by x.outcome) c.moved_pairs-moved.result c.shifted_keys-shifted.result.now
 ready c = let x = c.args.x.now in let k = c.shifted_keys-shifted.ensures in record {
-  few = outcome_few x.outcome;
+  few = rw c.positions.ensures at c.positions.result.few;
   moved = moved_of c.list-left.ensures.line c.list-right.ensures.line c.list-directions.ensures.line c.positions.ensures c.moved_pairs-moved.ensures;
   shifts = k.1 ∙ (λ i. shifted_for x.first x.others (get_or (c.list.ensures.line i) 3 0) (expressions (c.list-required.ensures.line i)));
   short = k.0;

@@ -7,7 +7,7 @@ use Rattle.keys.proofs.Turns.{fill_turn, fill_end}
 use Rattle.keys.proofs.list.permute.Goals as goal
 
 pub loop-i-preserved : goal.loop-i-preserved
-loop-i-preserved c = let k = c.args.all.now in let ps = c.args.at.now in let gone = c.args.gone in let i = c.loop-i.i in (
+loop-i-preserved c = let k = c.args.all.now in let ps = c.args.at.list.now in let gone = c.args.gone in let i = c.loop-i.i in (
   simp length-set c.loop-i.invariant.0,
   fill_turn (permute gone k ps) c.loop-i.out i c.loop-i.invariant.1 c.entry.result (get_or k 0 gone)
       (rw (length-map ps) c.loop-i-test.true)
@@ -16,5 +16,5 @@ loop-i-preserved c = let k = c.args.all.now in let ps = c.args.at.now in let gon
 )
 
 pub returns : goal.returns
-returns c = let ps = c.args.at.now in let e : length ps ≡ c.loop-i.i = omega (arith, c.loop-i.auto.i-end) in
+returns c = let ps = c.args.at.list.now in let e : length ps ≡ c.loop-i.i = omega (arith, c.loop-i.auto.i-end) in
     rw e (fill_end (permute c.args.gone c.args.all.now ps) c.loop-i.out c.loop-i.i c.loop-i.invariant.1 (rw (length-map ps) c.loop-i-test.false))

@@ -16,11 +16,11 @@ bounds-head-1 c = omega (arith, ap length c.list-head.ensures.line, c.args.sheet
 
 pub invariant_of-join_keys_to_inputs-3 : goal.invariant_of-join_keys_to_inputs-3
 invariant_of-join_keys_to_inputs-3 c = let x = c.args.sheet in
-    let s = join_suited x.held.lists.now x.held.counts.now x.bounds c.list-3.ensures.line c.list-4.ensures.line c.list-5.ensures.line c.list-6.ensures.line in
+    let s = join_suited x.held.lists.now x.held.counts.now x.bounds c.list.ensures.line c.list-2.ensures.line c.list-3.ensures.line c.list-5.ensures.line in
     record { few = s.0; even = s.1 }
 
 pub returns : goal.returns
 returns c = let x = c.args.sheet in let d = c.join_keys_to_inputs in let e = c.list-head.ensures.line in
     join_decided x.held.lists.now x.held.counts.now d.result (ap (λ (l : List ℕ). get_or l 0 0) e) (ap (λ (l : List ℕ). get_or l 1 0) e)
-    c.list-3.ensures.line c.list-4.ensures.line c.list-5.ensures.line c.list-6.ensures.line
-    (c.rule_rows-p.ensures.2 ∙ ap pair_rows c.list.ensures.line) (c.rule_rows-q.ensures.2 ∙ ap pair_rows c.list-2.ensures.line) d.ensures
+    c.list.ensures.line c.list-2.ensures.line c.list-3.ensures.line c.list-5.ensures.line
+    (c.rule_rows.ensures ∙ ap pair_rows c.list-4.ensures.line) (c.rule_rows-2.ensures ∙ ap pair_rows c.list-6.ensures.line) d.ensures

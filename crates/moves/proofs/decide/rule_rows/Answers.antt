@@ -3,7 +3,7 @@ use Prim.Native.Nat.{◌<◌, ◌+◌, ◌-◌, ◌*◌, ◌/◌}
 use mathlib.Core.Path.{◌≡◌}
 use native.Mathlib.Omega.{arith}
 use lib.ListN.{length, length-set}
-use Rattle.moves.proofs.Rows.{rows_turn, rows_end, rows_count}
+use Rattle.moves.proofs.Rows.{rows_turn, rows_end}
 use Rattle.moves.proofs.decide.rule_rows.Goals as goal
 
 pub loop-i-preserved : goal.loop-i-preserved
@@ -15,10 +15,4 @@ loop-i-preserved c = let v = c.loop-i.invariant in let i = c.loop-i.i in
 
 pub returns : goal.returns
 returns c = let v = c.loop-i.invariant in let i = c.loop-i.i in let over : length c.args.list.now - 2 * i < 2 = omega arith in
-    let e : length c.args.list.now / 2 ≡ i = omega arith in
-    rw e (
-      rows_count c.args.list.now c.loop-i.rows _ i (2 * i) v.1 over (omega (arith, v.0, c.requires.0, c.requires.1)),
-      omega (arith, c.requires.0),
-      rows_end c.args.list.now c.loop-i.rows _ i (2 * i) v.1 over,
-      v.0,
-    )
+    let e : length c.args.list.now / 2 ≡ i = omega arith in rw e (rows_end c.args.list.now c.loop-i.rows _ i (2 * i) v.1 over)

@@ -10,7 +10,7 @@ use Rattle.keys.proofs.Turns.{fill_turn, fill_end}
 use Rattle.moves.proofs.moved.moved_side.Goals as goal
 use Rattle.moves.proofs.moved.moved_side.Goals.{After-keys-key-items}
 
-few : (c : After-keys-key-items) → length c.keys-key-items.result.now ≡ length c.args.at.now
+few : (c : After-keys-key-items) → length c.keys-key-items.result.now ≡ length c.args.at.list.now
 few c = let k = c.moved-moved in rw c.keys-key-items.ensures (length-take-le k.result.count k.result.items (omega (arith, k.result.full, k.result.within)) ∙ k.ensures.count)
 
 pub bounds-out-i : goal.bounds-out-i
@@ -25,6 +25,6 @@ loop-i-preserved c = let ks = c.keys-key-items.result.now in let v = c.loop-i.in
 
 pub returns : goal.returns
 returns c = let ks = c.keys-key-items.result.now in let k = c.moved-moved in let v = c.loop-i.invariant in
-    let e : length c.args.at.now ≡ c.loop-i.i = omega (arith, few (goal.at.returns c).After-keys-key-items, c.loop-i.auto.i-end) in
+    let e : length c.args.at.list.now ≡ c.loop-i.i = omega (arith, few (goal.at.returns c).After-keys-key-items, c.loop-i.auto.i-end) in
     let same : map number_of ks ≡ take k.result.count (map number_of k.result.items) = rw c.keys-key-items.ensures (sym (take-map number_of k.result.count k.result.items)) in
     rw e (fill_end (map number_of ks) c.loop-i.out c.loop-i.i v.1 (rw (length-map ks number_of) c.loop-i-test.false) ∙ same ∙ k.ensures.keys)

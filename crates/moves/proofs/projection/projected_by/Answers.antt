@@ -12,6 +12,6 @@ use Rattle.moves.proofs.projection.projected_by.Goals as goal
 pub returns : goal.returns
 returns c = let e = c.names_from-n.ensures in let o = c.args.o.now in let f = names_from (length o) c.args.a.now in rw c.in-Regrouped.is (
   rw length-take (omega (arith, e.0)),
-  e.1 ∙ ap (λ (l : List ℕ). l ++ projected_numbers f) c.placed_names-at.ensures.1 ∙ sym (numbers_append (placed_names o c.numbers.result.now) f)
-      ∙ ap (λ (ps : List ℕ). projected_numbers (placed_names o ps ++ f)) c.numbers.ensures,
+  e.1 ∙ ap (λ (l : List ℕ). l ++ projected_numbers f) c.placed_names-at.ensures.1 ∙ sym (numbers_append (placed_names o c.positions.result.list.now) f)
+      ∙ ap (λ (ps : List ℕ). projected_numbers (placed_names o ps ++ f)) c.positions.ensures,
 )

@@ -8,7 +8,7 @@ use Rattle.keys.proofs.Turns.{key_turn, key_end}
 use Rattle.keys.proofs.list.KeyList.moved.Goals as goal
 
 pub loop-i-preserved : goal.loop-i-preserved
-loop-i-preserved c = let k = c.args.keys.now in let ps = c.args.at.now in let i = c.loop-i.i in (
+loop-i-preserved c = let k = c.args.keys.now in let ps = c.args.at.list.now in let i = c.loop-i.i in (
   simp length-set c.loop-i.invariant.0,
   key_turn (permute gone_number k ps) c.loop-i.list.0 i c.loop-i.invariant.1 c.entry.result (get_or k 0 gone_number)
       (rw (length-map ps) c.loop-i-test.true)
@@ -17,5 +17,5 @@ loop-i-preserved c = let k = c.args.keys.now in let ps = c.args.at.now in let i 
 )
 
 pub returns-clause-keys : goal.returns-clause-keys
-returns-clause-keys c = let ps = c.args.at.now in
+returns-clause-keys c = let ps = c.args.at.list.now in
     let e : length ps ≡ c.loop-i.i = omega (arith, c.loop-i.auto.i-end) in rw (e) (key_end (permute gone_number c.args.keys.now ps) c.loop-i.list.0 c.loop-i.i c.loop-i.invariant.1 (rw (length-map ps) c.loop-i-test.false))
