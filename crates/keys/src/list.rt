@@ -129,7 +129,7 @@ pub fn entry(gone: u64, all: &[u64], p: u8) -> u64
     all.get(usize::from(p)).copied().unwrap_or(gone)
 }
 
-// The numbers at the positions, in the room lent; `gone` where nothing stands. By index: over a chain the room's front would be no plainer.
+// The numbers at the positions, in the room lent; `gone` where nothing stands. By index: with a zip it would be no shorter.
 pub fn permute<'a>(gone: u64, all: &[u64], at: Positions<'_>, out: &'a mut [u64; 32]) -> &'a [u64]
     ensures { result.now ≡ permute gone all.now at.entry.list.now }
 {

@@ -9,22 +9,13 @@ use Rattle.std.specs.Prelude.{option_copied}
 use Rattle.keys.specs.Expressions.{expressions}
 use Rattle.sheet.specs.KeyAnswers.{exprs_line}
 use Rattle.lines.specs.Children.{child_list}
-use Rattle.lines.proofs.Pieces.{adding_first, adding_more, adding_done}
+use Rattle.lines.proofs.Pieces.{adding_more, adding_done}
 use Rattle.lines.proofs.ChildPieces.{held_few, child_few, children_pieces}
 use Rattle.lines.proofs.children.children_length.Goals as goal
-
-pub loop-i-init : goal.loop-i-init
-loop-i-init c = adding_first _ _ 0 4096
-
-pub list-requires : goal.list-requires
-list-requires c = let t = c.loop-i-test.true in (omega (arith, t, c.requires.0, c.requires.1), omega (arith, t, c.requires.0, c.requires.2), c.requires.5 (9 + c.loop-i.i) (omega (arith, t)))
 
 pub exprs_length-length-requires : goal.exprs_length-length-requires
 exprs_length-length-requires c = let h = c.args.held in
     rw (c.child_list.ensures, c.list.ensures) (child_few _ _ _ c.loop-i.i 64 c.requires.3 c.requires.4 (held_few h.lists.now h.counts.now _ 64 (c.requires.5 (9 + c.loop-i.i) (omega (arith, c.loop-i-test.true)))))
-
-pub overflow_add-length : goal.overflow_add-length
-overflow_add-length c = omega (arith, c.exprs_length-length.ensures.few, c.loop-i.invariant.near, c.loop-i-test.true, c.requires.0)
 
 pub loop-i-preserved : goal.loop-i-preserved
 loop-i-preserved c = let x = c.args.children in
@@ -35,6 +26,3 @@ loop-i-preserved c = let x = c.args.children in
 pub returns-clause-exact : goal.returns-clause-exact
 returns-clause-exact c = let x = c.args.children in let h = c.args.held in
     omega (arith, adding_done _ _ 0 4096 _ _ c.loop-i.invariant c.loop-i-test.false, ap length (children_pieces (option_copied x.first) (option_copied x.others) h.lists.now h.counts.now c.args.n))
-
-pub returns-clause-few : goal.returns-clause-few
-returns-clause-few c = omega (arith, c.loop-i.invariant.near, c.loop-i.invariant.within, c.requires.0)

@@ -1,6 +1,4 @@
 -- The lines from child `i` on are left to write.
-use Prim.Native.Nat.{◌+◌}
-use native.Mathlib.Omega.{arith}
 use Rattle.std.specs.Prelude.{option_copied}
 use Rattle.lines.proofs.Pieces.{writing_first, writing_room, writing_more, writing_done}
 use Rattle.lines.proofs.ChildPieces.{children_pieces}
@@ -10,17 +8,11 @@ pub loop-i-init : goal.loop-i-init
 loop-i-init c = let x = c.args.children in let h = c.args.held in
     writing_first _ _ _ _ (rw (children_pieces (option_copied x.first) (option_copied x.others) h.lists.now h.counts.now c.args.n) at c.requires.4)
 
-pub list-requires : goal.list-requires
-list-requires c = let t = c.loop-i-test.true in (omega (arith, t, c.requires.0, c.requires.1), omega (arith, t, c.requires.0, c.requires.2), c.requires.3 (9 + c.loop-i.i) (omega (arith, t)))
-
 pub put_exprs-p-requires : goal.put_exprs-p-requires
 put_exprs-p-requires c = rw (c.child_list.ensures, c.list.ensures) (writing_room _ _ _ _ _ _ _ c.loop-i.invariant c.loop-i-test.true)
 
 pub loop-i-preserved : goal.loop-i-preserved
 loop-i-preserved c = writing_more _ _ _ _ _ _ _ c.loop-i.invariant c.loop-i-test.true _ _ (rw (c.child_list.ensures, c.list.ensures) at c.put_exprs-p.ensures)
-
-pub shape_of-out : goal.shape_of-out
-shape_of-out c = c.loop-i.invariant.owed.room
 
 pub returns : goal.returns
 returns c = let x = c.args.children in let h = c.args.held in

@@ -11,6 +11,3 @@ returns-clause-exact c = omega (
   rw c.name.ensures at c.number_length-2.ensures.exact,
   rw c.index.ensures at c.number_length-3.ensures.exact,
 )
-
-pub returns-clause-few : goal.returns-clause-few
-returns-clause-few c = omega (arith, c.number_length.ensures.few, c.number_length-2.ensures.few, c.number_length-3.ensures.few)

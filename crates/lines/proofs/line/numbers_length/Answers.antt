@@ -3,18 +3,9 @@ use native.Mathlib.Omega.{arith}
 use mathlib.Core.List.{map}
 use Rattle.text.specs.declared.field.Field.TheVariants.{Number as number}
 use Rattle.lines.specs.Fields.{number_field}
-use Rattle.lines.proofs.Pieces.{adding_first, adding_more, adding_done}
+use Rattle.lines.proofs.Pieces.{adding_more, adding_done}
 use Rattle.lines.proofs.Lines.{number_fields_lem, line_long}
 use Rattle.lines.proofs.line.numbers_length.Goals as goal
-
-pub loop-n-init : goal.loop-n-init
-loop-n-init c = adding_first _ _ 2 21
-
-pub overflow_add-length : goal.overflow_add-length
-overflow_add-length c = omega (arith, c.number_length.ensures.few)
-
-pub overflow_add-length-in-loop-n : goal.overflow_add-length-in-loop-n
-overflow_add-length-in-loop-n c = omega (arith, c.number_length.ensures.few, c.loop-n.invariant.near)
 
 pub loop-n-preserved : goal.loop-n-preserved
 unfolding number_field
@@ -22,6 +13,3 @@ loop-n-preserved c = adding_more _ _ 2 21 _ _ c.loop-n.invariant c.loop-n-test.t
 
 pub returns-clause-exact : goal.returns-clause-exact
 returns-clause-exact c = let v = c.loop-n.invariant in line_long (map number c.args.list.now) (number_fields_lem c.args.list.now) _ (adding_done _ _ 2 21 _ _ v c.loop-n-test.false)
-
-pub returns-clause-few : goal.returns-clause-few
-returns-clause-few c = let v = c.loop-n.invariant in omega (arith, v.near, v.within, c.requires)

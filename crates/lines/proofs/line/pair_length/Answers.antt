@@ -5,6 +5,3 @@ use Rattle.lines.proofs.line.pair_length.Goals as goal
 
 pub returns-clause-exact : goal.returns-clause-exact
 returns-clause-exact c = λ letter. omega (arith, pair_long c.args.a c.args.b letter, c.number_length.ensures.exact, c.number_length-2.ensures.exact)
-
-pub returns-clause-few : goal.returns-clause-few
-returns-clause-few c = omega (arith, c.number_length.ensures.few, c.number_length-2.ensures.few)

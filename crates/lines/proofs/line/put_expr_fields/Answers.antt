@@ -12,8 +12,5 @@ put_expr-p-requires c = writing_room _ _ _ _ _ _ _ c.loop-e.invariant c.loop-e-t
 pub loop-e-preserved : goal.loop-e-preserved
 loop-e-preserved c = writing_more _ _ _ _ _ _ _ c.loop-e.invariant c.loop-e-test.true _ _ c.put_expr-p.ensures
 
-pub shape_of-out : goal.shape_of-out
-shape_of-out c = c.loop-e.invariant.owed.room
-
 pub returns : goal.returns
 returns c = rw (expr_fields_lem c.args.list.now) (writing_done _ _ _ _ _ _ _ c.loop-e.invariant c.loop-e-test.false)

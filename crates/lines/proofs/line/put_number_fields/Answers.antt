@@ -12,8 +12,5 @@ put_number_field-p-requires c = writing_room _ _ _ _ _ _ _ c.loop-n.invariant c.
 pub loop-n-preserved : goal.loop-n-preserved
 loop-n-preserved c = writing_more _ _ _ _ _ _ _ c.loop-n.invariant c.loop-n-test.true _ _ c.put_number_field-p.ensures
 
-pub shape_of-out : goal.shape_of-out
-shape_of-out c = c.loop-n.invariant.owed.room
-
 pub returns : goal.returns
 returns c = rw (number_fields_lem c.args.list.now) (writing_done _ _ _ _ _ _ _ c.loop-n.invariant c.loop-n-test.false)

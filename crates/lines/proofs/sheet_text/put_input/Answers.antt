@@ -1,16 +1,7 @@
 -- The letter, the mark, the expressions, the LF; where there is no mark, a line of nothing.
-use mathlib.Core.Path.{◌≡◌}
-use Rattle.std.proofs.Common.{rules, tests}
-use lib.ListN.{length}
-use Rattle.lines.proofs.HeldLines.{input_due, input_none, behind_first}
+use Rattle.lines.proofs.HeldLines.{input_due, behind_first}
 use Rattle.lines.proofs.Pieces.{due_room, due_then, due_none}
 use Rattle.lines.proofs.sheet_text.put_input.Goals as goal
-
-pub put_numbers-requires : goal.put_numbers-requires
-put_numbers-requires c = let empty : length c.args.list.now ≡ 0 = search (rules, tests) in rw (input_none c.args.list.now empty) at c.requires
-
-pub returns-then-is_empty : goal.returns-then-is_empty
-returns-then-is_empty c = let empty : length c.args.list.now ≡ 0 = search (rules, tests) in rw (input_none c.args.list.now empty) c.put_numbers.ensures
 
 pub put_byte-p-requires : goal.put_byte-p-requires
 put_byte-p-requires c = due_room (input_due c.args.letter c.args.list.now c.requires)

@@ -9,17 +9,11 @@ use Rattle.lines.proofs.sheet_text.put_sheet.Goals as goal
 pub loop-i-init : goal.loop-i-init
 loop-i-init c = let h = c.args.held in writing_first _ _ _ _ (omega (arith, c.requires.3, ap length (held_pieces c.args.k h.lists.now h.counts.now c.args.n 0)))
 
-pub list-requires : goal.list-requires
-list-requires c = let t = c.loop-i-test.true in (omega (arith, t, c.requires.0), omega (arith, t, c.requires.1), c.requires.2 c.loop-i.i t)
-
 pub put_held-p-requires : goal.put_held-p-requires
 put_held-p-requires c = rw (c.letter.ensures, c.codes.ensures, c.list.ensures) (writing_room _ _ _ _ _ _ _ c.loop-i.invariant c.loop-i-test.true)
 
 pub loop-i-preserved : goal.loop-i-preserved
 loop-i-preserved c = writing_more _ _ _ _ _ _ _ c.loop-i.invariant c.loop-i-test.true _ _ (rw (c.letter.ensures, c.codes.ensures, c.list.ensures) at c.put_held-p.ensures)
-
-pub shape_of-out : goal.shape_of-out
-shape_of-out c = c.loop-i.invariant.owed.room
 
 pub returns : goal.returns
 returns c = let h = c.args.held in rw (held_pieces c.args.k h.lists.now h.counts.now c.args.n 0) (writing_done _ _ _ _ _ _ _ c.loop-i.invariant c.loop-i-test.false)
