@@ -33,11 +33,11 @@ module _ (P : ChildState → Type 0) where
   of_cond false x y p q = q
 
   of_pass : (c : ChildState) (f : Form) (change : Row → Plan → Plan) (o : Option Row) → ((x : Row) → o ≡ some x → P (passed_into c f change x)) → Of (with_form c f change o)
-  of_pass c f change none h = λ d e. absurd (let z : ◌≡◌ {A = ℕ} 0 1 = cc in omega arith)
+  of_pass c f change none h = λ d e. absurd (cc)
   of_pass c f change (some x) h = of_some (passed_into c f change x) (h x refl)
 
   of_then : (o : Option ChildState) (f : ChildState → Option ChildState) → ((c : ChildState) → o ≡ some c → Of (f c)) → Of (and_then o f)
-  of_then none f h = λ d e. absurd (let z : ◌≡◌ {A = ℕ} 0 1 = cc in omega arith)
+  of_then none f h = λ d e. absurd (cc)
   of_then (some c) f h = h c refl
 
 module _ (rows : List Row) (k : Child) where
@@ -93,7 +93,7 @@ module _ (rows : List Row) (k : Child) where
         (of_cond Fresh (add_roundrobin s o b t) _ _ (of_cond Fresh (ltb (partitions c) s.target) _ _ (put 3 (omega arith) refl) stay) stay))
 
     begun_then : (r : Option Row) → row_of rows k.number plain_form ≡ r → Of Bare (and_then (started_by k r) (split_at_source s rows t))
-    begun_then none e = λ d z. absurd (let y : ◌≡◌ {A = ℕ} 0 1 = cc in omega arith)
+    begun_then none e = λ d z. absurd (cc)
     begun_then (some x) e =
         of_cond Bare (is_set s.split && (t.roundrobin_beneficial_stats && is_set k.facts.splits)) _ _ (of_pass Bare (begun k x) split_form split_plan (row_of rows k.number split_form) (λ y f. split_bare x y e f))
         (of_some Bare (begun k x) (begun_bare x e))

@@ -32,12 +32,12 @@ row_found (x ∷ xs) child f =
 
 found_in : (xs : List (List ℕ)) (child n p : ℕ) → row_for xs child n ≡ some p → p < length xs
 unfolding row_for
-found_in [] child n p e = absurd (let z : ◌≡◌ {A = ℕ} 0 1 = cc in omega arith)
+found_in [] child n p e = absurd (cc)
 found_in (x ∷ xs) child n p e = go (eqb (child_of x) child && eqb (get_or x 1 0) n) (row_for xs child n) e (found_in xs child n)
   where
     go : (t : Bool) (o : Option ℕ) → cond t (some 0) (later o) ≡ some p → ((q : ℕ) → o ≡ some q → q < length xs) → p < length (x ∷ xs)
     go true o e h = let z : 0 ≡ p = cc in omega arith
-    go false none e h = absurd (let z : ◌≡◌ {A = ℕ} 0 1 = cc in omega arith)
+    go false none e h = absurd (cc)
     go false (some q) e h = let z : suc q ≡ p = cc in omega (arith, h q refl)
 
 module _ (rows : List (List ℕ)) (child : ℕ) (f : Form) where

@@ -42,11 +42,11 @@ module _ (rows : List Row) (base : Plan) (c : ChildState) (r : Reached rows base
   -- a relationship exchange
   related : (x : Row) (a : Option Plan) (b : Plan → Option Plan) → and_then a (λ u. and_then (b u) (λ v. some v)) ≡ some c.plan
       → and_then a (λ u. and_then (b u) (λ v. some (keyed_on x v))) ≡ some (keyed_on x c.plan)
-  related x none b e = absurd (let z : ◌≡◌ {A = ℕ} 0 1 = cc in omega arith)
+  related x none b e = absurd (cc)
   related x (some u) b e = go (b u) e
     where
       go : (o : Option Plan) → and_then o (λ v. some v) ≡ some c.plan → and_then o (λ v. some (keyed_on x v)) ≡ some (keyed_on x c.plan)
-      go none e = absurd (let z : ◌≡◌ {A = ℕ} 0 1 = cc in omega arith)
+      go none e = absurd (cc)
       go (some v) e = let same : v ≡ c.plan = cc in ap (λ (t : Plan). some (keyed_on x t)) same
 
   module _ (s t : ℕ) (small : s ≤ 1) (few : t ≤ 3) (p : c.form ≡ record { split = s; top = t; relationship = 0 }) where

@@ -69,7 +69,7 @@ module _ (s : Settings) (worked : Operator) (b : NodeFacts) (rows : List Row) wh
 
   ungiven : (m : ℕ) (x : Bool) → m ≤ 1 → (not (eqb m 1) && x) ≡ true → m ≡ 0
   ungiven zero x h e = refl
-  ungiven (suc zero) x h e = absurd (let z : ◌≡◌ {A = ℕ} 0 1 = cc in omega arith)
+  ungiven (suc zero) x h e = absurd (cc)
   ungiven (suc (suc m)) x h e = absurd (omega arith)
 
   exchange_reached : Relates s worked b rows (From rows)
@@ -146,5 +146,5 @@ states_finished s f worked ts ds = go (ensure_children s worked f.node f.rows (g
     ks = children_from 1 ts f.children
 
     go : (o : Option (List ChildState)) → ensure_children s worked f.node f.rows (get_repartition_requirement_status s ks) ≡ o → relate s f o ≡ enforced ds → Finished f.rows ks ds
-    go none h g = absurd (let z : ◌≡◌ {A = ℕ} 0 1 = cc in omega arith)
+    go none h g = absurd (cc)
     go (some cs) h g = children_finished s worked f.node f.rows f.masks ks cs ds h g

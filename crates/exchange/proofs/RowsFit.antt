@@ -5,7 +5,6 @@ use mathlib.Core.Bool.{Bool, true, false, cond, ◌&&◌}
 use mathlib.Core.Option.{Option, some, none as nothing}
 use mathlib.Core.List.{List, [], ◌∷◌}
 use lib.Dec.{eqb, leb}
-use native.Mathlib.Omega.{arith}
 use borrow.Author.Tests.{eqb-true}
 use Rattle.keys.proofs.Truths.{true_false, and_first, and_second}
 use Rattle.exchange.specs.declared.settings.Settings.{Settings}
@@ -25,7 +24,7 @@ module _ (s : Settings) (cs : List Child) (n : ℕ) (f : Form) where
   found [] x h e = absurd (go e)
     where
       go : nothing ≡ some x → ⊥
-      go p = let z : ◌≡◌ {A = ℕ} 0 1 = cc in omega arith
+      go p = cc
   found (y ∷ ys) x h e =
       go (eqb y.child n && eqb y.form (form_number f)) refl e (λ q. found ys x (and_second (row_fits s cs y) (rows_fit s cs ys) h) q)
     where

@@ -29,7 +29,7 @@ removable_free o e = go o.limit (leb 1 o.kind && leb o.kind 4) e
   where
     go : (l : Option ℕ) (b : Bool) → (not (is_present l) && b) ≡ true → l ≡ absent
     go absent b e = refl
-    go (some l) b e = absurd (let z : ◌≡◌ {A = ℕ} 0 1 = cc in omega arith)
+    go (some l) b e = absurd (cc)
 
 chosen : (b : Bool) (os : List Operator) → (b ≡ true → Unlimited os) → Unlimited (cond b os [])
 chosen true os h = h refl
@@ -142,7 +142,7 @@ module _ (src : List (List ℕ)) (at a : ℕ) (t : Plan) where
   reached_more e m = go m.tree m.stands m.off
     where
       go : (u : Plan) → drop a src ≡ flatten u ++ m.rest → a + length (removed u) ≡ at + length (removed t) → Reached src at (a + 1) t
-      go (node o none) h f = absurd (let z : ◌≡◌ {A = Bool} false true = sym (goes_read src a o none m.rest h) ∙ e in let y : ◌≡◌ {A = ℕ} 0 1 = cc in omega arith)
+      go (node o none) h f = absurd (let z : ◌≡◌ {A = Bool} false true = sym (goes_read src a o none m.rest h) ∙ e in cc)
       go (node o (v ∷ᶠ vs)) h f =
           let g : (not (eqb (suc (trees vs)) 0) && is_removed o) ≡ true = sym (goes_read src a o (v ∷ᶠ vs) m.rest h) ∙ e in
           let g' : is_removed o ≡ true = rw (ne_eqb (suc (trees vs)) 0 (λ z. omega arith)) at g in

@@ -14,8 +14,8 @@ use Rattle.guarantee.proofs.LinesOnce.{numbers_line_once, exprs_line_once}
 
 projected_once : (ps qs : List Projected) → projected_numbers ps ≡ projected_numbers qs → ps ≡ qs
 projected_once [] [] e = refl
-projected_once [] (q ∷ qs) e = let z : ◌≡◌ {A = ℕ} 0 1 = cc in absurd (omega arith)
-projected_once (p ∷ ps) [] e = let z : ◌≡◌ {A = ℕ} 0 1 = cc in absurd (omega arith)
+projected_once [] (q ∷ qs) e = absurd (cc)
+projected_once (p ∷ ps) [] e = absurd (cc)
 projected_once (p ∷ ps) (q ∷ qs) e =
     let n : p.name ≡ q.name = cc in
     let k : p.place ≡ q.place = cc in
@@ -26,8 +26,8 @@ projected_once (p ∷ ps) (q ∷ qs) e =
 pub children_once : (cs ds : List (List Expression)) → child_lines cs ≡ child_lines ds → cs ≡ ds
 unfolding line_text
 children_once [] [] e = refl
-children_once [] (d ∷ ds) e = let z : ◌≡◌ {A = ℕ} 0 1 = cc in absurd (omega arith)
-children_once (c ∷ cs) [] e = let z : ◌≡◌ {A = ℕ} 0 1 = cc in absurd (omega arith)
+children_once [] (d ∷ ds) e = absurd (cc)
+children_once (c ∷ cs) [] e = absurd (cc)
 children_once (c ∷ cs) (d ∷ ds) e =
     let r = exprs_line_once 67 67 c d (child_lines cs) (child_lines ds) e in
     let s = children_once cs ds r.rest in

@@ -72,11 +72,11 @@ keys_guaranteed s a d n = reading (read_key_sheet s) refl d
           pairs = record { tried = λ o. (k.tried o).pairs; untried = λ o. (k.untried o).pairs };
           exact = record { impossible = λ o. (k.tried o).impossible; fits = λ o. (k.tried o).fits };
         })
-    answer x e name_not_found i w = let z : ◌≡◌ {A = ℕ} 0 1 = cc in absurd (omega arith)
+    answer x e name_not_found i w = absurd (cc)
 
     reading : (r : Reading KeySheet) → read_key_sheet s ≡ r → key_outcome r ≡ wrote a → Guaranteed s a
     reading (sheet x) e w = answer x e (adjust_input_keys_ordering same_expr x) refl w
-    reading (turned m l) e w = let z : ◌≡◌ {A = ℕ} 0 1 = cc in absurd (omega arith)
+    reading (turned m l) e w = absurd (cc)
 
 -- ---- I sheets
 
@@ -86,13 +86,13 @@ asked_lacks :
 asked_lacks x h k side r e = go (eqb side 1) (eqb side 2) e
   where
     held : (o : Option (List Expression)) → Lacks same_expr placeholder (input_keys o) → o ≡ some r → Lacks same_expr placeholder r
-    held none p q = let z : ◌≡◌ {A = ℕ} 0 1 = cc in absurd (omega arith)
+    held none p q = absurd (cc)
     held (some es) p q = let z : es ≡ r = cc in subst (Lacks same_expr placeholder) z p
 
     go : (a b : Bool) → cond a x.left_input (cond b x.right_input none) ≡ some r → Lacks same_expr placeholder r
     go true b q = held x.left_input h q
     go false true q = held x.right_input k q
-    go false false q = let z : ◌≡◌ {A = ℕ} 0 1 = cc in absurd (omega arith)
+    go false false q = absurd (cc)
 
 pub inputs_lack : (x : JoinSheet) → Lacks same_expr placeholder (join_expressions x) → InputsLackPlaceholder same_expr x
 inputs_lack x h =
@@ -117,4 +117,4 @@ inputs_guaranteed s a d n = reading (read_join_sheet s) refl d
           pairs = k.pairs;
           exact = record { untried = k.untried; impossible = k.impossible; fits = k.fits };
         })
-    reading (turned m l) e w = let z : ◌≡◌ {A = ℕ} 0 1 = cc in absurd (omega arith)
+    reading (turned m l) e w = absurd (cc)

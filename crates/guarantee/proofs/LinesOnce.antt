@@ -86,8 +86,8 @@ fields_parted (f ∷ fs) xs = omega arith
 fields_once : (fs gs : List Field) (xs ys : List ℕ) → Plain fs → Plain gs → fields_text fs ++ (10 ∷ xs) ≡ fields_text gs ++ (10 ∷ ys) → (fs ≡ gs) × (xs ≡ ys)
 unfolding fields_text
 fields_once [] [] xs ys p q e = (refl, cc)
-fields_once [] (g ∷ gs) xs ys p q e = let z : ◌≡◌ {A = ℕ} 10 44 = cc in absurd (omega arith)
-fields_once (f ∷ fs) [] xs ys p q e = let z : ◌≡◌ {A = ℕ} 10 44 = cc in absurd (omega arith)
+fields_once [] (g ∷ gs) xs ys p q e = absurd (cc)
+fields_once (f ∷ fs) [] xs ys p q e = absurd (cc)
 fields_once (f ∷ fs) (g ∷ gs) xs ys p q e =
     let t : (field_text f ++ fields_text fs) ++ (10 ∷ xs) ≡ (field_text g ++ fields_text gs) ++ (10 ∷ ys) = cc in
     let u : field_text f ++ (fields_text fs ++ (10 ∷ xs)) ≡ field_text g ++ (fields_text gs ++ (10 ∷ ys)) = simp append_assoc at t in
@@ -117,8 +117,8 @@ numbers_plain (n ∷ ns) = (tt, numbers_plain ns)
 
 map_number_once : (ms ns : List ℕ) → map number ms ≡ map number ns → ms ≡ ns
 map_number_once [] [] e = refl
-map_number_once [] (n ∷ ns) e = let z : ◌≡◌ {A = ℕ} 0 1 = cc in absurd (omega arith)
-map_number_once (m ∷ ms) [] e = let z : ◌≡◌ {A = ℕ} 0 1 = cc in absurd (omega arith)
+map_number_once [] (n ∷ ns) e = absurd (cc)
+map_number_once (m ∷ ms) [] e = absurd (cc)
 map_number_once (m ∷ ms) (n ∷ ns) e =
     let a : m ≡ n = cc in
     let r = map_number_once ms ns (cc) in
@@ -131,8 +131,8 @@ numbers_line_once a b ms ns xs ys e =
 
 pub expr_numbers_once : (es fs : List Expression) → expr_numbers es ≡ expr_numbers fs → es ≡ fs
 expr_numbers_once [] [] e = refl
-expr_numbers_once [] (f ∷ fs) e = let z : ◌≡◌ {A = ℕ} 0 1 = cc in absurd (omega arith)
-expr_numbers_once (x ∷ es) [] e = let z : ◌≡◌ {A = ℕ} 0 1 = cc in absurd (omega arith)
+expr_numbers_once [] (f ∷ fs) e = absurd (cc)
+expr_numbers_once (x ∷ es) [] e = absurd (cc)
 expr_numbers_once (x ∷ es) (y ∷ fs) e =
     let k : x.kind ≡ y.kind = cc in
     let n : x.name ≡ y.name = cc in

@@ -35,7 +35,7 @@ leaf_root (node o none) l = go (is_removed o)
     go : (b : Bool) → track 0 o ≡ track 0 (root (cond b (node o none) (node o none)))
     go true = refl
     go false = refl
-leaf_root (node o (t ∷ᶠ ts)) l = let z : ◌≡◌ {A = ℕ} 0 1 = cc in absurd (omega arith)
+leaf_root (node o (t ∷ᶠ ts)) l = absurd (cc)
 
 same_root : (x : PlanSheet) (r : Answer) → Answered x r → SameRoot (root (worked_node x)) (root r.plan)
 unfolding finished

@@ -45,7 +45,7 @@ only_had x = go x.plan
 
     go : (t : Plan) → is_leaf (below t) ≡ true → needs_had x (children_from 1 (below (remove_dist_changing_operators t)) x.facts.children) (below (update_children t)) ≡ true
     go (node o none) l = by o (is_removed o)
-    go (node o (t ∷ᶠ ts)) l = let z : ◌≡◌ {A = ℕ} 0 1 = cc in absurd (omega arith)
+    go (node o (t ∷ᶠ ts)) l = absurd (cc)
 
 pub plan_partitioning_had : (x : PlanSheet) (r : Answer) → Answered x r → PartitioningHad x r.plan
 unfolding finished

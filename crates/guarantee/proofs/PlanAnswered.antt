@@ -66,7 +66,7 @@ module _ (x : PlanSheet) where
       by e q h = rw q at h
 
       go : (o : Option (List ChildState)) → relate x.settings x.facts o ≡ enforced ds → unsatisfied_at x.facts.masks (given_set ds) ≡ 0
-      go nothing e = let z : ◌≡◌ {A = ℕ} 0 1 = cc in absurd (omega arith)
+      go nothing e = absurd (cc)
       go (some cs) e = by (enforce_distribution_relationships x.facts.rows x.facts.masks cs) e (loop_ends x.facts.rows x.facts.masks (rounds_loop x.facts.rows x.facts.masks cs))
 
 -- ---- the answer
@@ -80,7 +80,7 @@ leaf_answered x (node o none) r l e = sym (ap plan_in e)
     plan_in Ensured.missing_row = node o none
     plan_in Ensured.unenforceable = node o none
     plan_in (Ensured.answered a) = a.plan
-leaf_answered x (node o (t ∷ᶠ ts)) r l e = let z : ◌≡◌ {A = ℕ} 0 1 = cc in absurd (omega arith)
+leaf_answered x (node o (t ∷ᶠ ts)) r l e = absurd (cc)
 
 whole : (u : Plan) → node (root u) (below u) ≡ u
 whole (node o ts) = refl
@@ -106,7 +106,7 @@ module _ (s : List ℕ) (x : PlanSheet) (reads : read_plan s ≡ sheet x) (gains
     where
       go : (b : Bool) → is_leaf (below x.plan) ≡ b → Came x.settings x.facts (Formed x.settings node_of x.facts.node x.facts.rows) x.plan r → Answered x r
       go true q c = only q (leaf_answered x x.plan r q e)
-      go false q (leaf l h) = let z : ◌≡◌ {A = ℕ} 0 1 = cc in absurd (omega arith)
+      go false q (leaf l h) = absurd (cc)
       go false q (worked h) =
           let p = partitioning_had x.settings x.facts x.plan r q (plan_read_legal s x reads).fit gains (read_none_added s x reads) e in
           let reached : child_states x.settings x.facts (worked_of x.plan) ≡ enforced h.states = ap (child_states x.settings x.facts) (sym (whole (worked_of x.plan))) ∙ h.reached in

@@ -22,8 +22,8 @@ fields_plain o n = (tt, (tt, (tt, (tt, (limit_plain o.limit, (tt, (tt, (tt, (tt,
 
 limit_once : (k l : Option ℕ) → limit_field k ≡ limit_field l → k ≡ l
 limit_once absent absent e = refl
-limit_once absent (some l) e = let z : ◌≡◌ {A = ℕ} 0 1 = cc in absurd (omega arith)
-limit_once (some k) absent e = let z : ◌≡◌ {A = ℕ} 0 1 = cc in absurd (omega arith)
+limit_once absent (some l) e = absurd (cc)
+limit_once (some k) absent e = absurd (cc)
 limit_once (some k) (some l) e = let z : k ≡ l = cc in ap (λ (n : ℕ). some n) z
 
 operator_once : (o p : Operator) (m n : ℕ) → o.need ≡ 0 → p.need ≡ 0 → operator_fields o m ≡ operator_fields p n → (o ≡ p) × (m ≡ n)

@@ -72,7 +72,7 @@ only_together x (node o none) l fit = record { set = 0; shown = refl; satisfied 
     by : (b : Bool) → worked_fits x.settings x.facts (cond b (node o none) (node o none)) ≡ true → all_within_bits 0 x.facts.masks ≡ true
     by true h = and_second (rows_fit x.settings [] x.facts.rows) _ (and_second (none_repeated x.facts.rows) _ h)
     by false h = and_second (rows_fit x.settings [] x.facts.rows) _ (and_second (none_repeated x.facts.rows) _ h)
-only_together x (node o (t ∷ᶠ ts)) l fit = let z : ◌≡◌ {A = ℕ} 0 1 = cc in absurd (omega arith)
+only_together x (node o (t ∷ᶠ ts)) l fit = absurd (cc)
 
 pub plan_together : (x : PlanSheet) (r : Answer) → facts_fit x.settings x.facts x.plan ≡ true → Answered x r → Together x r.plan
 unfolding finished
