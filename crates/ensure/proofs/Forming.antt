@@ -87,13 +87,13 @@ module _ (s : Settings) (b : List ℕ) (facts rows : List (List ℕ)) (masks : L
 
   by_missing : (o : Operator) (x : Outcome) (d : List (List ℕ)) → lacking ≡ told x → Ends (ensured_by s f o x) (Err Missing) d d
   by_missing o row_missing d e = (refl, refl)
-  by_missing o stuck d e = absurd (let y : ◌≡◌ {A = ℕ} 0 1 = cc in omega arith)
-  by_missing o (enforced cs) d e = absurd (let y : ◌≡◌ {A = ℕ} 0 1 = cc in omega arith)
+  by_missing o stuck d e = absurd (cc)
+  by_missing o (enforced cs) d e = absurd (cc)
 
   by_stuck : (o : Operator) (x : Outcome) (d : List (List ℕ)) → unable ≡ told x → Ends (ensured_by s f o x) (Err Stuck) d d
-  by_stuck o row_missing d e = absurd (let y : ◌≡◌ {A = ℕ} 0 1 = cc in omega arith)
+  by_stuck o row_missing d e = absurd (cc)
   by_stuck o stuck d e = (refl, refl)
-  by_stuck o (enforced cs) d e = absurd (let y : ◌≡◌ {A = ℕ} 0 1 = cc in omega arith)
+  by_stuck o (enforced cs) d e = absurd (cc)
 
   -- the states that have the forms
   record Gave (x : Outcome) (forms : List ℕ) : Type 0 where
@@ -101,13 +101,10 @@ module _ (s : Settings) (b : List ℕ) (facts rows : List (List ℕ)) (masks : L
     pub came : x ≡ enforced states
     pub numbers : forms ≡ form_numbers states
 
-  given_same : (x y : List ℕ) → given x ≡ given y → x ≡ y
-  given_same x y e = cc
-
   gave : (x : Outcome) (forms : List ℕ) → given forms ≡ told x → Gave x forms
-  gave row_missing forms e = absurd (let y : ◌≡◌ {A = ℕ} 0 1 = cc in omega arith)
-  gave stuck forms e = absurd (let y : ◌≡◌ {A = ℕ} 0 1 = cc in omega arith)
-  gave (enforced cs) forms e = record { states = cs; came = refl; numbers = given_same forms (form_numbers cs) e }
+  gave row_missing forms e = absurd (cc)
+  gave stuck forms e = absurd (cc)
+  gave (enforced cs) forms e = record { states = cs; came = refl; numbers = cc }
 
   worked_finished : (t : Plan) (cs : List ChildState) → child_states s f t ≡ enforced cs → ensure_worked s f t ≡ answered (finished s f (root t) cs)
   worked_finished (node o ts) cs e = ap (ensured_by s f o) e

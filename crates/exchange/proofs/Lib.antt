@@ -45,6 +45,7 @@ pub mod Ensured
 pub mod RoundsLoop
 pub mod Interleaved
 pub mod FinishWritten
+pub mod BuiltHere
 pub mod BuiltReached
 pub mod ReachedRounds
 pub mod FormsSmall

@@ -1,7 +1,7 @@
 -- The children's steps and then the rounds, on forms: what the steps leave stands, and the rounds go on from there.
 -- Assumes nothing.
 use Prim.Native.Nat.{ℕ, ◌≤◌, ◌<◌}
-use mathlib.Core.Path.{◌≡◌, refl, sym, subst}
+use mathlib.Core.Path.{◌≡◌, refl, subst}
 use mathlib.Core.Option.{Option, some, none as nothing}
 use mathlib.Core.List.{List, [], ◌∷◌, map}
 use native.Mathlib.Omega.{arith}
@@ -22,25 +22,22 @@ pub same_by : (asks : List Asked) → SameChildren asks (map child_for asks)
 same_by [] = done
 same_by (a ∷ asks) = also {a = a} {k = child_for a} (record { number = refl; need = refl; count = refl; facts = refl }) (same_by asks)
 
-some_same : {A : Type 0} (x y : A) → some x ≡ some y → x ≡ y
-some_same x y e = cc
-
 module _ (s : Settings) (f : Facts) where
   pub steps_lacking : (x : Option (List ChildState)) → nothing ≡ form_list x → lacking ≡ told (relate s f x)
   steps_lacking nothing e = refl
-  steps_lacking (some cs) e = absurd (let y : ◌≡◌ {A = ℕ} 0 1 = cc in omega arith)
+  steps_lacking (some cs) e = absurd (cc)
 
   module _ (needs fs : List ℕ) where
     abbrev Stood : Option (List ChildState) → Type 0
     Stood x = (cs : List ChildState) → x ≡ some cs → Stand f.rows 1 needs (form_numbers cs) cs
 
     pub steps_small : (x : Option (List ChildState)) → some fs ≡ form_list x → Stood x → length fs ≡ length needs → (k : ℕ) → k < length fs → get_or fs k 0 ≤ 15
-    steps_small nothing e h m k l = absurd (let y : ◌≡◌ {A = ℕ} 0 1 = cc in omega arith)
+    steps_small nothing e h m k l = absurd (cc)
     steps_small (some cs) e h m k l =
-        let same : form_numbers cs ≡ fs = sym (some_same fs (form_numbers cs) e) in
+        let same : form_numbers cs ≡ fs = cc in
         subst (λ (gs : List ℕ). get_or gs k 0 ≤ 15) same (stand_small f.rows (h cs refl) k (omega arith))
 
     pub steps_go_on : (t : Told) (x : Option (List ChildState)) → some fs ≡ form_list x → Stood x
         → ((cs : List ChildState) → Stand f.rows 1 needs fs cs → t ≡ told (enforce_distribution_relationships f.rows f.masks cs)) → t ≡ told (relate s f x)
-    steps_go_on t nothing e h g = absurd (let y : ◌≡◌ {A = ℕ} 0 1 = cc in omega arith)
-    steps_go_on t (some cs) e h g = g cs (subst (λ (gs : List ℕ). Stand f.rows 1 needs gs cs) (sym (some_same fs (form_numbers cs) e)) (h cs refl))
+    steps_go_on t nothing e h g = absurd (cc)
+    steps_go_on t (some cs) e h g = g cs (subst (λ (gs : List ℕ). Stand f.rows 1 needs gs cs) (cc) (h cs refl))

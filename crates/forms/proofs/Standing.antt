@@ -33,8 +33,8 @@ module _ (s : Settings) (o : Operator) (b : NodeFacts) (rows : List Row) (aligne
       → (x : Option ChildState) → ensure_child s o b rows (status_of s aligned k) ≡ x → (r : Option (List ChildState))
       → ((ys : List ChildState) → r ≡ some ys → Stand rows (suc n) needs (form_numbers ys) ys)
       → and_then x (λ y. and_then r (λ ys. some (y ∷ ys))) ≡ some cs → Stand rows n (need ∷ needs) (form_numbers cs) cs
-  more_stand k n need needs cs a d none e r h z = absurd (let y : ◌≡◌ {A = ℕ} 0 1 = cc in omega arith)
-  more_stand k n need needs cs a d (some y) e none h z = absurd (let y : ◌≡◌ {A = ℕ} 0 1 = cc in omega arith)
+  more_stand k n need needs cs a d none e r h z = absurd (cc)
+  more_stand k n need needs cs a d (some y) e none h z = absurd (cc)
   more_stand k n need needs cs a d (some y) e (some ys) h z =
       let same : (y ∷ ys) ≡ cs = cc in
       subst (λ (ds : List ChildState). Stand rows n (need ∷ needs) (form_numbers ds) ds) same

@@ -65,7 +65,7 @@ pub turn_small : (rows : List Row) (x : Turn) (f : ℕ) → x.form ≤ 15 → tu
 turn_small rows x f h e = go (turn_givable rows x) (row_of rows x.number (with_relationship (form_of x.form))) e
   where
     go : (t : Bool) (o : Option Row) → cond t (form_by (form_number (with_relationship (form_of x.form))) o) (Some x.form) ≡ Some f → f ≤ 15
-    go true none e = absurd (let z : ◌≡◌ {A = ℕ} 0 1 = cc in omega arith)
+    go true none e = absurd (cc)
     go true (some y) e = let z : form_number (with_relationship (form_of x.form)) ≡ f = cc in omega arith
     go false o e = let z : x.form ≡ f = cc in omega arith
 

@@ -85,4 +85,4 @@ stock_differs a e f =
 -- ---- every sheet turned back
 
 pub turned_differs : (number line : List ℕ → ℕ) → decision marked_sheet ≡ turned_back number line marked_sheet → ⊥
-turned_differs number line e = let f : wrote marked_answer ≡ refused (number marked_sheet) (line marked_sheet) = sym marked_decided ∙ e in let z : ◌≡◌ {A = ℕ} 0 1 = cc in omega arith
+turned_differs number line e = let f : wrote marked_answer ≡ refused (number marked_sheet) (line marked_sheet) = sym marked_decided ∙ e in cc

@@ -15,8 +15,8 @@ children_at-k-requires c = let a = c.args in let p = c.requires.came in root_in 
 
 pub invariant_of-becomes_interleave : goal.invariant_of-becomes_interleave
 invariant_of-becomes_interleave c = let a = c.args in let p = c.requires.came in
-    let shape = came_shape a.s a.f.node a.f.children.now a.f.xs.rows.now a.f.masks.now a.src.rows.now a.src.at a.forms.now _ p in record {
-      few = omega (arith, shape.long, came_counted a.s a.f.node a.f.children.now a.f.xs.rows.now a.f.masks.now a.src.rows.now a.src.at a.forms.now _ p, a.f.few);
+    let shape = came_shape _ a.f.node _ _ _ _ _ _ _ p in record {
+      few = omega (arith, shape.long, came_counted _ a.f.node _ _ _ _ _ _ _ p, a.f.few);
       small = shape.small;
     }
 
@@ -24,15 +24,15 @@ pub invariant_of-worked : goal.invariant_of-worked
 invariant_of-worked c = let a = c.args in let p = c.requires.came in record { legal = rw c.node_at.ensures (root_legal a.src.rows.now a.src.at p.tree p.rest p.stands) }
 
 pub put_worked-requires : goal.put_worked-requires
-put_worked-requires c = let a = c.args in let p = c.requires.came in came_room a.s a.f.node a.f.children.now a.f.xs.rows.now a.f.masks.now a.src.rows.now a.src.at a.forms.now _ p
+put_worked-requires c = let a = c.args in let p = c.requires.came in came_room _ a.f.node _ _ _ _ _ _ _ p
 
 pub finish_children-m-requires-clause-each_finished : goal.finish_children-m-requires-clause-each_finished
-finish_children-m-requires-clause-each_finished c = let a = c.args in let p = c.requires.came in rw c.children_at-k.ensures (came_each a.s a.f.node a.f.children.now a.f.xs.rows.now a.f.masks.now a.src.rows.now a.src.at a.forms.now _ p (length a.mid.now) c.requires.roomy)
+finish_children-m-requires-clause-each_finished c = let a = c.args in let p = c.requires.came in rw c.children_at-k.ensures (came_each _ a.f.node _ _ _ _ _ _ _ p (length a.mid.now) c.requires.roomy)
 
 pub finish_children-m-requires-clause-readys : goal.finish_children-m-requires-clause-readys
-finish_children-m-requires-clause-readys c = let a = c.args in let p = c.requires.came in rw (c.node_at.ensures, c.children_at-k.ensures) (rw c.put_worked.auto.rows (came_readys a.s a.f.node a.f.children.now a.f.xs.rows.now a.f.masks.now a.src.rows.now a.src.at a.forms.now _ p))
+finish_children-m-requires-clause-readys c = let a = c.args in let p = c.requires.came in rw (c.node_at.ensures, c.children_at-k.ensures) (rw c.put_worked.auto.rows (came_readys _ a.f.node _ _ _ _ _ _ _ p))
 
 pub returns : goal.returns
 returns c = let a = c.args in let p = c.requires.came in λ t rest cs h came numbers.
-    answer_wrote a.s a.f.node a.f.children.now a.f.xs.rows.now a.f.masks.now a.src.rows.now a.src.at a.forms.now _ _ _ c.node_at.ensures c.children_at-k.ensures c.becomes_interleave-i.ensures t rest cs
-    (shape_of a.s a.f.node a.f.children.now a.f.xs.rows.now a.f.masks.now a.src.rows.now a.src.at a.forms.now t rest cs h came numbers (came_counted a.s a.f.node a.f.children.now a.f.xs.rows.now a.f.masks.now a.src.rows.now a.src.at a.forms.now _ p)) _ _ _ _ _ _ c.put_worked.ensures c.finish_children-m.ensures c.window_mark.ensures (mark_byte _ _ c.from.ensures)
+    answer_wrote _ a.f.node _ _ _ _ _ _ _ _ _ c.node_at.ensures c.children_at-k.ensures c.becomes_interleave-i.ensures t rest cs
+    (shape_of _ a.f.node _ _ _ _ _ _ t rest cs h came numbers (came_counted _ a.f.node _ _ _ _ _ _ _ p)) _ _ _ _ _ _ c.put_worked.ensures c.finish_children-m.ensures c.window_mark.ensures (mark_byte _ _ c.from.ensures)

@@ -1,5 +1,5 @@
 -- `worked_forms` meets its contract: what is asked is of the children that stand there, so the forms are those of their states (`told_worked`).
-use mathlib.Core.Path.{refl, sym, ap, ◌∙◌}
+use mathlib.Core.Path.{refl, ap}
 use lib.Seq.{length-take-le}
 use native.Mathlib.Omega.{arith}
 use Rattle.exchange.specs.declared.row.Node.{Node}
@@ -19,11 +19,6 @@ pub invariant_of-child_forms : goal.invariant_of-child_forms
 invariant_of-child_forms c = let a = c.args in
     let fit = asks_fit a.s a.f.node a.f.children.now a.f.xs.rows.now a.f.masks.now a.src.rows.now a.src.at (record { kind = c.node_at.result.kind; facts = a.f.node }) (ap (λ (x : Node). x.kind) c.node_at.ensures) refl c.requires.stood c.asked_children.new.asks c.asked_children.ensures in
     record { numbered = fit.1; few = omega (arith, fit.0, a.f.few) }
-
-pub child_forms-requires : goal.child_forms-requires
-child_forms-requires c = let a = c.args in
-    let fit = asks_fit a.s a.f.node a.f.children.now a.f.xs.rows.now a.f.masks.now a.src.rows.now a.src.at (record { kind = c.node_at.result.kind; facts = a.f.node }) (ap (λ (x : Node). x.kind) c.node_at.ensures) refl c.requires.stood c.asked_children.new.asks c.asked_children.ensures in
-    c.requires.forms_len ∙ sym fit.0
 
 pub returns : goal.returns
 returns c = let a = c.args in

@@ -1,12 +1,9 @@
 -- `exchange::child::built_root` meets its contract.
-use mathlib.Core.List.{map}
-use Rattle.exchange.specs.FactRows.{fact_row}
-use Rattle.exchange.specs.Forms.{form_of}
 use Rattle.exchange.proofs.BuiltRows.{root_kept, root_split}
 use Rattle.exchange.proofs.child.built_root.Goals as goal
 
 pub returns-then-not-is_set : goal.returns-then-not-is_set
-returns-then-not-is_set c = let a = c.args in root_kept (map fact_row a.xs.rows.now) a.c.child (form_of a.c.form) a.o.node a.o.legal (cc)
+returns-then-not-is_set c = let a = c.args in root_kept _ _ _ a.o.node a.o.legal (cc)
 
 pub returns : goal.returns
-returns c = let a = c.args in root_split (map fact_row a.xs.rows.now) a.c.child (form_of a.c.form) a.o.node _ _ (cc) c.row_in.ensures c.split_operator.ensures
+returns c = let a = c.args in root_split _ _ _ a.o.node _ _ (cc) c.row_in.ensures c.split_operator.ensures

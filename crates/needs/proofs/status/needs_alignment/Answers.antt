@@ -22,9 +22,6 @@ ask_end : (s : Settings) (asks : List Asked) (i : ℕ) → length asks ≤ i →
 unfolding needs_alignment
 ask_end s asks i h = rw (drop_of_length-le asks {i = i} h)
 
-pub loop-a-init : goal.loop-a-init
-loop-a-init c = refl
-
 pub returns-then-asks_alignment : goal.returns-then-asks_alignment
 returns-then-asks_alignment c = sym (c.loop-a.invariant ∙ ask_turn _ _ _ _ c.loop-a-test.true ∙ sym (enough _ _ (sym c.if-asks_alignment.ensures)))
 
