@@ -9,7 +9,7 @@ use mathlib.Core.List.{List, [], ◌∷◌, ◌++◌}
 use lib.Dec.{eqb}
 use lib.ListN.{length}
 use borrow.Author.Tests.{eqb-true}
-use Rattle.text.proofs.Exact.{both}
+use Rattle.std.proofs.lemmas.Bool.{and_parts as both}
 use Rattle.keys.specs.Reorder.{Rule}
 use Rattle.keys.specs.Expressions.{Expression, same_expr, placeholder}
 use Rattle.keys.specs.Arrange.{Lacks}

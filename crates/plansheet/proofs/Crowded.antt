@@ -8,8 +8,8 @@ use native.Mathlib.Omega.{arith}
 use lib.Dec.{eqb}
 use lib.ListN.{length, length-map}
 use borrow.Author.Tests.{eqb-true, eqb-false, ne_eqb, not-true}
-use Rattle.text.proofs.Exact.{both}
-use Rattle.sheet.proofs.KeyRows.{either_false}
+use Rattle.std.proofs.lemmas.Bool.{and_parts as both}
+use Rattle.std.proofs.lemmas.Bool.{or_parts as either_false}
 use Rattle.exchange.specs.FactRows.{fact_row}
 use Rattle.exchange.specs.Found.{child_of, form_number}
 use Rattle.exchange.specs.Fit.{is_repeated, none_repeated}

@@ -19,7 +19,7 @@ use Rattle.refusals.specs.declared.Refusal.TheVariants.{WrongLine}
 use Rattle.refusals.proofs.Judging.{number_again}
 use Rattle.linekinds.specs.Lines.{Kind, most_bytes, fields_fit, too_many_entries, line_number}
 use Rattle.linekinds.specs.KeyLines.{values}
-use Rattle.sheet.proofs.KeyRows.{either_false}
+use Rattle.std.proofs.lemmas.Bool.{or_parts as either_false}
 use Rattle.sheet.proofs.RowsAgain.{number_at_lem}
 use Rattle.plansheet.specs.Shapes.{Shape, over_any, is_none, tree_line, children_at, most_children}
 use Rattle.plansheet.specs.PlanLines.{two_to}

@@ -11,7 +11,7 @@ use lib.Dec.{eqb, leb}
 use lib.ListN.{length, get_or, drop, drop_of_length-le}
 use lib.Seq.{drop-cons}
 use borrow.Author.Tests.{eq-eqb, eqb-true, eqb-false, leb-true}
-use Rattle.text.proofs.Exact.{both}
+use Rattle.std.proofs.lemmas.Bool.{and_parts as both}
 use Rattle.exchange.specs.declared.fact.Fact.{Fact}
 use Rattle.exchange.specs.declared.fact.Fact.TheVariants.{Row, Missing}
 use Rattle.exchange.specs.FactRows.{fact_row}

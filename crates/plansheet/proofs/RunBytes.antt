@@ -13,7 +13,7 @@ use Rattle.text.specs.declared.field.Field.{Field}
 use Rattle.text.specs.Text.{parts, onto, field, most, fields, line_fields}
 use Rattle.text.specs.Bounds.{Bound, allows, fits}
 use Rattle.text.specs.Lines.{first_of}
-use Rattle.text.proofs.Exact.{both}
+use Rattle.std.proofs.lemmas.Bool.{and_parts as both}
 use Rattle.linekinds.specs.Lines.{Kind, Run, read, refused, line_number, rows_of}
 use Rattle.sheet.specs.KeySheets.{sheet, head_of}
 use Rattle.plansheet.specs.PlanLines.{plan_line, node_line, child_line, fact_line, tree_shape, fact_shape}

@@ -12,13 +12,13 @@ use Rattle.text.specs.declared.field.Field.{Field}
 use Rattle.text.specs.declared.field.Field.TheVariants.{Number as number, Empty as empty, Malformed as malformed}
 use Rattle.text.specs.Text.{value_of}
 use Rattle.text.specs.Bounds.{Bound, allows, fits}
-use Rattle.text.proofs.Exact.{both}
+use Rattle.std.proofs.lemmas.Bool.{and_parts as both}
 use Rattle.text.proofs.Limits.{fits_length}
 use Rattle.linekinds.specs.Lines.{Kind, too_many_entries, most_entries}
 use Rattle.linekinds.specs.KeyLines.{at, values}
 use Rattle.linekinds.proofs.LineNumbers.{at_value}
 use Rattle.sheet.proofs.InTurn.{Fine}
-use Rattle.sheet.proofs.KeyRows.{either_false}
+use Rattle.std.proofs.lemmas.Bool.{or_parts as either_false}
 use Rattle.sheet.proofs.Numbers.{filled, row_numbers_lem}
 use Rattle.sheet.proofs.LegalRows.{values_numbers}
 use Rattle.plansheet.specs.Shapes.{Shape, over_any, fixed_line}

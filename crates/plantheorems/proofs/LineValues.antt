@@ -12,7 +12,7 @@ use Rattle.text.specs.declared.field.Field.{Field}
 use Rattle.text.specs.declared.field.Field.TheVariants.{Number as number, Empty as empty, Malformed as malformed}
 use Rattle.text.specs.Text.{value_of}
 use Rattle.text.specs.Bounds.{allows, fits}
-use Rattle.text.proofs.Exact.{both}
+use Rattle.std.proofs.lemmas.Bool.{and_parts as both}
 use Rattle.exchange.specs.declared.settings.Settings.{Settings}
 use Rattle.exchange.specs.Settings.{least_target, most_target, least_batch, settings_fit}
 use Rattle.exchange.specs.Facts.{NodeFacts, ChildFacts, Row}

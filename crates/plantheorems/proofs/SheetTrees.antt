@@ -8,7 +8,7 @@ use mathlib.Core.Bool.{true, false, cond, ◌||◌}
 use lib.Dec.{eqb, leb}
 use Rattle.std.proofs.lemmas.Bool.{and_right}
 use borrow.Author.Tests.{eqb-true, ne_eqb, leb-true}
-use Rattle.text.proofs.Exact.{both}
+use Rattle.std.proofs.lemmas.Bool.{and_parts as both}
 use Rattle.exchange.specs.Trees.{node, none, ◌∷ᶠ◌, trees, root, Operator, Plan, Plans}
 use Rattle.exchange.specs.Facts.{ChildFacts}
 use Rattle.exchange.specs.Sizes.{lines}

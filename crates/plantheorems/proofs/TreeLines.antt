@@ -14,7 +14,7 @@ use Rattle.text.specs.declared.field.Field.{Field}
 use Rattle.text.specs.declared.field.Field.TheVariants.{Number as number, Empty as empty, Malformed as malformed}
 use Rattle.text.specs.Text.{state_of, value_of}
 use Rattle.text.specs.Bounds.{Bound, allows, fits}
-use Rattle.text.proofs.Exact.{both}
+use Rattle.std.proofs.lemmas.Bool.{and_parts as both}
 use Rattle.text.proofs.Limits.{fits_length}
 use Rattle.exchange.specs.Trees.{Operator}
 use Rattle.exchange.specs.Operators.{is_present}
@@ -22,7 +22,7 @@ use Rattle.exchange.specs.Rows.{limit_mark, limit_number, limit_of, row_of}
 use Rattle.linekinds.specs.Lines.{plain}
 use Rattle.linekinds.specs.KeyLines.{at, values}
 use Rattle.sheet.proofs.InTurn.{Fine}
-use Rattle.sheet.proofs.KeyRows.{either_false}
+use Rattle.std.proofs.lemmas.Bool.{or_parts as either_false}
 use Rattle.sheet.proofs.Numbers.{spelled, spelled_out}
 use Rattle.plansheet.specs.Shapes.{over_any, limit_at, kind_at, children_at, exchange_limited, rule_fits, most_children}
 use Rattle.plansheet.specs.PlanLines.{tree_shape, child_rules, most_lines, plan_line, limit}
