@@ -46,7 +46,7 @@ fn moved_side<'a>(keys: &[u64], at: Positions<'_>, out: &'a mut [u64; 32]) -> &'
 }
 
 // The positions as numbers, in the room lent; by index, as `keys::list::permute`.
-fn wide_positions<'a>(at: Positions<'_>, out: &'a mut [u64; 32]) -> &'a [u64]
+pub fn wide_positions<'a>(at: Positions<'_>, out: &'a mut [u64; 32]) -> &'a [u64]
     ensures { result.now ≡ at.entry.list.now }
 {
     for (i, &p) in at.list.iter().enumerate() {
