@@ -19,7 +19,7 @@ fn pack_exprs(rows: &[[u64; 2]], from: usize, out: &mut [u64; 64]) -> usize
 }
 
 fn copy_numbers(rows: &[[u64; 2]], out: &mut [u64; 64]) -> usize
-    requires { (length rows.now ≤ 64) }
+    requires { length rows.now ≤ 64 }
     ensures { (result ≤ 64) × (take result out.new ≡ row_values rows.now) }
 {
     for (i, row) in rows.iter().enumerate() {

@@ -32,6 +32,7 @@ fn longer_to(s: &[u8], at: usize, begun: u64, bound: Bound, b: u8) -> Option<Num
 }
 
 // A number within the bound after a comma, and the place of the byte b after it.
+#[inline(always)]
 pub(crate) fn number_to(from: Comma<'_>, bound: Bound, b: u8) -> Option<Number>
     ensures { NumberTo bound.most from.entry.s.now (from.entry.at + 1) b result }
 {

@@ -27,6 +27,7 @@ pub(crate) fn begins(s: &[u8], at: usize, letter: u8) -> Result<Comma<'_>, Unrea
 }
 
 // Numbers within the bound, each after a comma, into all places of a row; and the comma that follows the last.
+#[inline(always)]
 pub(crate) fn numbers_to<'a>(
     from: Comma<'a>,
     row: &mut [u64],
@@ -45,6 +46,7 @@ pub(crate) fn numbers_to<'a>(
 }
 
 // The last number of a line, a plain one after a comma, into a place; and the place of the LF.
+#[inline(always)]
 pub(crate) fn last_to(from: Comma<'_>, place: &mut u64) -> Result<usize, Unread>
     ensures { LastTo from.entry result place.new }
 {

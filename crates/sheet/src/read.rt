@@ -2,7 +2,7 @@
 ghost use Rattle.std.specs.Prelude.{◌≡◌, ◌-◌, ◌≤◌, length};
 ghost use Rattle.sheet.specs.SheetLines.{most_lists, count_by, FewChildren, lines_from, lines_by, whole_lines, ended_by, HeldLines, HeadKept};
 
-use linekinds::lists::{SheetKind, read_list};
+use linekinds::lists::{SheetKind, judged_list, read_list};
 use refusals::{Refusal, Refused};
 
 // The place after lines that were read, and the number of the next line.
@@ -63,7 +63,7 @@ pub fn read_whole(
     ensures answer { result ≡ ended_by (whole_lines k s.now) }
     ensures held { HeldLines s.now k 0 (whole_lines k s.now) lists.new counts.new }
 {
-    let head = read_list(s, 0, k, 0, rows, &mut lists[0]).map_err(|r| r.on_line(1))?;
+    let head = judged_list(s, 0, k, 0, rows, &mut lists[0]).map_err(|r| r.on_line(1))?;
     counts[0] = head.count;
     let n = line_count(k, lists[0][6]);
     let read = read_lists(s, head.next, k, n, rows, lists, counts)?;
