@@ -2,10 +2,10 @@
 -- Assumes nothing.
 use Prim.Native.Nat.{ℕ}
 use mathlib.Core.Path.{◌≡◌, refl, ap, ◌∙◌}
-use mathlib.Core.Bool.{Bool, true, false, cond, ◌||◌}
+use mathlib.Core.Bool.{Bool, true, false, cond}
 use mathlib.Core.List.{[]}
 use lib.Dec.{eqb}
-use Rattle.keys.specs.Codes.{op_of, hash_mode_of, aggregate_mode_of, join_of}
+use Rattle.keys.specs.Codes.{op_of, hash_mode_of, aggregate_mode_of}
 use Rattle.keys.specs.declared.codes.Op.{Op}
 use Rattle.keys.specs.declared.codes.Op.TheVariants as O
 use Rattle.keys.specs.declared.codes.HashMode.{HashMode}
@@ -14,7 +14,7 @@ use Rattle.keys.specs.declared.codes.AggregateMode.TheVariants as A
 use Rattle.keys.specs.declared.codes.Join.{Join}
 use Rattle.keys.specs.declared.codes.Join.TheVariants as J
 use Rattle.keys.specs.Expressions.{Expression}
-use Rattle.keys.specs.Adjust.{KeySheet, Adjustment, kept, given, passed, cleared, shift_right_required}
+use Rattle.keys.specs.Adjust.{KeySheet, Adjustment, kept, given, passed, cleared}
 use Rattle.keys.specs.Adjust.{reorder_partitioned_join_keys, collect_left, hash_join, cross_join, aggregate, projection, other, adjust_input_keys_ordering}
 
 module _ (same : Expression → Expression → Bool) (s : KeySheet) where
@@ -64,20 +64,6 @@ module _ (same : Expression → Expression → Bool) (s : KeySheet) where
   by_join J.RightAnti = passed s 1 s.required kept (given s.required)
   by_join J.RightMark = passed s 1 s.required kept (given s.required)
   by_join J.Other = passed s 1 s.required kept (given [])
-
-  pub join_chosen : by_join (join_of s.join) ≡ collect_left same s
-  join_chosen = go (eqb s.join 0) (eqb s.join 2) (eqb s.join 5) (eqb s.join 7) (eqb s.join 9)
-    where
-      go :
-          (a b c d e : Bool) →
-          by_join (cond a J.Inner (cond b J.Right (cond c J.RightSemi (cond d J.RightAnti (cond e J.RightMark J.Other)))))
-          ≡ passed s 1 s.required kept (given (cond (a || b) (shift_right_required s.columns s.required) (cond (c || (d || e)) s.required [])))
-      go true b c d e = refl
-      go false true c d e = refl
-      go false false true d e = refl
-      go false false false true e = refl
-      go false false false false true = refl
-      go false false false false false = refl
 
 pub other_mode : (n : ℕ) → A.Other ≡ aggregate_mode_of n → n ≡ 0 → ⊥
 other_mode n e z = let f : A.Other ≡ A.FinalPartitioned = e ∙ ap aggregate_mode_of z in cc

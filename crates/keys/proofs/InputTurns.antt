@@ -10,7 +10,7 @@ use Rattle.std.specs.Prelude.{Some}
 use Rattle.keys.specs.Reorder.{try_reorder}
 use Rattle.keys.specs.Expressions.{same_expr, placeholder, gone_number, expression, expressions, rules}
 use Rattle.keys.specs.Inputs.{JoinSheet, JoinAnswer, as_stood, following, try_side, try_right, reorder_current_join_keys, reorder_join_keys_to_inputs}
-use Rattle.keys.specs.Kept.{hashed, order_tried}
+use Rattle.keys.specs.Kept.{order_tried}
 use Rattle.keys.specs.Values.{numbers, number_rules, report_of, positions_in, resulting, tried_of}
 use Rattle.keys.specs.InputValues.{input_of, with_pairs, side_number, current_try, answer_by, attempt_of}
 use Rattle.keys.specs.declared.reorder.Reordered.{Reordered}
@@ -19,7 +19,6 @@ use Rattle.keys.specs.declared.inputs.Side.{Side}
 use Rattle.keys.specs.declared.inputs.Attempt.{Attempt}
 use Rattle.keys.specs.declared.inputs.Attempt.TheVariants.{Untried, Followed, Failed}
 use Rattle.keys.proofs.Packed.{map_tried, try_expressions, permute_expressions}
-use Rattle.keys.proofs.InputMarks.{unhashed}
 
 resulting_packed : (o : Reordered) (ks : List ℕ) → resulting placeholder o (expressions ks) ≡ expressions (resulting gone_number o ks)
 resulting_packed Met ks = refl
@@ -37,9 +36,6 @@ module _ (s : JoinSheet) (l g : List ℕ) (w : List (List ℕ)) (side : Side) (i
   SideAnswered c =
       answer_by (with_pairs l g s) impossible untried c
       ≡ try_side (with_pairs l g s) same_expr (side_number (Some side)) (rules w) impossible untried (input_of h)
-
-  pub side_untried : hashed (input_of h) ≡ false → SideAnswered Untried
-  side_untried e = rw (unhashed h e)
 
   -- its keys are ks, and r is what was tried
   module _ (ks : List ℕ) (r : Reordered) (i : input_of h ≡ some (expressions ks)) (e : tried_of l g r ≡ try_reorder eqb gone_number (number_rules w) ks l g) where

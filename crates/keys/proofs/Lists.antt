@@ -2,29 +2,21 @@
 -- Assumes nothing.
 use Prim.Native.Nat.{ℕ, zero, suc, ◌+◌, ◌≤◌, ◌<◌}
 use mathlib.Core.Path.{◌≡◌, refl, ap, sym, ◌∙◌, subst}
-use mathlib.Core.Bool.{Bool, true, false, cond, ◌&&◌}
+use mathlib.Core.Bool.{Bool, true, false, cond}
 use mathlib.Core.Option.{Option, none, some}
-use mathlib.Core.List.{List, [], ◌∷◌, ◌++◌, map, append_assoc, append-nil}
+use mathlib.Core.List.{List, [], ◌∷◌, ◌++◌, append_assoc}
 use native.Mathlib.Nat.{add-zero, zero-add}
 use native.Mathlib.Numerals.{add-one}
 use native.Mathlib.Omega.{arith}
 use lib.ListN.{length, get_or, drop, take, set, drop_of_length-le, length-set}
 use lib.Seq.{drop-cons, take-suc-set}
-use Rattle.keys.specs.Lists.{next, also, and_then, same_list, place_of, take_places, expected_expr_positions, or_else}
+use Rattle.keys.specs.Lists.{next, also, and_then, place_of, take_places, expected_expr_positions, or_else}
 use Rattle.keys.specs.Arrange.{Below, AllBelow}
 
 -- a list that is kept in the first n places of an array: one more entry, and one entry changed
 module _ {A : Type 0} (xs : List A) (n : ℕ) (x : A) where
   pub first_pushed : n < length xs → take (n + 1) (set xs n x) ≡ take n xs ++ (x ∷ [])
   first_pushed h = rw (add-one) (take-suc-set xs n x h)
-
--- out is what a map gives of the entries before i: the entry at i goes behind it
-module _ {A B : Type 0} (f : A → B) (out : List B) (xs : List A) where
-  pub map_turn : (i : ℕ) (d : A) → i < length xs → out ++ map f (drop i xs) ≡ (out ++ (f (get_or xs i d) ∷ [])) ++ map f (drop (i + 1) xs)
-  map_turn i d h = rw (add-one, drop-cons xs i d h, append_assoc)
-
-  pub map_end : (i : ℕ) → length xs ≤ i → out ++ map f (drop i xs) ≡ out
-  map_end i h = rw (drop_of_length-le xs h) (append-nil out)
 
 -- a place in the part of a list from i on, as a place in the list
 abbrev pub from : ℕ → Option ℕ → Option ℕ
@@ -53,34 +45,6 @@ behind_also ps p none = refl
 behind_also ps p (some qs) = ap {B = Option (List ℕ)} some (sym (append_assoc ps (p ∷ []) qs))
 
 module _ {A : Type 0} (same : A → A → Bool) where
-  same_list_step :
-      (xs ys : List A) (i : ℕ) (d : A) → i < length xs → i < length ys →
-      same_list same (drop i xs) (drop i ys) ≡ same (get_or xs i d) (get_or ys i d) && same_list same (drop (i + 1) xs) (drop (i + 1) ys)
-  same_list_step xs ys i d h k = rw (add-one, drop-cons xs i d h, drop-cons ys i d k)
-
-  pub same_list_agree :
-      (xs ys : List A) (i : ℕ) (d : A) → i < length xs → i < length ys → same (get_or xs i d) (get_or ys i d) ≡ true →
-      same_list same (drop i xs) (drop i ys) ≡ same_list same (drop (i + 1) xs) (drop (i + 1) ys)
-  same_list_agree xs ys i d h k e = same_list_step xs ys i d h k ∙ ap (λ (t : Bool). t && same_list same (drop (i + 1) xs) (drop (i + 1) ys)) e
-
-  pub same_list_differ :
-      (xs ys : List A) (i : ℕ) (d : A) → i < length xs → i < length ys → same (get_or xs i d) (get_or ys i d) ≡ false →
-      same_list same (drop i xs) (drop i ys) ≡ false
-  same_list_differ xs ys i d h k e = same_list_step xs ys i d h k ∙ ap (λ (t : Bool). t && same_list same (drop (i + 1) xs) (drop (i + 1) ys)) e
-
-  pub same_list_end : (xs ys : List A) (i : ℕ) → length xs ≤ i → length ys ≤ i → same_list same (drop i xs) (drop i ys) ≡ true
-  same_list_end xs ys i h k = rw (drop_of_length-le xs h, drop_of_length-le ys k)
-
-  pub same_list_lengths : (xs ys : List A) → (length xs ≡ length ys → ⊥) → same_list same xs ys ≡ false
-  same_list_lengths [] [] h = absurd (h refl)
-  same_list_lengths [] (y ∷ ys) h = refl
-  same_list_lengths (x ∷ xs) [] h = refl
-  same_list_lengths (x ∷ xs) (y ∷ ys) h = go (same x y) (same_list_lengths xs ys (λ e. h (ap suc e)))
-    where
-      go : (b : Bool) → same_list same xs ys ≡ false → b && same_list same xs ys ≡ false
-      go true e = e
-      go false e = refl
-
   -- the search for x from i on
   module _ (x : A) (xs : List A) where
     pub place_starts : place_of same x xs ≡ from 0 (place_of same x xs)
@@ -109,33 +73,16 @@ module _ {A : Type 0} (same : A → A → Bool) where
 module _ {A : Type 0} (same : A → A → Bool) (gone : A) where
   -- the search for the entries from i on of those expected, the places ps taken before
   module _ (ps : List ℕ) (current expected : List A) (i : ℕ) where
-    pub take_none :
-        (d : A) → i < length expected → place_of same (get_or expected i d) current ≡ none →
-        behind ps (take_places same gone current (drop i expected)) ≡ none
-    take_none d h e = rw (drop-cons expected i d h, e)
-
     pub take_one :
         (d : A) (p : ℕ) → i < length expected → place_of same (get_or expected i d) current ≡ some p →
         behind ps (take_places same gone current (drop i expected))
         ≡ behind (ps ++ (p ∷ [])) (take_places same gone (set current p gone) (drop (i + 1) expected))
     take_one d p h e = rw (drop-cons expected i d h, e, add-one) (behind_also ps p (take_places same gone (set current p gone) (drop (suc i) expected)))
 
-    pub take_end : length expected ≤ i → behind ps (take_places same gone current (drop i expected)) ≡ some ps
-    take_end h = rw (drop_of_length-le expected h) (ap {B = Option (List ℕ)} some (append-nil ps))
-
   pub positions_of_lem : (current expected : List A) → 0 < length current → 0 < length expected → expected_expr_positions same gone current expected ≡ take_places same gone current expected
   positions_of_lem [] ys h k = absurd (omega arith)
   positions_of_lem (x ∷ xs) [] h k = absurd (omega arith)
   positions_of_lem (x ∷ xs) (y ∷ ys) h k = refl
-
-  pub positions_nothing : (current expected : List A) → length current ≡ 0 → expected_expr_positions same gone current expected ≡ none
-  positions_nothing [] ys h = refl
-  positions_nothing (x ∷ xs) ys h = let z : suc (length xs) ≡ 0 = h in absurd (omega arith)
-
-  pub positions_no_wish : (current expected : List A) → length expected ≡ 0 → expected_expr_positions same gone current expected ≡ none
-  positions_no_wish [] ys h = refl
-  positions_no_wish (x ∷ xs) [] h = refl
-  positions_no_wish (x ∷ xs) (y ∷ ys) h = let z : suc (length ys) ≡ 0 = h in absurd (omega arith)
 
 pub below_at : (n : ℕ) (ps : List ℕ) (i : ℕ) → Below n ps → i < length ps → get_or ps i 0 < n
 below_at n [] i b h = absurd (omega arith)

@@ -1,17 +1,15 @@
 -- A turn of each loop over an aggregate's names, over plain lists.
 -- Assumes nothing.
-use Prim.Native.Nat.{ℕ, zero, suc, ◌+◌, ◌*◌, ◌/◌, ◌%◌, ◌≤◌, ◌<◌}
-use mathlib.Core.Path.{◌≡◌, refl, ap, sym, ◌∙◌}
-use mathlib.Core.Bool.{Bool, true, false, cond}
+use Prim.Native.Nat.{ℕ, suc, ◌+◌, ◌*◌, ◌/◌, ◌%◌, ◌≤◌, ◌<◌}
+use mathlib.Core.Path.{◌≡◌, refl, ap}
 use mathlib.Core.Option.{Option, none, some}
 use mathlib.Core.List.{List, [], ◌∷◌, ◌++◌, append_assoc, append-nil}
-use native.Mathlib.Nat.{zero-add}
 use native.Mathlib.Numerals.{add-one}
 use native.Mathlib.Omega.{arith}
 use lib.Dec.{eqb}
 use lib.ListN.{length, get_or, drop, take, set, drop_of_length-le}
 use lib.Seq.{drop-cons}
-use Rattle.keys.specs.Lists.{next, place_of}
+use Rattle.keys.specs.Lists.{place_of}
 use Rattle.keys.specs.Expressions.{column, expression, expressions}
 use Rattle.keys.specs.Adjust.{columns_from, name_places}
 use Rattle.keys.proofs.Lists.{first_pushed, from, behind, behind_also}
@@ -39,18 +37,12 @@ module _ (ns out : List ℕ) (i : ℕ) (so : expressions (take i out) ++ columns
       rw (first_pushed out i (n * 65536 + i) k, map-append expression (take i out) ((n * 65536 + i) ∷ []), packed_column n i e b, append_assoc, add-one)
       (rw (drop-cons ns i 0 h) at so)
 
-  pub columns_end : length ns ≤ i → expressions (take i out) ≡ columns_from 0 ns
-  columns_end h = rw (drop_of_length-le ns h, append-nil) at so
-
 -- the places of the names from the i-th on, the places ps found before
 module _ (fields names ps : List ℕ) (i : ℕ) where
   pub names_turn :
       (p : ℕ) → i < length names → place_of eqb (get_or names i 0) fields ≡ some p →
       behind ps (name_places fields (drop i names)) ≡ behind (ps ++ (p ∷ [])) (name_places fields (drop (i + 1) names))
   names_turn p h e = rw (drop-cons names i 0 h, e, add-one) (behind_also ps p (name_places fields (drop (suc i) names)))
-
-  pub names_missing : i < length names → place_of eqb (get_or names i 0) fields ≡ none → behind ps (name_places fields (drop i names)) ≡ none
-  names_missing h e = rw (drop-cons names i 0 h, e)
 
   pub names_end : length names ≤ i → behind ps (name_places fields (drop i names)) ≡ some ps
   names_end h = rw (drop_of_length-le names h) (ap {B = Option (List ℕ)} some (append-nil ps))
@@ -59,32 +51,3 @@ module _ (fields names ps : List ℕ) (i : ℕ) where
 abbrev first_of : ℕ → Option ℕ → Option ℕ → Option ℕ
 first_of n none b = from n b
 first_of n (some p) b = some p
-
-first_next : (n : ℕ) (a b : Option ℕ) → next (first_of n a b) ≡ first_of (suc n) (next a) b
-first_next n none none = refl
-first_next n none (some p) = ap {B = Option ℕ} some (omega arith)
-first_next n (some q) b = refl
-
-none_first : (b : Option ℕ) → b ≡ from 0 b
-none_first none = refl
-none_first (some p) = ap {B = Option ℕ} some (sym (zero-add p))
-
-place_append : (x : ℕ) (xs ys : List ℕ) → place_of eqb x (xs ++ ys) ≡ first_of (length xs) (place_of eqb x xs) (place_of eqb x ys)
-place_append x [] ys = none_first (place_of eqb x ys)
-place_append x (c ∷ cs) ys = go (eqb c x) (place_append x cs ys)
-  where
-    go :
-        (b : Bool) → place_of eqb x (cs ++ ys) ≡ first_of (length cs) (place_of eqb x cs) (place_of eqb x ys) →
-        cond b (some zero) (next (place_of eqb x (cs ++ ys))) ≡ first_of (suc (length cs)) (cond b (some zero) (next (place_of eqb x cs))) (place_of eqb x ys)
-    go true e = refl
-    go false e = ap next e ∙ first_next (length cs) (place_of eqb x cs) (place_of eqb x ys)
-
-module _ (x : ℕ) (xs ys : List ℕ) where
-  pub place_first : (p : ℕ) → place_of eqb x xs ≡ some p → some p ≡ place_of eqb x (xs ++ ys)
-  place_first p e = sym (place_append x xs ys ∙ rw e)
-
-  pub place_second : (p : ℕ) → place_of eqb x xs ≡ none → place_of eqb x ys ≡ some p → some (length xs + p) ≡ place_of eqb x (xs ++ ys)
-  place_second p e f = sym (place_append x xs ys ∙ rw (e, f))
-
-  pub place_neither : place_of eqb x xs ≡ none → place_of eqb x ys ≡ none → none ≡ place_of eqb x (xs ++ ys)
-  place_neither e f = sym (place_append x xs ys ∙ rw (e, f))

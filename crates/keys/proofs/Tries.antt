@@ -1,31 +1,19 @@
 -- What the answers of the search come to, case by case, for any type of keys.
 -- Assumes nothing.
-use Prim.Native.Nat.{ℕ, ◌+◌, ◌≤◌, ◌<◌}
+use Prim.Native.Nat.{ℕ, ◌+◌, ◌<◌}
 use mathlib.Core.Path.{◌≡◌, refl, ap}
-use mathlib.Core.Bool.{Bool, true, false, ◌||◌}
+use mathlib.Core.Bool.{Bool, true, false}
 use mathlib.Core.Option.{Option, none, some}
 use mathlib.Core.List.{List, [], ◌∷◌}
 use native.Mathlib.Numerals.{add-one}
 use borrow.Author.Tests.{eq-eqb, ne_eqb}
-use lib.ListN.{length, get_or, drop, drop_of_length-le}
+use lib.ListN.{length, get_or, drop}
 use lib.Seq.{drop-cons}
 use Rattle.keys.specs.Lists.{expected_expr_positions, or_else}
 use Rattle.keys.specs.Reorder.{Rule, met, moved_by, rewrite_one, rewrite, meets, either_side, try_reorder}
-use Rattle.keys.specs.Searched.{searched, searched_by}
+use Rattle.keys.specs.Searched.{searched_by}
 use Rattle.keys.specs.Arrange.{AllBelow}
 use Rattle.keys.proofs.Lists.{or_else_below, positions_below}
-
-pub or_left : (a b : Bool) → a ≡ true → true ≡ a || b
-or_left a b e = rw e
-
-pub or_right : (a b : Bool) → a ≡ false → b ≡ a || b
-or_right a b e = rw e
-
-pub first_found : (a b : Option (List ℕ)) (ps : List ℕ) → a ≡ some ps → a ≡ or_else a b
-first_found a b ps e = rw e
-
-pub next_found : (a b : Option (List ℕ)) → a ≡ none → b ≡ or_else a b
-next_found a b e = rw e
 
 or_same : (a : Option (List ℕ)) → or_else a a ≡ a
 or_same none = refl
@@ -40,9 +28,6 @@ module _ {A : Type 0} (same : A → A → Bool) where
     pub rule_passes : i < length ws → same (get_or ws i d).from e ≡ false → rewrite_one same (drop i ws) e ≡ rewrite_one same (drop (i + 1) ws) e
     rule_passes h k = rw (add-one, drop-cons ws i d h, k)
 
-    pub rules_end : length ws ≤ i → rewrite_one same (drop i ws) e ≡ e
-    rules_end h = rw (drop_of_length-le ws h)
-
   no_rules : (es : List A) → rewrite same [] es ≡ es
   no_rules [] = refl
   no_rules (e ∷ es) = ap (λ (r : List A). e ∷ r) (no_rules es)
@@ -52,21 +37,6 @@ module _ {A : Type 0} (same : A → A → Bool) (gone : A) where
   either_below n r l g p q =
       or_else_below n (expected_expr_positions same gone l r) (expected_expr_positions same gone g r)
       (rw p at (positions_below same gone l r)) (rw q at (positions_below same gone g r))
-
-  -- the raw keys do not meet the requirement; the rewritten ones are r', l', g'
-  module _ (r l g r' l' g' : List A) where
-    pub searched_met : meets same r' l' g' ≡ true → met l g ≡ searched same gone r l g r' l' g'
-    searched_met m = rw m
-
-    pub searched_first :
-        meets same r' l' g' ≡ false → (ps : List ℕ) → either_side same gone r l g ≡ some ps →
-        moved_by gone l g (either_side same gone r l g) ≡ searched same gone r l g r' l' g'
-    searched_first m ps e = rw (m, ← first_found (either_side same gone r l g) (either_side same gone r' l' g') ps e)
-
-    pub searched_next :
-        meets same r' l' g' ≡ false → either_side same gone r l g ≡ none →
-        moved_by gone l g (either_side same gone r' l' g') ≡ searched same gone r l g r' l' g'
-    searched_next m e = rw (m, ← next_found (either_side same gone r l g) (either_side same gone r' l' g') e)
 
   module _ (w : List (Rule A)) (r l g : List A) where
     pub try_unequal : (length l ≡ length r → ⊥) → moved_by gone l g none ≡ try_reorder same gone w r l g
