@@ -2,8 +2,12 @@
 ghost use Rattle.std.specs.Prelude.{◌≡◌, ◌<◌};
 ghost use Rattle.keys.specs.Expressions.{packed, expression};
 
-// The kind of a column.
+// The kinds, numbers since expressions are lent packed.
 pub const COLUMN: u64 = 0;
+
+pub const OTHER: u64 = 1;
+
+pub const PLACEHOLDER: u64 = 2;
 
 #[derive(Clone, Copy, PartialEq, Eq, Debug)]
 pub struct Expr {

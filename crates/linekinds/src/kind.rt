@@ -7,6 +7,7 @@ ghost use Rattle.linekinds.specs.Lines.{whole_entries};
 
 use crate::plain::PLAIN;
 use keys::codes::{AggregateMode, HashMode, Join, Op};
+use keys::expr::{COLUMN, OTHER, PLACEHOLDER};
 use refusals::Refusal;
 use text::line::Fields;
 
@@ -48,14 +49,14 @@ impl Codes {
     }
 }
 
-// Kind 0 is a column; 1 another expression, index 0; 2 the placeholder, both 0.
+// Another expression than a column has index 0, and the placeholder name and index 0.
 pub(crate) fn defined_expr(kind: u64, name: u64, index: u64) -> bool
     ensures { result ≡ defined_expr kind name index }
 {
     match kind {
-        0 => true,
-        1 => index == 0,
-        2 => name == 0 && index == 0,
+        COLUMN => true,
+        OTHER => index == 0,
+        PLACEHOLDER => name == 0 && index == 0,
         _ => false,
     }
 }
