@@ -30,9 +30,6 @@ pick : (a k x q y z : Bool) → (q ≡ false → y ≡ z) → cond a x (cond k (
 pick a k x true y z h e = e
 pick a k x false y z h e = ap (λ (v : Bool). cond a x (cond k (x || v) true)) (sym (h refl)) ∙ e
 
-zero_bit : (n : ℕ) → n ≤ 1 → eqb n 1 ≡ false → n ≡ 0
-zero_bit n h e = let k = eqb-false n 1 e in omega (arith, k)
-
 top_alone : (top : ℕ) (b : Bool) → eqb top 0 ≡ b → topmost (cond b [] (top ∷ [])) ≡ top
 top_alone top true e = sym (eqb-true top 0 e)
 top_alone top false e = refl
@@ -46,7 +43,7 @@ topmost_own f small h = go (is_set f.relationship) refl
   where
     go : (b : Bool) → is_set f.relationship ≡ b → (f.relationship ≡ 0) × (topmost (form_tops f) ≡ f.top)
     go true e = absurd (h (topmost_given f e))
-    go false e = (zero_bit f.relationship small e, rw e (top_alone f.top (eqb f.top 0) refl))
+    go false e = (omega (arith, small, eqb-false f.relationship 1 e), rw e (top_alone f.top (eqb f.top 0) refl))
 
 module _ (x : PlanSheet) (w : Operator) (m n : ℕ) (marked : w ≡ track m (root (worked x))) (c k : Child) (same : SameChild c k) (d : ChildState)
     (formed : Formed x.settings w x.facts.node x.facts.rows k d) where
