@@ -57,11 +57,10 @@ pub fn finish_worked(
     requires came { Came s (facts_of f) src.rows.now src.at (length f.children.now) forms.now (length dst.old) }
     ensures { (t : Plan) (rest : List (List ℕ)) (cs : List ChildState) → drop src.entry.at src.entry.rows.now ≡ flatten t ++ rest → child_states s (facts_of f.entry) t ≡ enforced cs → forms.now ≡ form_numbers cs → Ends (answered (finished s (facts_of f.entry) (root t) cs)) (Ok result) dst.old dst.new }
 {
-    let worked = Settled {
-        node: row::node_at(src.rows, src.at),
-    };
+    let node = row::node_at(src.rows, src.at);
     let k = row::children_at(src.rows, src.at);
-    let i = becomes_interleave(s, worked.node.kind, f.xs, Forms { list: forms });
+    let worked = Settled { node };
+    let i = becomes_interleave(s, node.kind, f.xs, Forms { list: forms });
     put_worked(&mut *dst, worked, k, i);
     let w = Finishing {
         settings: s,
@@ -74,16 +73,14 @@ pub fn finish_worked(
         child: 1,
         left: k,
     };
-    let below = Place {
-        at: src.at + 1,
-        ..src
-    };
+    let at = src.at + 1;
+    let below = Place { at, ..src };
     let m = finish_children(w, all, below, mid, &mut *dst, 1);
     Answered {
         changed: 1,
-        window: window_mark(worked.node.kind, f.node),
+        window: window_mark(node.kind, f.node),
         interleave: u64::from(i),
-        tracked: worked.node.tracked,
+        tracked: node.tracked,
         lines: m.to,
     }
 }

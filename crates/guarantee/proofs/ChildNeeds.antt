@@ -43,7 +43,7 @@ topmost_own f small h = go (is_set f.relationship) refl
   where
     go : (b : Bool) → is_set f.relationship ≡ b → (f.relationship ≡ 0) × (topmost (form_tops f) ≡ f.top)
     go true e = absurd (h (topmost_given f e))
-    go false e = (omega (arith, eqb-false f.relationship 1 e), rw e (top_alone f.top (eqb f.top 0) refl))
+    go false e = (omega (arith, small, eqb-false f.relationship 1 e), rw e (top_alone f.top (eqb f.top 0) refl))
 
 module _ (x : PlanSheet) (w : Operator) (m n : ℕ) (marked : w ≡ track m (root (worked x))) (c k : Child) (same : SameChild c k) (d : ChildState)
     (formed : Formed x.settings w x.facts.node x.facts.rows k d) where

@@ -58,8 +58,8 @@ unfolding new_on_top
 apart k =
     let set : ℕ = k.together.set in
     let shown = k.together.shown in
-    let first : set % 2 ≡ 1 → ⊥ = λ e. (let z : ◌≡◌ {A = ℕ} 0 2 = shown.0.given e in omega arith) in
-    let second : set / 2 % 2 ≡ 1 → ⊥ = λ e. (let z : ◌≡◌ {A = ℕ} 0 2 = shown.1.0.given e in omega arith) in
+    let first : set % 2 ≡ 1 → ⊥ = λ e. omega (arith, shown.0.given e) in
+    let second : set / 2 % 2 ≡ 1 → ⊥ = λ e. omega (arith, shown.1.0.given e) in
     let rest : set / 2 / 2 ≡ 0 = shown.1.1 in
     let none_in : set ≡ 0 = omega (arith, first, second) in
     let y : ◌≡◌ {A = ℕ} 3 0 = rw none_in at k.together.satisfied in

@@ -75,7 +75,7 @@ pub placeholder_needed : Guaranteed marked_sheet marked_answer → ⊥
 placeholder_needed g = twice (keys_speak marked_sheet marked_answer asked given marked_read marked_text g)
   where
     twice : KeysKept asked given → ⊥
-    twice k = let n : ◌≡◌ {A = ℕ} 2 1 = ((k.pairs.tried refl).moved refl).arrangement.once 0 (omega arith) in omega arith
+    twice k = omega (arith, ((k.pairs.tried refl).moved refl).arrangement.once 0 (omega arith))
 
 -- the other condition holds of it, since it is no D sheet
 pub marked_splits_gain : SplitsGain marked_sheet

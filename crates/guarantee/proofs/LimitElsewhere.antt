@@ -71,7 +71,7 @@ lost (inr (inl (inl (inl h)))) = omega (arith, h.0)
 lost (inr (inl (inl (inr h)))) = omega (arith, h.3.0)
 lost (inr (inl (inr (inl (inl (inl h)))))) = omega (arith, h.0)
 lost (inr (inl (inr (inl (inl (inr h)))))) = true_false h.1 refl
-lost (inr (inl (inr (inl (inr (inl (inl (inl h)))))))) = let z : ◌≡◌ {A = ℕ} 0 1 = cc h.1 in omega arith
+lost (inr (inl (inr (inl (inr (inl (inl (inl h)))))))) = cc h.1
 lost (inr (inl (inr (inl (inr (inl (inl (inr h)))))))) = true_false h.1 refl
 lost (inr (inl (inr (inl (inr (inl (inr (inl (inl (inl h)))))))))) = omega (arith, h.0)
 lost (inr (inl (inr (inl (inr (inl (inr (inl (inl (inr h)))))))))) = true_false h.1 refl

@@ -31,7 +31,7 @@ without_text = refl
 -- one operator under the worked node on the sheet, none in the answer
 lost : PlanKept asked given → ⊥
 unfolding skeleton remove_dist_changing_operators
-lost k = let z : ◌≡◌ {A = ℕ} 0 1 = ap (λ (ts : Forest Core). trees ts) k.operators.under in omega arith
+lost k = omega (arith, ap (λ (ts : Forest Core). trees ts) k.operators.under)
 
 pub without_fails : Guaranteed merge_sheet without → ⊥
 without_fails g = lost (plan_says merge_sheet without asked given merge_read without_text (refl, ((refl, tt), tt)) g)

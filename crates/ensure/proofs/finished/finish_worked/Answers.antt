@@ -4,11 +4,11 @@ use native.Mathlib.Omega.{arith}
 use Rattle.ensure.proofs.Finishing.{root_in, root_legal, came_shape, came_counted, came_room, came_each, came_readys, answer_wrote, shape_of, mark_byte}
 use Rattle.ensure.proofs.finished.finish_worked.Goals as goal
 
-pub overflow_add-below : goal.overflow_add-below
-overflow_add-below c = let a = c.args in let p = c.requires.came in omega (arith, root_in a.src.rows.now a.src.at p.tree p.rest p.stands)
+pub overflow_add-at : goal.overflow_add-at
+overflow_add-at c = let a = c.args in let p = c.requires.came in omega (arith, root_in a.src.rows.now a.src.at p.tree p.rest p.stands)
 
-pub node_at-requires : goal.node_at-requires
-node_at-requires c = let a = c.args in let p = c.requires.came in root_in a.src.rows.now a.src.at p.tree p.rest p.stands
+pub node_at-node-requires : goal.node_at-node-requires
+node_at-node-requires c = let a = c.args in let p = c.requires.came in root_in a.src.rows.now a.src.at p.tree p.rest p.stands
 
 pub children_at-k-requires : goal.children_at-k-requires
 children_at-k-requires c = let a = c.args in let p = c.requires.came in root_in a.src.rows.now a.src.at p.tree p.rest p.stands
@@ -21,7 +21,7 @@ invariant_of-becomes_interleave c = let a = c.args in let p = c.requires.came in
     }
 
 pub invariant_of-worked : goal.invariant_of-worked
-invariant_of-worked c = let a = c.args in let p = c.requires.came in record { legal = rw c.node_at.ensures (root_legal a.src.rows.now a.src.at p.tree p.rest p.stands) }
+invariant_of-worked c = let a = c.args in let p = c.requires.came in record { legal = rw c.node_at-node.ensures (root_legal a.src.rows.now a.src.at p.tree p.rest p.stands) }
 
 pub put_worked-requires : goal.put_worked-requires
 put_worked-requires c = let a = c.args in let p = c.requires.came in came_room _ a.f.node _ _ _ _ _ _ _ p
@@ -30,9 +30,9 @@ pub finish_children-m-requires-clause-each_finished : goal.finish_children-m-req
 finish_children-m-requires-clause-each_finished c = let a = c.args in let p = c.requires.came in rw c.children_at-k.ensures (came_each _ a.f.node _ _ _ _ _ _ _ p (length a.mid.now) c.requires.roomy)
 
 pub finish_children-m-requires-clause-readys : goal.finish_children-m-requires-clause-readys
-finish_children-m-requires-clause-readys c = let a = c.args in let p = c.requires.came in rw (c.node_at.ensures, c.children_at-k.ensures) (rw c.put_worked.auto.rows (came_readys _ a.f.node _ _ _ _ _ _ _ p))
+finish_children-m-requires-clause-readys c = let a = c.args in let p = c.requires.came in rw (c.node_at-node.ensures, c.children_at-k.ensures) (rw c.put_worked.auto.rows (came_readys _ a.f.node _ _ _ _ _ _ _ p))
 
 pub returns : goal.returns
 returns c = let a = c.args in let p = c.requires.came in λ t rest cs h came numbers.
-    answer_wrote _ a.f.node _ _ _ _ _ _ _ _ _ c.node_at.ensures c.children_at-k.ensures c.becomes_interleave-i.ensures t rest cs
+    answer_wrote _ a.f.node _ _ _ _ _ _ _ _ _ c.node_at-node.ensures c.children_at-k.ensures c.becomes_interleave-i.ensures t rest cs
     (shape_of _ a.f.node _ _ _ _ _ _ t rest cs h came numbers (came_counted _ a.f.node _ _ _ _ _ _ _ p)) _ _ _ _ _ _ c.put_worked.ensures c.finish_children-m.ensures c.window_mark.ensures (mark_byte _ _ c.from.ensures)
