@@ -49,54 +49,12 @@ module _ (n : ℕ) (masks : List ℕ) (i : ℕ) where
   unfolding all_within_bits
   masks_end h = rw (drop_of_length-le masks {i = i} h)
 
--- ---- counts
-
-module _ (target form count order own sorted : ℕ) where
-  abbrev C : Bool
-  C = count_fits_by target form count order own sorted
-
-  pub count_related : form / 8 ≡ 1 → eqb count target ≡ C
-  count_related e = rw (eq-eqb (form / 8) 1 e)
-
-  module _ (a : form / 8 ≡ 1 → ⊥) where
-    pub count_exchange : 2 ≤ form / 2 % 4 → eqb count target ≡ C
-    count_exchange h = rw (ne_eqb (form / 8) 1 a, le-leb 2 (form / 2 % 4) h)
-
-    module _ (b : form / 2 % 4 < 2) where
-      pub count_merge : form / 2 % 4 ≡ 1 → eqb count 1 ≡ C
-      count_merge e = rw (ne_eqb (form / 8) 1 a, lt-leb 2 (form / 2 % 4) b, eq-eqb (form / 2 % 4) 1 e)
-
-      module _ (d : form / 2 % 4 ≡ 1 → ⊥) where
-        pub count_split : form % 2 ≡ 1 → true ≡ C
-        count_split e = rw (ne_eqb (form / 8) 1 a, lt-leb 2 (form / 2 % 4) b, ne_eqb (form / 2 % 4) 1 d, eq-eqb (form % 2) 1 e)
-
-        module _ (f : form % 2 ≡ 1 → ⊥) where
-          pub count_other : (count ≡ own → ⊥) → false ≡ C
-          count_other h = rw (ne_eqb (form / 8) 1 a, lt-leb 2 (form / 2 % 4) b, ne_eqb (form / 2 % 4) 1 d, ne_eqb (form % 2) 1 f, ne_eqb count own h)
-
-          pub count_own : count ≡ own → eqb order sorted ≡ C
-          count_own h = rw (ne_eqb (form / 8) 1 a, lt-leb 2 (form / 2 % 4) b, ne_eqb (form / 2 % 4) 1 d, ne_eqb (form % 2) 1 f, eq-eqb count own h)
-
 -- ---- a row
 
 module _ (target : ℕ) (rows : List (List ℕ)) (places : List ℕ) (facts : List (List ℕ)) where
   module _ (x : List ℕ) where
     abbrev R : Bool
     R = row_fits_by target rows places facts x
-
-    pub row_form : 15 < get_or x 1 0 → false ≡ R
-    row_form h = rw (lt-leb (get_or x 1 0) 15 h)
-
-    module _ (a : get_or x 1 0 ≤ 15) where
-      pub row_zero : get_or x 0 0 < 1 → false ≡ R
-      row_zero h = rw (le-leb (get_or x 1 0) 15 a, lt-leb 1 (get_or x 0 0) h)
-
-      module _ (b : 1 ≤ get_or x 0 0) where
-        pub row_beyond : length places < get_or x 0 0 → false ≡ R
-        row_beyond h = rw (le-leb (get_or x 1 0) 15 a, le-leb 1 (get_or x 0 0) b, lt-leb (get_or x 0 0) (length places) h)
-
-        pub row_known : get_or x 0 0 ≤ length places → child_fits_by target rows x (get_or places (get_or x 0 0 - 1) 0) (get_or facts (get_or x 0 0 - 1) []) ≡ R
-        row_known h = rw (le-leb (get_or x 1 0) 15 a, le-leb 1 (get_or x 0 0) b, le-leb (get_or x 0 0) (length places) h)
 
     -- a row that fits is of a known child and form
     pub fits_known : R ≡ true → (get_or x 1 0 ≤ 15) × (1 ≤ get_or x 0 0) × (get_or x 0 0 ≤ length places)

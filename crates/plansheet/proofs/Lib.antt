@@ -2,6 +2,7 @@ pub mod Examples
 pub mod Overs
 pub mod Shaped
 pub mod Turns
+pub mod Mapped
 pub mod PlainTrees
 pub mod FineLines
 pub mod PlainFacts

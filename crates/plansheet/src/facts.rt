@@ -1,5 +1,5 @@
 // Reads the F, X and Y lines of a D sheet into rows of numbers.
-ghost use Rattle.std.specs.Prelude.{◌≡◌, true, false, ℕ, ◌+◌, ◌≤◌, length, set};
+ghost use Rattle.std.specs.Prelude.{◌≡◌, true, false, ℕ, ◌+◌, ◌≤◌, ◌<◌, length, get_or, set};
 ghost use Rattle.std.proofs.lemmas.List.Edits.{sets};
 ghost use Rattle.text.specs.Text.{line_at, after};
 ghost use Rattle.linekinds.specs.Lines.{line_number};
@@ -10,8 +10,9 @@ ghost use Rattle.plansheet.specs.ReadRows.{number_rows, rows_by, Left, run_from}
 ghost use Rattle.plansheet.specs.PlainFacts.{FactFound, FactLeft};
 
 use crate::line::{child_line, fact_line};
+use crate::place::Place;
 use crate::tree::RowsRead;
-use exchange::fact::{FactRow, WIDTH};
+use exchange::fact::{ATHASH, CONST, FORD, FactRow, ORDER, WIDTH};
 use exchange::status::ChildRow;
 use linekinds::line::Read;
 use numberlines::row::{Unread, row_at};
@@ -36,32 +37,18 @@ fn put_fact(rows: &mut [FactRow], i: usize, x: FactRow)
     }
 }
 
-// The marks of an X row are 0 or 1.
+// Each is 0 or 1.
+fn all_marks(numbers: &[u64]) -> bool
+    ensures { result ≡ true → (i : ℕ) → i < length numbers.now → get_or numbers.now i 0 ≤ 1 }
+{
+    numbers.iter().all(|n| *n <= 1)
+}
+
+// The marks of an X row are marks.
 fn marked(row: &FactRow) -> bool
     ensures { result ≡ true → Small row.now → over_any fact_shape.codes row.now ≡ false }
 {
-    let [
-        _,
-        _,
-        _,
-        _,
-        at_hash,
-        exact,
-        subset,
-        met,
-        after_met,
-        _,
-        ford,
-        fplain,
-        _,
-    ] = *row;
-    at_hash <= 1
-        && exact <= 1
-        && subset <= 1
-        && met <= 1
-        && after_met <= 1
-        && ford <= 1
-        && fplain <= 1
+    all_marks(&row[ATHASH..CONST]) && all_marks(&row[FORD..ORDER])
 }
 
 // The X line at a place, into its row, where nothing in it is unusual.
@@ -119,21 +106,19 @@ pub fn copy_values(fields: &[[u64; 2]], out: &mut [u64])
 
 // So many F lines from a place on.
 pub fn read_children(
-    s: &[u8],
-    at: usize,
-    line: u64,
+    place: Place,
     children: usize,
     fields: &mut [[u64; 2]],
     rows: &mut [ChildRow],
 ) -> Result<RowsRead, Refused>
-    requires { (256 ≤ length fields.old) × (children ≤ length rows.old) × (at ≤ length s.now) × (line ≤ at + 1) }
-    ensures answer { result ≡ rows_by (run_from child_line children s.now line at) }
-    ensures left { Left number_rows s.now (run_from child_line children s.now line at) rows.old rows.new }
+    requires { (256 ≤ length fields.old) × (children ≤ length rows.old) }
+    ensures answer { result ≡ rows_by (run_from child_line children place.entry.s.now place.entry.line place.entry.at) }
+    ensures left { Left number_rows place.entry.s.now (run_from child_line children place.entry.s.now place.entry.line place.entry.at) rows.old rows.new }
 {
-    let mut p = at;
-    let mut l = line;
+    let mut p = place.at;
+    let mut l = place.line;
     for n in 0..children {
-        match child_line(s, p, &mut *fields) {
+        match child_line(place.s, p, &mut *fields) {
             Read::Line { count, next } => {
                 rows[n] = numbers_of(&fields[..count]);
                 p = next;
@@ -151,22 +136,20 @@ pub fn read_children(
 
 // The X lines from a place on, as many as there are: those for which there is room are stored.
 pub fn read_facts(
-    s: &[u8],
-    at: usize,
-    line: u64,
+    place: Place,
     fields: &mut [[u64; 2]],
     rows: &mut [FactRow],
 ) -> Result<RowsRead, Refused>
-    requires { (256 ≤ length fields.old) × (at ≤ length s.now) × (line ≤ at + 1) }
-    ensures answer { result ≡ rows_by (run_from fact_line 0 s.now line at) }
-    ensures left { Left number_rows s.now (run_from fact_line 0 s.now line at) rows.old rows.new }
+    requires { 256 ≤ length fields.old }
+    ensures answer { result ≡ rows_by (run_from fact_line 0 place.entry.s.now place.entry.line place.entry.at) }
+    ensures left { Left number_rows place.entry.s.now (run_from fact_line 0 place.entry.s.now place.entry.line place.entry.at) rows.old rows.new }
 {
-    let mut p = at;
-    let mut l = line;
+    let mut p = place.at;
+    let mut l = place.line;
     let mut n: usize = 0;
     // Ends at the line that is no X line: nothing says beforehand how many there are.
     loop {
-        match read_fact(s, p, n, &mut *fields, &mut *rows) {
+        match read_fact(place.s, p, n, &mut *fields, &mut *rows) {
             Read::Line { next, .. } => p = next,
             Read::Refused(refusal) => {
                 if refusal == Refusal::WrongLine {

@@ -11,7 +11,7 @@ ghost use Rattle.exchange.specs.Fit.{within_bits, all_within_bits, worked_fits};
 ghost use Rattle.plansheet.specs.FitRows.{count_fits_by, child_fits_by, row_fits_by, fact_rows_fit, Placed, found_at};
 
 use exchange::fact::{CHILD, CONST, COUNT, ChildForm, FORM, Fact, FactRow, FactRows, ORDER};
-use exchange::form::{relationship_of, split_of, top_of};
+use exchange::form::{TOP_KEYED, TOP_MERGE, relationship_of, split_of, top_of};
 use exchange::places::child_places;
 use exchange::row::{Row, node_at};
 use exchange::status::{ChildRow, ENTRIES};
@@ -49,23 +49,14 @@ pub fn masks_fit(n: u64, masks: &[u64]) -> bool
 fn count_fits(target: u64, form: u64, count: u64, order: u64, own: u64, sorted: u64) -> bool
     ensures { result ≡ count_fits_by target form count order own sorted }
 {
-    if relationship_of(form) == 1 {
-        return count == target;
-    }
     let top = top_of(form);
-    if 2 <= top {
+    if relationship_of(form) == 1 || TOP_KEYED <= top {
         return count == target;
     }
-    if top == 1 {
+    if top == TOP_MERGE {
         return count == 1;
     }
-    if split_of(form) == 1 {
-        return true;
-    }
-    if count != own {
-        return false;
-    }
-    order == sorted
+    split_of(form) == 1 || count == own && order == sorted
 }
 
 // A row of the child whose tree stands at a place and whose F row is f.
@@ -74,17 +65,14 @@ fn child_fits(target: u64, rows: &[Row], x: FactRow, place: usize, f: ChildRow) 
     ensures { result ≡ child_fits_by target rows.now x place f }
 {
     let child = node_at(rows, place);
-    if !count_fits(
+    count_fits(
         target,
         x[FORM],
         x[COUNT],
         x[ORDER],
         child.count,
         child.order,
-    ) {
-        return false;
-    }
-    within_bits(f[ENTRIES], x[CONST])
+    ) && within_bits(f[ENTRIES], x[CONST])
 }
 
 // A row of a known form of a known child.
@@ -92,18 +80,12 @@ fn row_fits(target: u64, rows: &[Row], places: &[usize], facts: &[ChildRow], x: 
     requires { (length facts.now ≡ length places.now) × Placed rows.now places.now }
     ensures { result ≡ row_fits_by target rows.now places.now facts.now x }
 {
-    let number = x[CHILD];
-    if 15 < x[FORM] {
+    if 15 < x[FORM] || x[CHILD] < 1 {
         return false;
     }
-    if number < 1 {
-        return false;
-    }
-    if (places.len() as u64) < number {
-        return false;
-    }
-    let i = (number - 1) as usize;
-    child_fits(target, rows, x, places[i], facts[i])
+    // No From goes from u64 to usize.
+    let i = (x[CHILD] - 1) as usize;
+    i < places.len() && child_fits(target, rows, x, places[i], facts[i])
 }
 
 // Whether the row was found at that place.
@@ -158,5 +140,6 @@ pub fn facts_fit(
     let mut room = [0usize; 8];
     let places = &mut room[..facts.len()];
     child_places(rows, worked + 1, &mut *places);
+    // A mask's bits are counted by a u64, and no From goes there from usize.
     rows_fit(target, rows, &*places, facts, xs) && masks_fit(facts.len() as u64, masks)
 }

@@ -7,6 +7,8 @@ pub mod fit;
 pub mod line;
 pub mod lines;
 pub mod operator;
+pub mod place;
 pub mod plan;
+pub mod rooms;
 pub mod shape;
 pub mod tree;

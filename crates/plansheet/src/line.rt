@@ -21,7 +21,7 @@ use text::line::{Fields, line_at};
 pub const ANY: u64 = 4294967295;
 
 // How many sets n children have.
-pub fn sets_of(n: u64) -> usize
+pub fn sets_of(n: usize) -> usize
     requires { n ≤ 8 }
     ensures { result ≡ two_to n }
 {
@@ -162,7 +162,7 @@ pub fn fact_line(s: &[u8], at: usize, fields: &mut [[u64; 2]]) -> Read
 }
 
 // The Y line of a worked node with n children.
-pub fn mask_line(s: &[u8], at: usize, n: u64, fields: &mut [[u64; 2]]) -> Read
+pub fn mask_line(s: &[u8], at: usize, n: usize, fields: &mut [[u64; 2]]) -> Read
     requires { (n ≤ 8) × (256 ≤ length fields.old) }
     ensures answer { (seen : ℕ) → result ≡ read_by (line_number (mask_line n) seen (after s.now at) (line_at 89 s.now at)) (after s.now at) (line_at 89 s.now at) }
     ensures stored { fields.new ≡ stored_in fields.old (line_fields 89 (line (drop at s.now))) }

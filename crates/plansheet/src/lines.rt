@@ -11,6 +11,7 @@ ghost use Rattle.plansheet.specs.ReadPlans.{tree_run, TreeLeft, facts_by, MasksH
 use crate::description::{LineShape, TreeShape};
 use crate::facts::{copy_values, read_children, read_facts};
 use crate::line::{ANY, mask_line, node_line, settings_line};
+use crate::place::Place;
 use crate::tree::{RowsRead, read_tree};
 use exchange::fact::FactRow;
 use exchange::row::Row;
@@ -22,15 +23,13 @@ use refusals::{Refusal, Refused};
 
 // The T lines from a place on.
 pub fn read_plan_tree(
-    s: &[u8],
-    at: usize,
-    line: u64,
+    place: Place,
     fields: &mut [[u64; 2]],
     rows: &mut [Row],
 ) -> Result<RowsRead, Refused>
-    requires { (256 ≤ length fields.old) × (at ≤ length s.now) × (line ≤ at + 1) }
-    ensures answer { result ≡ rows_by (run_from plan_line 1 s.now line at) }
-    ensures left { Left (operator_rows 1) s.now (run_from plan_line 1 s.now line at) rows.old rows.new }
+    requires { 256 ≤ length fields.old }
+    ensures answer { result ≡ rows_by (run_from plan_line 1 place.entry.s.now place.entry.line place.entry.at) }
+    ensures left { Left (operator_rows 1) place.entry.s.now (run_from plan_line 1 place.entry.s.now place.entry.line place.entry.at) rows.old rows.new }
 {
     let bounds: [[u64; 2]; 8] = [
         [0, PLAIN],
@@ -68,7 +67,7 @@ pub fn read_plan_tree(
         rules: &rules,
         most: 256,
     };
-    read_tree(s, at, line, shape, fields, rows)
+    read_tree(place, shape, fields, rows)
 }
 
 // The D line, and the T lines after it.
@@ -85,7 +84,12 @@ pub fn read_tree_lines(
     match settings_line(s, 0, &mut *fields) {
         Read::Line { count, next } => {
             copy_values(&fields[..count], &mut *head);
-            read_plan_tree(s, next, 2, fields, rows)
+            let place = Place {
+                s,
+                at: next,
+                line: 2,
+            };
+            read_plan_tree(place, fields, rows)
         }
         Read::Refused(refusal) => Err(refusal.on_line(1)),
     }
@@ -93,71 +97,81 @@ pub fn read_tree_lines(
 
 // The Y line at a place, and nothing after it; there are `count` X rows.
 fn read_masks(
-    s: &[u8],
-    at: usize,
-    line: u64,
-    children: u64,
+    place: Place,
+    children: usize,
     count: usize,
     fields: &mut [[u64; 2]],
     masks: &mut [u64],
 ) -> Result<usize, Refused>
-    requires { (children ≤ 8) × (256 ≤ length fields.old) × (256 ≤ length masks.old) × (at ≤ length s.now) × (line ≤ at + 1) }
-    ensures answer { (b : List Field) (fs xs : List (List Field)) → count ≡ length xs → result ≡ facts_by (read_masks b fs xs children line at (parts 10 (drop at s.now))) }
-    ensures held { (b : List Field) (fs xs : List (List Field)) (g : FactLines) → read_masks b fs xs children line at (parts 10 (drop at s.now)) ≡ sheet g → MasksHeld children g masks.old masks.new }
+    requires { (children ≤ 8) × (256 ≤ length fields.old) × (256 ≤ length masks.old) }
+    ensures answer { (b : List Field) (fs xs : List (List Field)) → count ≡ length xs → result ≡ facts_by (read_masks b fs xs children place.entry.line place.entry.at (parts 10 (drop place.entry.at place.entry.s.now))) }
+    ensures held { (b : List Field) (fs xs : List (List Field)) (g : FactLines) → read_masks b fs xs children place.entry.line place.entry.at (parts 10 (drop place.entry.at place.entry.s.now)) ≡ sheet g → MasksHeld children g masks.old masks.new }
 {
-    match mask_line(s, at, children, &mut *fields) {
+    match mask_line(place.s, place.at, children, &mut *fields) {
         Read::Line { count: many, next } => {
             copy_values(&fields[..many], masks);
-            if next < s.len() {
-                return Err(Refusal::WrongLine.on_line(line + 1));
+            if next < place.s.len() {
+                return Err(Refusal::WrongLine.on_line(place.line + 1));
             }
             Ok(count)
         }
-        Read::Refused(refusal) => Err(refusal.on_line(line)),
+        Read::Refused(refusal) => Err(refusal.on_line(place.line)),
     }
 }
 
 // F lines and X rows from a place on, and what follows them.
 fn read_child_lines(
-    s: &[u8],
-    at: usize,
-    line: u64,
-    children: u64,
+    place: Place,
+    children: usize,
     fields: &mut [[u64; 2]],
     facts: &mut [ChildRow],
     xs: &mut [FactRow],
     masks: &mut [u64],
 ) -> Result<usize, Refused>
-    requires { (children ≤ 8) × (256 ≤ length fields.old) × (8 ≤ length facts.old) × (256 ≤ length masks.old) × (at ≤ length s.now) × (line ≤ at + 1) }
-    ensures answer { (b : List Field) → result ≡ facts_by (read_children b children line at (parts 10 (drop at s.now))) }
-    ensures held { (b : List Field) (g : FactLines) → read_children b children line at (parts 10 (drop at s.now)) ≡ sheet g → ChildrenHeld children g facts.old facts.new xs.old xs.new masks.old masks.new }
+    requires { (children ≤ 8) × (256 ≤ length fields.old) × (8 ≤ length facts.old) × (256 ≤ length masks.old) }
+    ensures answer { (b : List Field) → result ≡ facts_by (read_children b children place.entry.line place.entry.at (parts 10 (drop place.entry.at place.entry.s.now))) }
+    ensures held { (b : List Field) (g : FactLines) → read_children b children place.entry.line place.entry.at (parts 10 (drop place.entry.at place.entry.s.now)) ≡ sheet g → ChildrenHeld children g facts.old facts.new xs.old xs.new masks.old masks.new }
 {
-    let f = read_children(s, at, line, children as usize, &mut *fields, &mut *facts)?;
-    let x = read_facts(s, f.next, f.line, &mut *fields, &mut *xs)?;
-    read_masks(s, x.next, x.line, children, x.count, fields, masks)
+    let s = place.s;
+    let f = read_children(place, children, &mut *fields, &mut *facts)?;
+    let at_facts = Place {
+        s,
+        at: f.next,
+        line: f.line,
+    };
+    let x = read_facts(at_facts, &mut *fields, &mut *xs)?;
+    let at_masks = Place {
+        s,
+        at: x.next,
+        line: x.line,
+    };
+    read_masks(at_masks, children, x.count, fields, masks)
 }
 
 // The B line at a place, and what follows it: F lines, X rows, the Y line, and nothing more.
 pub fn read_fact_lines(
-    s: &[u8],
-    at: usize,
-    line: u64,
-    children: u64,
+    place: Place,
+    children: usize,
     fields: &mut [[u64; 2]],
     node: &mut [u64],
     facts: &mut [ChildRow],
     xs: &mut [FactRow],
     masks: &mut [u64],
 ) -> Result<usize, Refused>
-    requires { (children ≤ 8) × (256 ≤ length fields.old) × (4 ≤ length node.old) × (8 ≤ length facts.old) × (256 ≤ length masks.old) × (at ≤ length s.now) × (line ≤ at + 1) }
-    ensures answer { result ≡ facts_by (read_facts children line at (parts 10 (drop at s.now))) }
-    ensures held { (g : FactLines) → read_facts children line at (parts 10 (drop at s.now)) ≡ sheet g → FactsHeld children g node.old node.new facts.old facts.new xs.old xs.new masks.old masks.new }
+    requires { (children ≤ 8) × (256 ≤ length fields.old) × (4 ≤ length node.old) × (8 ≤ length facts.old) × (256 ≤ length masks.old) }
+    ensures answer { result ≡ facts_by (read_facts children place.entry.line place.entry.at (parts 10 (drop place.entry.at place.entry.s.now))) }
+    ensures held { (g : FactLines) → read_facts children place.entry.line place.entry.at (parts 10 (drop place.entry.at place.entry.s.now)) ≡ sheet g → FactsHeld children g node.old node.new facts.old facts.new xs.old xs.new masks.old masks.new }
 {
-    match node_line(s, at, &mut *fields) {
+    match node_line(place.s, place.at, &mut *fields) {
         Read::Line { count, next } => {
             copy_values(&fields[..count], &mut *node);
-            read_child_lines(s, next, line + 1, children, fields, facts, xs, masks)
+            let after = Place {
+                s: place.s,
+                at: next,
+                line: place.line + 1,
+            };
+            read_child_lines(after, children, fields, facts, xs, masks)
         }
-        Read::Refused(refusal) => Err(refusal.on_line(line)),
+        Read::Refused(refusal) => Err(refusal.on_line(place.line)),
     }
 }

@@ -52,6 +52,7 @@ pub fn rule_fits(rules: &[[u64; 2]], kind: u64, children: u64) -> bool
     requires { kind < length rules.now }
     ensures { result ≡ rule_fits rules.now kind children }
 {
+    // No From goes from u64 to usize.
     let rule = rules[kind as usize];
     rule[0] <= children && children <= rule[1]
 }
@@ -62,11 +63,13 @@ fn operator_fits(h: TreeShape, row: &Row) -> bool
     ensures { result ≡ true → OperatorFits h.entry.line.codes.now h.entry.rules.now row.now }
 {
     let codes = h.line.codes;
+    // No From goes from usize to u64.
+    let kinds = h.rules.len() as u64;
     row[KEEPS] <= codes[2]
         && row[TRACKED] <= codes[5]
         && row[NEED] <= codes[6]
         && row[CHILDREN] <= MOST_CHILDREN
-        && row[KIND] < h.rules.len() as u64
+        && row[KIND] < kinds
         && rule_fits(h.rules, row[KIND], row[CHILDREN])
 }
 
@@ -85,6 +88,7 @@ pub fn operator_read(
     if !operator_fits(h, &*row) {
         return Err(Unread::Unusual);
     }
+    // No From goes from usize to u64.
     row[ID] = seen as u64 + 1;
     Ok(end)
 }

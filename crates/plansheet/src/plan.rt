@@ -14,6 +14,8 @@ ghost use Rattle.plansheet.specs.PlanRooms.{PlanRooms, Filled, TreeStands, RoomF
 use crate::fit::facts_fit;
 use crate::line::sets_of;
 use crate::lines::{read_fact_lines, read_tree_lines};
+use crate::place::Place;
+use crate::rooms::LinesRead;
 use exchange::fact::{FactRow, FactRows, index_rows};
 use exchange::row::{Row, children_at};
 use exchange::settings::Settings;
@@ -27,7 +29,7 @@ pub struct Plan {
     pub settings: Settings,
     pub lines: usize,
     pub worked: usize,
-    pub children: u64,
+    pub children: usize,
     pub rows: usize,
 }
 
@@ -42,84 +44,51 @@ fn checked_settings(head: &[u64]) -> Option<Settings>
 }
 
 // Whether the X rows and masks that were read fit the tree; the index of the rows is made on the way.
-fn plan_fits(
-    target: u64,
-    rows: &[Row],
-    worked: usize,
-    children: u64,
-    facts: &[ChildRow],
-    xs: &[FactRow],
-    n: usize,
-    masks: &[u64],
-    index: &mut [u64],
-) -> bool
-    requires in_bounds { (8 ≤ length facts.now) × Suffices n (length xs.now) × (256 ≤ length masks.now) × (length index.old ≡ 129) }
-    requires filled { Filled rows.now facts.now xs.now masks.now worked children n }
-    ensures answer { (s : Settings) (t : PlanTree) (g : FactLines) → s.target ≡ target → PlanRooms t g rows.now facts.now xs.now masks.now worked children n → result ≡ facts_fit s (facts_of g) t }
-    ensures indexed { result ≡ true → (n ≤ length xs.now) × (index.new ≡ index_of (take n xs.now)) }
+fn plan_fits(target: u64, f: LinesRead, index: &mut [u64]) -> bool
+    requires places { length index.old ≡ 129 }
+    requires filled { Filled f.rows.now f.facts.now f.xs.now f.masks.now f.worked f.children f.count }
+    ensures answer { (s : Settings) (t : PlanTree) (g : FactLines) → s.target ≡ target → PlanRooms t g f.entry.rows.now f.entry.facts.now f.entry.xs.now f.entry.masks.now f.entry.worked f.entry.children f.entry.count → result ≡ facts_fit s (facts_of g) t }
+    ensures indexed { result ≡ true → (f.entry.count ≤ length f.entry.xs.now) × (index.new ≡ index_of (take f.entry.count f.entry.xs.now)) }
 {
-    if xs.len() < n {
+    if f.xs.len() < f.count {
         return false;
     }
-    let there = &xs[..n];
+    let there = &f.xs[..f.count];
     index_rows(there, &mut *index);
     let known = FactRows {
         index: &*index,
         rows: there,
     };
-    let k = children as usize;
-    let many = sets_of(children);
-    facts_fit(target, rows, worked, &facts[..k], known, &masks[..many])
+    let children = &f.facts[..f.children];
+    let masks = &f.masks[..sets_of(f.children)];
+    facts_fit(target, f.rows, f.worked, children, known, masks)
 }
 
 // The lines that were read, judged as a sheet: target and batch first, then X rows and masks.
-fn judge_plan(
-    head: &[u64],
-    rows: &[Row],
-    lines: usize,
-    worked: usize,
-    children: u64,
-    facts: &[ChildRow],
-    xs: &[FactRow],
-    n: usize,
-    masks: &[u64],
-    index: &mut [u64],
-) -> Result<Plan, Refused>
-    requires in_bounds { (9 ≤ length head.now) × (8 ≤ length facts.now) × Suffices n (length xs.now) × (256 ≤ length masks.now) × (length index.old ≡ 129) }
-    requires filled { Filled rows.now facts.now xs.now masks.now worked children n }
-    ensures answer { (t : PlanTree) (g : FactLines) → lines ≡ length (flatten t) → PlanRooms t g rows.now facts.now xs.now masks.now worked children n → result ≡ plan_by (judged_plan (plan_sheet (settings_of head.now) t g)) }
-    ensures indexed { (x : PlanSheet) → result ≡ plan_by (sheet x) → (n ≤ length xs.now) × (index.new ≡ index_of (take n xs.now)) }
+fn judge_plan(head: &[u64], lines: usize, f: LinesRead, index: &mut [u64]) -> Result<Plan, Refused>
+    requires in_bounds { (9 ≤ length head.now) × (length index.old ≡ 129) }
+    requires filled { Filled f.rows.now f.facts.now f.xs.now f.masks.now f.worked f.children f.count }
+    ensures answer { (t : PlanTree) (g : FactLines) → lines ≡ length (flatten t) → PlanRooms t g f.entry.rows.now f.entry.facts.now f.entry.xs.now f.entry.masks.now f.entry.worked f.entry.children f.entry.count → result ≡ plan_by (judged_plan (plan_sheet (settings_of head.now) t g)) }
+    ensures indexed { (x : PlanSheet) → result ≡ plan_by (sheet x) → (f.entry.count ≤ length f.entry.xs.now) × (index.new ≡ index_of (take f.entry.count f.entry.xs.now)) }
 {
     let Some(settings) = checked_settings(head) else {
         return Err(Refusal::SettingsOutOfRange.on_line(0));
     };
-    if !plan_fits(
-        settings.target,
-        rows,
-        worked,
-        children,
-        facts,
-        xs,
-        n,
-        masks,
-        index,
-    ) {
+    if !plan_fits(settings.target, f, index) {
         return Err(Refusal::UnfitFacts.on_line(0));
     }
     Ok(Plan {
         settings,
         lines,
-        worked,
-        children,
-        rows: n,
+        worked: f.worked,
+        children: f.children,
+        rows: f.count,
     })
 }
 
 // What follows the tree, which stands in the rows and has so many lines: the facts, and the sheet judged.
 fn read_after_tree(
-    s: &[u8],
-    at: usize,
-    line: u64,
+    place: Place,
     lines: usize,
     fields: &mut [[u64; 2]],
     head: &[u64],
@@ -130,17 +99,16 @@ fn read_after_tree(
     masks: &mut [u64],
     index: &mut [u64],
 ) -> Result<Plan, Refused>
-    requires in_bounds { (256 ≤ length fields.old) × (9 ≤ length head.now) × (4 ≤ length node.old) × (8 ≤ length facts.old) × RoomFor 128 28 (length s.now) (length xs.old) × (256 ≤ length masks.old) × (length index.old ≡ 129) × (at ≤ length s.now) × (line ≤ at + 1) }
+    requires in_bounds { (256 ≤ length fields.old) × (9 ≤ length head.now) × (4 ≤ length node.old) × (8 ≤ length facts.old) × RoomFor 128 28 (length place.s.now) (length xs.old) × (256 ≤ length masks.old) × (length index.old ≡ 129) }
     requires tree_stands { TreeStands rows.now }
-    ensures answer { (t : PlanTree) (rest : List (List ℕ)) → rows.now ≡ flatten t ++ rest → lines ≡ length (flatten t) → result ≡ plan_by (with_facts (settings_of head.now) t (read_facts (child_count t) line at (parts 10 (drop at s.now)))) }
-    ensures held { (t : PlanTree) (rest : List (List ℕ)) (x : PlanSheet) → rows.now ≡ flatten t ++ rest → lines ≡ length (flatten t) → with_facts (settings_of head.now) t (read_facts (child_count t) line at (parts 10 (drop at s.now))) ≡ sheet x → PlanHeld x rows.now node.new facts.new xs.new masks.new index.new }
+    ensures answer { (t : PlanTree) (rest : List (List ℕ)) → rows.now ≡ flatten t ++ rest → lines ≡ length (flatten t) → result ≡ plan_by (with_facts (settings_of head.now) t (read_facts (child_count t) place.entry.line place.entry.at (parts 10 (drop place.entry.at place.entry.s.now)))) }
+    ensures held { (t : PlanTree) (rest : List (List ℕ)) (x : PlanSheet) → rows.now ≡ flatten t ++ rest → lines ≡ length (flatten t) → with_facts (settings_of head.now) t (read_facts (child_count t) place.entry.line place.entry.at (parts 10 (drop place.entry.at place.entry.s.now))) ≡ sheet x → PlanHeld x rows.now node.new facts.new xs.new masks.new index.new }
 {
     let worked = remove_dist_changing_operators(rows, 0);
-    let children = children_at(rows, worked);
-    let n = read_fact_lines(
-        s,
-        at,
-        line,
+    // No From goes from u64 to usize.
+    let children = children_at(rows, worked) as usize;
+    let count = read_fact_lines(
+        place,
         children,
         fields,
         node,
@@ -148,9 +116,16 @@ fn read_after_tree(
         &mut *xs,
         &mut *masks,
     )?;
-    judge_plan(
-        head, rows, lines, worked, children, &*facts, &*xs, n, &*masks, index,
-    )
+    let read = LinesRead {
+        rows,
+        worked,
+        children,
+        facts: &*facts,
+        xs: &*xs,
+        count,
+        masks: &*masks,
+    };
+    judge_plan(head, lines, read, index)
 }
 
 // A D sheet, in the rooms lent.
@@ -170,7 +145,12 @@ pub fn read_plan(
     ensures held { (x : PlanSheet) → read_plan s.now ≡ sheet x → PlanHeld x rows.new node.new facts.new xs.new masks.new index.new }
 {
     let t = read_tree_lines(s, &mut *fields, &mut *head, &mut *rows)?;
+    let place = Place {
+        s,
+        at: t.next,
+        line: t.line,
+    };
     read_after_tree(
-        s, t.next, t.line, t.count, fields, &*head, &*rows, node, facts, xs, masks, index,
+        place, t.count, fields, &*head, &*rows, node, facts, xs, masks, index,
     )
 }

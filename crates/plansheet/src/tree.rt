@@ -13,18 +13,20 @@ ghost use Rattle.plansheet.specs.ReadRows.{tree_number, fields_row, rows_by, Lef
 
 use crate::description::TreeShape;
 use crate::operator::{MOST_CHILDREN, operator_read, quick_rows, rule_fits};
+use crate::place::Place;
 use crate::shape::{judge_shape, misfit_refusal};
 use exchange::kind::{REPARTITION, REPARTITION_UNKNOWN};
 use exchange::row::{CHILDREN, Row};
 use linekinds::line::Read;
 use refusals::{Refusal, Refused};
 use text::bounds::fixed_at;
+use text::field::Field;
 
 // A repartition with a limit.
 fn exchange_limited(kind: u64, state: u64) -> bool
     ensures { result ≡ exchange_limited kind state }
 {
-    state != 1 && (kind == REPARTITION || kind == REPARTITION_UNKNOWN)
+    state != Field::Empty.state() && (kind == REPARTITION || kind == REPARTITION_UNKNOWN)
 }
 
 // By a tree line's fields, the lines before it and the place after it.
@@ -44,6 +46,7 @@ fn judge_tree(h: TreeShape, seen: usize, next: usize, fields: &[[u64; 2]]) -> Re
         return Err(Refusal::BeyondSize);
     }
     judge_shape(h.line, next, fields)?;
+    // No From goes from usize to u64.
     if h.rules.len() as u64 <= kind {
         return Err(Refusal::UndefinedCode);
     }
@@ -124,6 +127,7 @@ fn judged_row(
 {
     match tree_line(s, at, seen, h, &mut *fields) {
         Read::Line { count, next } => {
+            // No From goes from usize to u64.
             let row = operator_row(&fields[..count], seen as u64 + 1);
             put_row(rows, seen, row);
             Ok(TreeRow {
@@ -171,32 +175,27 @@ pub struct RowsRead {
 
 // The lines of one tree from a place on, as operators' rows, of which those are stored for which there is room; what follows the tree is left alone.
 pub fn read_tree(
-    s: &[u8],
-    at: usize,
-    line: u64,
+    place: Place,
     h: TreeShape,
     fields: &mut [[u64; 2]],
     rows: &mut [Row],
 ) -> Result<RowsRead, Refused>
-    requires in_bounds { length h.line.bounds.now ≤ length fields.old }
-    requires at_bound { (at ≤ length s.now) × (line ≤ at + 1) }
-    ensures answer { result ≡ rows_by (run_from (tree_by h.entry) 1 s.now line at) }
-    ensures left { Left (operator_rows 1) s.now (run_from (tree_by h.entry) 1 s.now line at) rows.old rows.new }
+    requires { length h.line.bounds.now ≤ length fields.old }
+    ensures answer { result ≡ rows_by (run_from (tree_by h.entry) 1 place.entry.s.now place.entry.line place.entry.at) }
+    ensures left { Left (operator_rows 1) place.entry.s.now (run_from (tree_by h.entry) 1 place.entry.s.now place.entry.line place.entry.at) rows.old rows.new }
 {
     let quick = quick_rows(h, rows.len());
-    let mut p = at;
-    let mut l = line;
+    let mut p = place.at;
+    let mut l = place.line;
     let mut n: usize = 0;
     let mut owed: u64 = 1;
     // No `for`: the lines say themselves how many are still to come.
     while owed != 0 {
-        match tree_row(s, p, n, quick, h, &mut *fields, &mut *rows) {
-            Ok(row) => {
-                owed = owed - 1 + row.children;
-                p = row.next;
-            }
-            Err(refusal) => return Err(refusal.on_line(l)),
-        }
+        let row = tree_row(place.s, p, n, quick, h, &mut *fields, &mut *rows).map_err(
+            |refusal| refusal.on_line(l),
+        )?;
+        owed = owed - 1 + row.children;
+        p = row.next;
         n += 1;
         l += 1;
     }

@@ -38,7 +38,7 @@ pub record Room (p next s count fields : ℕ) : Type 0 where
 
 pub loop-n-init : goal.loop-n-init
 loop-n-init c = let z : c.args.children - 0 ≡ c.args.children = omega arith in
-    (rw z (head_first number_rows _ numbers_made child_line _ _ _ c.args.children _ c.requires.2 c.requires.3), omega arith, refl)
+    (rw z (head_first number_rows _ numbers_made child_line _ _ _ c.args.children _ c.args.place.within c.args.place.numbered), omega arith, refl)
 
 pub child_line-requires : goal.child_line-requires
 child_line-requires c = omega (arith, c.requires.0, c.loop-n.invariant.2)
@@ -52,8 +52,8 @@ returns-in-Refused c = let l = c.loop-n in let h : l.n < c.args.children = c.loo
 
 pub slice_bounds-numbers_of-end : goal.slice_bounds-numbers_of-end
 slice_bounds-numbers_of-end c =
-    let took : let l = c.loop-n in Taken child_line l.n (after c.args.s.now l.p) (line_at 70 c.args.s.now l.p) c.in-Line.count c.in-Line.next = let l = c.loop-n in taken child_line l.n (after c.args.s.now l.p) (line_at 70 c.args.s.now l.p) _ _ (sym c.in-Line.is ∙ c.child_line.ensures.answer l.n) in
-    let room : let l = c.loop-n in Room l.p c.in-Line.next (length c.args.s.now) c.in-Line.count (length c.child_line.new.fields) = let l = c.loop-n in let b = head_next number_rows _ numbers_made child_line _ _ _ _ _ _ _ _ l.invariant.0 _ _ (took) in
+    let took : let l = c.loop-n in Taken child_line l.n (after c.args.place.s.now l.p) (line_at 70 c.args.place.s.now l.p) c.in-Line.count c.in-Line.next = let l = c.loop-n in taken child_line l.n (after c.args.place.s.now l.p) (line_at 70 c.args.place.s.now l.p) _ _ (sym c.in-Line.is ∙ c.child_line.ensures.answer l.n) in
+    let room : let l = c.loop-n in Room l.p c.in-Line.next (length c.args.place.s.now) c.in-Line.count (length c.child_line.new.fields) = let l = c.loop-n in let b = head_next number_rows _ numbers_made child_line _ _ _ _ _ _ _ _ l.invariant.0 _ _ (took) in
     record {
       on = b.0;
       within = b.1;
@@ -64,8 +64,8 @@ slice_bounds-numbers_of-end c =
 
 pub slice_bounds-numbers_of-end-in-Line : goal.slice_bounds-numbers_of-end-in-Line
 slice_bounds-numbers_of-end-in-Line c =
-    let took : let l = c.loop-n in Taken child_line l.n (after c.args.s.now l.p) (line_at 70 c.args.s.now l.p) c.in-Line.count c.in-Line.next = let l = c.loop-n in taken child_line l.n (after c.args.s.now l.p) (line_at 70 c.args.s.now l.p) _ _ (sym c.in-Line.is ∙ c.child_line.ensures.answer l.n) in
-    let room : let l = c.loop-n in Room l.p c.in-Line.next (length c.args.s.now) c.in-Line.count (length c.child_line.new.fields) = let l = c.loop-n in let b = head_next number_rows _ numbers_made child_line _ _ _ _ _ _ _ _ l.invariant.0 _ _ (took) in
+    let took : let l = c.loop-n in Taken child_line l.n (after c.args.place.s.now l.p) (line_at 70 c.args.place.s.now l.p) c.in-Line.count c.in-Line.next = let l = c.loop-n in taken child_line l.n (after c.args.place.s.now l.p) (line_at 70 c.args.place.s.now l.p) _ _ (sym c.in-Line.is ∙ c.child_line.ensures.answer l.n) in
+    let room : let l = c.loop-n in Room l.p c.in-Line.next (length c.args.place.s.now) c.in-Line.count (length c.child_line.new.fields) = let l = c.loop-n in let b = head_next number_rows _ numbers_made child_line _ _ _ _ _ _ _ _ l.invariant.0 _ _ (took) in
     record {
       on = b.0;
       within = b.1;
@@ -76,10 +76,10 @@ slice_bounds-numbers_of-end-in-Line c =
 
 pub numbers_of-requires : goal.numbers_of-requires
 numbers_of-requires c =
-    let took : let l = c.loop-n in Taken child_line l.n (after c.args.s.now l.p) (line_at 70 c.args.s.now l.p) c.in-Line.count c.in-Line.next = let l = c.loop-n in taken child_line l.n (after c.args.s.now l.p) (line_at 70 c.args.s.now l.p) _ _ (sym c.in-Line.is ∙ c.child_line.ensures.answer l.n) in
-    let rows_are : take (c.in-Line.count) c.child_line.new.fields ≡ map row (took).fs = let l = c.loop-n in fine_rows B child_line refl refl l.n _ (took).fs (took).zero 70 c.args.s.now l.p (took).is l.fields _ c.child_line.ensures.stored
+    let took : let l = c.loop-n in Taken child_line l.n (after c.args.place.s.now l.p) (line_at 70 c.args.place.s.now l.p) c.in-Line.count c.in-Line.next = let l = c.loop-n in taken child_line l.n (after c.args.place.s.now l.p) (line_at 70 c.args.place.s.now l.p) _ _ (sym c.in-Line.is ∙ c.child_line.ensures.answer l.n) in
+    let rows_are : take (c.in-Line.count) c.child_line.new.fields ≡ map row (took).fs = let l = c.loop-n in fine_rows B child_line refl refl l.n _ (took).fs (took).zero 70 c.args.place.s.now l.p (took).is l.fields _ c.child_line.ensures.stored
     (omega (arith, l.invariant.2, c.requires.0)) _ (took).counts in
-    let room : let l = c.loop-n in Room l.p c.in-Line.next (length c.args.s.now) c.in-Line.count (length c.child_line.new.fields) = let l = c.loop-n in let b = head_next number_rows _ numbers_made child_line _ _ _ _ _ _ _ _ l.invariant.0 _ _ (took) in
+    let room : let l = c.loop-n in Room l.p c.in-Line.next (length c.args.place.s.now) c.in-Line.count (length c.child_line.new.fields) = let l = c.loop-n in let b = head_next number_rows _ numbers_made child_line _ _ _ _ _ _ _ _ l.invariant.0 _ _ (took) in
     record {
       on = b.0;
       within = b.1;
@@ -93,8 +93,8 @@ bounds-rows-n c = omega (arith, c.requires.1, c.loop-n-test.true, head_long numb
 
 pub overflow_add-l : goal.overflow_add-l
 overflow_add-l c =
-    let took : let l = c.loop-n in Taken child_line l.n (after c.args.s.now l.p) (line_at 70 c.args.s.now l.p) c.in-Line.count c.in-Line.next = let l = c.loop-n in taken child_line l.n (after c.args.s.now l.p) (line_at 70 c.args.s.now l.p) _ _ (sym c.in-Line.is ∙ c.child_line.ensures.answer l.n) in
-    let room : let l = c.loop-n in Room l.p c.in-Line.next (length c.args.s.now) c.in-Line.count (length c.child_line.new.fields) = let l = c.loop-n in let b = head_next number_rows _ numbers_made child_line _ _ _ _ _ _ _ _ l.invariant.0 _ _ (took) in
+    let took : let l = c.loop-n in Taken child_line l.n (after c.args.place.s.now l.p) (line_at 70 c.args.place.s.now l.p) c.in-Line.count c.in-Line.next = let l = c.loop-n in taken child_line l.n (after c.args.place.s.now l.p) (line_at 70 c.args.place.s.now l.p) _ _ (sym c.in-Line.is ∙ c.child_line.ensures.answer l.n) in
+    let room : let l = c.loop-n in Room l.p c.in-Line.next (length c.args.place.s.now) c.in-Line.count (length c.child_line.new.fields) = let l = c.loop-n in let b = head_next number_rows _ numbers_made child_line _ _ _ _ _ _ _ _ l.invariant.0 _ _ (took) in
     record {
       on = b.0;
       within = b.1;
@@ -108,10 +108,10 @@ loop-n-smaller c = omega (arith, c.loop-n-test.true)
 
 pub loop-n-preserved : goal.loop-n-preserved
 loop-n-preserved c =
-    let took : let l = c.loop-n in Taken child_line l.n (after c.args.s.now l.p) (line_at 70 c.args.s.now l.p) c.in-Line.count c.in-Line.next = let l = c.loop-n in taken child_line l.n (after c.args.s.now l.p) (line_at 70 c.args.s.now l.p) _ _ (sym c.in-Line.is ∙ c.child_line.ensures.answer l.n) in
-    let rows_are : take (c.in-Line.count) c.child_line.new.fields ≡ map row (took).fs = let l = c.loop-n in fine_rows B child_line refl refl l.n _ (took).fs (took).zero 70 c.args.s.now l.p (took).is l.fields _ c.child_line.ensures.stored
+    let took : let l = c.loop-n in Taken child_line l.n (after c.args.place.s.now l.p) (line_at 70 c.args.place.s.now l.p) c.in-Line.count c.in-Line.next = let l = c.loop-n in taken child_line l.n (after c.args.place.s.now l.p) (line_at 70 c.args.place.s.now l.p) _ _ (sym c.in-Line.is ∙ c.child_line.ensures.answer l.n) in
+    let rows_are : take (c.in-Line.count) c.child_line.new.fields ≡ map row (took).fs = let l = c.loop-n in fine_rows B child_line refl refl l.n _ (took).fs (took).zero 70 c.args.place.s.now l.p (took).is l.fields _ c.child_line.ensures.stored
     (omega (arith, l.invariant.2, c.requires.0)) _ (took).counts in
-    let room : let l = c.loop-n in Room l.p c.in-Line.next (length c.args.s.now) c.in-Line.count (length c.child_line.new.fields) = let l = c.loop-n in let b = head_next number_rows _ numbers_made child_line _ _ _ _ _ _ _ _ l.invariant.0 _ _ (took) in
+    let room : let l = c.loop-n in Room l.p c.in-Line.next (length c.args.place.s.now) c.in-Line.count (length c.child_line.new.fields) = let l = c.loop-n in let b = head_next number_rows _ numbers_made child_line _ _ _ _ _ _ _ _ l.invariant.0 _ _ (took) in
     record {
       on = b.0;
       within = b.1;

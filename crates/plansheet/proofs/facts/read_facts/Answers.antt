@@ -23,24 +23,24 @@ use Rattle.plansheet.proofs.FineLines.{numbers_made, one_none, one_again, other_
 use Rattle.plansheet.proofs.facts.read_facts.Goals as goal
 
 pub loop-next-init : goal.loop-next-init
-loop-next-init c = (head_first number_rows _ numbers_made fact_line _ _ _ 0 _ c.requires.1 c.requires.2, refl)
+loop-next-init c = (head_first number_rows _ numbers_made fact_line _ _ _ 0 _ c.args.place.within c.args.place.numbered, refl)
 
 pub read_fact-requires : goal.read_fact-requires
-read_fact-requires c = omega (arith, c.requires.0, c.loop-next.invariant.1)
+read_fact-requires c = omega (arith, c.requires, c.loop-next.invariant.1)
 
 abbrev back : Refused → Result RowsRead Refused
 back w = Err w
 
 pub returns-then-eq-clause-answer : goal.returns-then-eq-clause-answer
 returns-then-eq-clause-answer c =
-    let l = c.loop-next in let s = c.args.s.now in
+    let l = c.loop-next in let s = c.args.place.s.now in
     let q = turned fact_line l.n (after s l.p) (line_at 88 s l.p) _ (sym c.in-Refused.is ∙ c.read_fact.ensures.answer l.n) in
     let number : line_number fact_line l.n (after s l.p) (line_at 88 s l.p) ≡ 1 = one_again fact_line l.n (after s l.p) (line_at 88 s l.p) q.1 (sym q.0 ∙ same_wrong c.in-Refused.refusal (sym c.eq.ensures ∙ c.if-eq.true)) in
     (head_done number_rows _ numbers_made fact_line _ _ _ _ _ _ _ _ l.invariant.0 (one_none fact_line l.n (after s l.p) (line_at 88 s l.p) number)).0
 
 pub returns-then-eq-clause-left : goal.returns-then-eq-clause-left
 returns-then-eq-clause-left c =
-    let l = c.loop-next in let s = c.args.s.now in
+    let l = c.loop-next in let s = c.args.place.s.now in
     let q = turned fact_line l.n (after s l.p) (line_at 88 s l.p) _ (sym c.in-Refused.is ∙ c.read_fact.ensures.answer l.n) in
     let number : line_number fact_line l.n (after s l.p) (line_at 88 s l.p) ≡ 1 = one_again fact_line l.n (after s l.p) (line_at 88 s l.p) q.1 (sym q.0 ∙ same_wrong c.in-Refused.refusal (sym c.eq.ensures ∙ c.if-eq.true)) in
     let alone : c.read_fact.new.rows ≡ l.rows = subst (λ (x : Read). FactLeft (line_at 88 s l.p) l.n l.rows x c.read_fact.new.rows) c.in-Refused.is c.read_fact.ensures.stored (same_wrong c.in-Refused.refusal (sym c.eq.ensures ∙ c.if-eq.true)) in
@@ -48,7 +48,7 @@ returns-then-eq-clause-left c =
 
 pub returns-in-Refused-clause-answer : goal.returns-in-Refused-clause-answer
 returns-in-Refused-clause-answer c =
-    let l = c.loop-next in let s = c.args.s.now in
+    let l = c.loop-next in let s = c.args.place.s.now in
     let told = sym c.in-Refused.is ∙ c.read_fact.ensures.answer l.n in
     let q = turned fact_line l.n (after s l.p) (line_at 88 s l.p) _ told in
     let long : length c.read_fact.new.rows ≡ length c.args.rows.now = c.read_fact.auto.rows ∙ head_long number_rows _ numbers_made fact_line _ _ _ _ _ _ _ _ l.invariant.0 in
@@ -57,7 +57,7 @@ returns-in-Refused-clause-answer c =
 
 pub returns-in-Refused-clause-left : goal.returns-in-Refused-clause-left
 returns-in-Refused-clause-left c =
-    let l = c.loop-next in let s = c.args.s.now in
+    let l = c.loop-next in let s = c.args.place.s.now in
     let told = sym c.in-Refused.is ∙ c.read_fact.ensures.answer l.n in
     let q = turned fact_line l.n (after s l.p) (line_at 88 s l.p) _ told in
     let long : length c.read_fact.new.rows ≡ length c.args.rows.now = c.read_fact.auto.rows ∙ head_long number_rows _ numbers_made fact_line _ _ _ _ _ _ _ _ l.invariant.0 in
@@ -66,26 +66,26 @@ returns-in-Refused-clause-left c =
 
 pub overflow_add-n : goal.overflow_add-n
 overflow_add-n c =
-    let took : Taken fact_line c.loop-next.n ((after c.args.s.now c.loop-next.p)) ((line_at 88 c.args.s.now c.loop-next.p)) c.in-Line.count c.in-Line.next = taken fact_line c.loop-next.n ((after c.args.s.now c.loop-next.p)) ((line_at 88 c.args.s.now c.loop-next.p)) _ _ (sym c.in-Line.is ∙ c.read_fact.ensures.answer c.loop-next.n) in
-    let next : (c.loop-next.p < c.in-Line.next) × (c.in-Line.next ≤ length c.args.s.now) = head_next number_rows _ numbers_made fact_line _ _ _ _ _ _ _ _ c.loop-next.invariant.0 _ _ (took) in
+    let took : Taken fact_line c.loop-next.n ((after c.args.place.s.now c.loop-next.p)) ((line_at 88 c.args.place.s.now c.loop-next.p)) c.in-Line.count c.in-Line.next = taken fact_line c.loop-next.n ((after c.args.place.s.now c.loop-next.p)) ((line_at 88 c.args.place.s.now c.loop-next.p)) _ _ (sym c.in-Line.is ∙ c.read_fact.ensures.answer c.loop-next.n) in
+    let next : (c.loop-next.p < c.in-Line.next) × (c.in-Line.next ≤ length c.args.place.s.now) = head_next number_rows _ numbers_made fact_line _ _ _ _ _ _ _ _ c.loop-next.invariant.0 _ _ (took) in
     omega (arith, next, c.loop-next.invariant.0.few)
 
 pub overflow_add-l : goal.overflow_add-l
 overflow_add-l c =
-    let took : Taken fact_line c.loop-next.n ((after c.args.s.now c.loop-next.p)) ((line_at 88 c.args.s.now c.loop-next.p)) c.in-Line.count c.in-Line.next = taken fact_line c.loop-next.n ((after c.args.s.now c.loop-next.p)) ((line_at 88 c.args.s.now c.loop-next.p)) _ _ (sym c.in-Line.is ∙ c.read_fact.ensures.answer c.loop-next.n) in
-    let next : (c.loop-next.p < c.in-Line.next) × (c.in-Line.next ≤ length c.args.s.now) = head_next number_rows _ numbers_made fact_line _ _ _ _ _ _ _ _ c.loop-next.invariant.0 _ _ (took) in
+    let took : Taken fact_line c.loop-next.n ((after c.args.place.s.now c.loop-next.p)) ((line_at 88 c.args.place.s.now c.loop-next.p)) c.in-Line.count c.in-Line.next = taken fact_line c.loop-next.n ((after c.args.place.s.now c.loop-next.p)) ((line_at 88 c.args.place.s.now c.loop-next.p)) _ _ (sym c.in-Line.is ∙ c.read_fact.ensures.answer c.loop-next.n) in
+    let next : (c.loop-next.p < c.in-Line.next) × (c.in-Line.next ≤ length c.args.place.s.now) = head_next number_rows _ numbers_made fact_line _ _ _ _ _ _ _ _ c.loop-next.invariant.0 _ _ (took) in
     omega (arith, next, c.loop-next.invariant.0.lines)
 
 pub loop-next-smaller : goal.loop-next-smaller
 loop-next-smaller c =
-    let took : Taken fact_line c.loop-next.n ((after c.args.s.now c.loop-next.p)) ((line_at 88 c.args.s.now c.loop-next.p)) c.in-Line.count c.in-Line.next = taken fact_line c.loop-next.n ((after c.args.s.now c.loop-next.p)) ((line_at 88 c.args.s.now c.loop-next.p)) _ _ (sym c.in-Line.is ∙ c.read_fact.ensures.answer c.loop-next.n) in
-    let next : (c.loop-next.p < c.in-Line.next) × (c.in-Line.next ≤ length c.args.s.now) = head_next number_rows _ numbers_made fact_line _ _ _ _ _ _ _ _ c.loop-next.invariant.0 _ _ (took) in
+    let took : Taken fact_line c.loop-next.n ((after c.args.place.s.now c.loop-next.p)) ((line_at 88 c.args.place.s.now c.loop-next.p)) c.in-Line.count c.in-Line.next = taken fact_line c.loop-next.n ((after c.args.place.s.now c.loop-next.p)) ((line_at 88 c.args.place.s.now c.loop-next.p)) _ _ (sym c.in-Line.is ∙ c.read_fact.ensures.answer c.loop-next.n) in
+    let next : (c.loop-next.p < c.in-Line.next) × (c.in-Line.next ≤ length c.args.place.s.now) = head_next number_rows _ numbers_made fact_line _ _ _ _ _ _ _ _ c.loop-next.invariant.0 _ _ (took) in
     omega (arith, next)
 
 pub loop-next-preserved : goal.loop-next-preserved
 loop-next-preserved c =
-    let took : Taken fact_line c.loop-next.n ((after c.args.s.now c.loop-next.p)) ((line_at 88 c.args.s.now c.loop-next.p)) c.in-Line.count c.in-Line.next = taken fact_line c.loop-next.n ((after c.args.s.now c.loop-next.p)) ((line_at 88 c.args.s.now c.loop-next.p)) _ _ (sym c.in-Line.is ∙ c.read_fact.ensures.answer c.loop-next.n) in
-    let stored : let l = c.loop-next in c.read_fact.new.rows ≡ set l.rows l.n (values (took).fs) = subst (λ (x : Read). FactLeft ((line_at 88 c.args.s.now c.loop-next.p)) c.loop-next.n c.loop-next.rows x c.read_fact.new.rows) c.in-Line.is c.read_fact.ensures.stored
+    let took : Taken fact_line c.loop-next.n ((after c.args.place.s.now c.loop-next.p)) ((line_at 88 c.args.place.s.now c.loop-next.p)) c.in-Line.count c.in-Line.next = taken fact_line c.loop-next.n ((after c.args.place.s.now c.loop-next.p)) ((line_at 88 c.args.place.s.now c.loop-next.p)) _ _ (sym c.in-Line.is ∙ c.read_fact.ensures.answer c.loop-next.n) in
+    let stored : let l = c.loop-next in c.read_fact.new.rows ≡ set l.rows l.n (values (took).fs) = subst (λ (x : Read). FactLeft ((line_at 88 c.args.place.s.now c.loop-next.p)) c.loop-next.n c.loop-next.rows x c.read_fact.new.rows) c.in-Line.is c.read_fact.ensures.stored
     ∙ ap (λ (x : Option (List Field)). set c.loop-next.rows c.loop-next.n (values (fields_of x))) (took).is in
     let l = c.loop-next in (
       head_more number_rows _ numbers_made fact_line _ _ _ _ _ _ _ _ l.invariant.0 _ _ (took) refl _ (stored) 0 refl,

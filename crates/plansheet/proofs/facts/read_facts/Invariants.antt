@@ -8,7 +8,7 @@ use Rattle.plansheet.proofs.Turns.{from, Head}
 use Rattle.plansheet.proofs.facts.read_facts.Given as goal
 
 abbrev pub invariant-loop-next : goal.invariant-loop-next
-invariant-loop-next l = Head number_rows fact_line l.s (from fact_line l.s 0 0 l.line l.at) l.initial.rows l.rows l.p l.l l.n 0 × (length l.fields ≡ length l.initial.fields)
+invariant-loop-next l = Head number_rows fact_line l.place.s.now (from fact_line l.place.s.now 0 0 l.place.line l.place.at) l.initial.rows l.rows l.p l.l l.n 0 × (length l.fields ≡ length l.initial.fields)
 
 abbrev pub decreases-loop-next : goal.decreases-loop-next
-decreases-loop-next l = length l.s - l.p
+decreases-loop-next l = length l.place.s.now - l.p

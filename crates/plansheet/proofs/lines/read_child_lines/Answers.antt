@@ -21,62 +21,62 @@ back w = Err w
 
 pub returns-in_err-f-clause-answer : goal.returns-in_err-f-clause-answer
 returns-in_err-f-clause-answer c =
-    let a = c.args in let e = turned_run (run_from child_line a.children a.s.now a.line a.at) _ (c.in_err-f.ensures.answer) in
+    let a = c.args in let e = turned_run (run_from child_line a.children a.place.s.now a.place.line a.place.at) _ (c.in_err-f.ensures.answer) in
     let p = err_from_is_err_and c.from_residual.result c.from_residual.ensures.1 in
-    λ b. rw (p.1, p.2) (ap back e.on ∙ ap facts_by (sym (children_back a.s.now a.children a.line a.at b _ _ e.is)))
+    λ b. rw (p.1, p.2) (ap back e.on ∙ ap facts_by (sym (children_back a.place.s.now a.children a.place.line a.place.at b _ _ e.is)))
 
 pub returns-in_err-f-clause-held : goal.returns-in_err-f-clause-held
 returns-in_err-f-clause-held c =
-    let a = c.args in let e = turned_run (run_from child_line a.children a.s.now a.line a.at) _ (c.in_err-f.ensures.answer) in
-    λ b g f. absurd (not_sheet _ _ _ g (children_back a.s.now a.children a.line a.at b _ _ e.is) f)
+    let a = c.args in let e = turned_run (run_from child_line a.children a.place.s.now a.place.line a.place.at) _ (c.in_err-f.ensures.answer) in
+    λ b g f. absurd (not_sheet _ _ _ g (children_back a.place.s.now a.children a.place.line a.place.at b _ _ e.is) f)
 
 pub read_facts-requires : goal.read_facts-requires
 read_facts-requires c =
-    let child : Opened number_rows (c.args.s.now) (run_from child_line c.args.children (c.args.s.now) c.args.line c.args.at) c.args.facts.now c.read_children.new.rows c.in_ok-f.f.count c.in_ok-f.f.next c.in_ok-f.f.line = opened number_rows (c.args.s.now) (run_from child_line c.args.children (c.args.s.now) c.args.line c.args.at) c.args.facts.now _ _
+    let child : Opened number_rows (c.args.place.s.now) (run_from child_line c.args.children (c.args.place.s.now) c.args.place.line c.args.place.at) c.args.facts.now c.read_children.new.rows c.in_ok-f.f.count c.in_ok-f.f.next c.in_ok-f.f.line = opened number_rows (c.args.place.s.now) (run_from child_line c.args.children (c.args.place.s.now) c.args.place.line c.args.place.at) c.args.facts.now _ _
     (c.in_ok-f.ensures.answer) c.in_ok-f.ensures.left in
     let o = (child).leaves in
     (omega (arith, c.requires.1, c.read_children.auto.fields), o.within, o.numbers)
 
 pub returns-in_err-x-clause-answer : goal.returns-in_err-x-clause-answer
 returns-in_err-x-clause-answer c =
-    let child : Opened number_rows (c.args.s.now) (run_from child_line c.args.children (c.args.s.now) c.args.line c.args.at) c.args.facts.now c.read_children.new.rows c.in_ok-f.f.count c.in_ok-f.f.next c.in_ok-f.f.line = opened number_rows (c.args.s.now) (run_from child_line c.args.children (c.args.s.now) c.args.line c.args.at) c.args.facts.now _ _
+    let child : Opened number_rows (c.args.place.s.now) (run_from child_line c.args.children (c.args.place.s.now) c.args.place.line c.args.place.at) c.args.facts.now c.read_children.new.rows c.in_ok-f.f.count c.in_ok-f.f.next c.in_ok-f.f.line = opened number_rows (c.args.place.s.now) (run_from child_line c.args.children (c.args.place.s.now) c.args.place.line c.args.place.at) c.args.facts.now _ _
     (c.in_ok-f.ensures.answer) c.in_ok-f.ensures.left in
-    let e = turned_run (run_from fact_line 0 (c.args.s.now) c.in_ok-f.f.line c.in_ok-f.f.next) _ (c.in_err-x.ensures.answer) in
+    let e = turned_run (run_from fact_line 0 (c.args.place.s.now) c.in_ok-f.f.line c.in_ok-f.f.next) _ (c.in_err-x.ensures.answer) in
     let p = err_from_is_err_and c.from_residual-in_err-x.result c.from_residual-in_err-x.ensures.1 in
-    λ b. rw (p.1, p.2) (ap back e.on ∙ ap facts_by (sym (facts_back (c.args.s.now) c.args.children c.args.line c.args.at b _ _ _ _ _ (child) _ _ e.is)))
+    λ b. rw (p.1, p.2) (ap back e.on ∙ ap facts_by (sym (facts_back (c.args.place.s.now) c.args.children c.args.place.line c.args.place.at b _ _ _ _ _ (child) _ _ e.is)))
 
 pub returns-in_err-x-clause-held : goal.returns-in_err-x-clause-held
 returns-in_err-x-clause-held c =
-    let child : Opened number_rows (c.args.s.now) (run_from child_line c.args.children (c.args.s.now) c.args.line c.args.at) c.args.facts.now c.read_children.new.rows c.in_ok-f.f.count c.in_ok-f.f.next c.in_ok-f.f.line = opened number_rows (c.args.s.now) (run_from child_line c.args.children (c.args.s.now) c.args.line c.args.at) c.args.facts.now _ _
+    let child : Opened number_rows (c.args.place.s.now) (run_from child_line c.args.children (c.args.place.s.now) c.args.place.line c.args.place.at) c.args.facts.now c.read_children.new.rows c.in_ok-f.f.count c.in_ok-f.f.next c.in_ok-f.f.line = opened number_rows (c.args.place.s.now) (run_from child_line c.args.children (c.args.place.s.now) c.args.place.line c.args.place.at) c.args.facts.now _ _
     (c.in_ok-f.ensures.answer) c.in_ok-f.ensures.left in
-    let e = turned_run (run_from fact_line 0 (c.args.s.now) c.in_ok-f.f.line c.in_ok-f.f.next) _ (c.in_err-x.ensures.answer) in
-    λ b g h. absurd (not_sheet _ _ _ g (facts_back (c.args.s.now) c.args.children c.args.line c.args.at b _ _ _ _ _ (child) _ _ e.is) h)
+    let e = turned_run (run_from fact_line 0 (c.args.place.s.now) c.in_ok-f.f.line c.in_ok-f.f.next) _ (c.in_err-x.ensures.answer) in
+    λ b g h. absurd (not_sheet _ _ _ g (facts_back (c.args.place.s.now) c.args.children c.args.place.line c.args.place.at b _ _ _ _ _ (child) _ _ e.is) h)
 
 pub read_masks-requires : goal.read_masks-requires
 read_masks-requires c =
-    let rows : Opened number_rows (c.args.s.now) (run_from fact_line 0 (c.args.s.now) c.in_ok-f.f.line c.in_ok-f.f.next) c.args.xs.now c.read_facts.new.rows c.in_ok-x.x.count c.in_ok-x.x.next c.in_ok-x.x.line = opened number_rows (c.args.s.now) (run_from fact_line 0 (c.args.s.now) c.in_ok-f.f.line c.in_ok-f.f.next) c.args.xs.now _ _
+    let rows : Opened number_rows (c.args.place.s.now) (run_from fact_line 0 (c.args.place.s.now) c.in_ok-f.f.line c.in_ok-f.f.next) c.args.xs.now c.read_facts.new.rows c.in_ok-x.x.count c.in_ok-x.x.next c.in_ok-x.x.line = opened number_rows (c.args.place.s.now) (run_from fact_line 0 (c.args.place.s.now) c.in_ok-f.f.line c.in_ok-f.f.next) c.args.xs.now _ _
     (c.in_ok-x.ensures.answer) c.in_ok-x.ensures.left in
     let x = (rows).leaves in
     (c.requires.0, omega (arith, c.requires.1, c.read_children.auto.fields, c.read_facts.auto.fields), c.requires.3, x.within, x.numbers)
 
 pub returns-clause-answer : goal.returns-clause-answer
 returns-clause-answer c =
-    let child : Opened number_rows (c.args.s.now) (run_from child_line c.args.children (c.args.s.now) c.args.line c.args.at) c.args.facts.now c.read_children.new.rows c.in_ok-f.f.count c.in_ok-f.f.next c.in_ok-f.f.line = opened number_rows (c.args.s.now) (run_from child_line c.args.children (c.args.s.now) c.args.line c.args.at) c.args.facts.now _ _
+    let child : Opened number_rows (c.args.place.s.now) (run_from child_line c.args.children (c.args.place.s.now) c.args.place.line c.args.place.at) c.args.facts.now c.read_children.new.rows c.in_ok-f.f.count c.in_ok-f.f.next c.in_ok-f.f.line = opened number_rows (c.args.place.s.now) (run_from child_line c.args.children (c.args.place.s.now) c.args.place.line c.args.place.at) c.args.facts.now _ _
     (c.in_ok-f.ensures.answer) c.in_ok-f.ensures.left in
-    let rows : Opened number_rows (c.args.s.now) (run_from fact_line 0 (c.args.s.now) c.in_ok-f.f.line c.in_ok-f.f.next) c.args.xs.now c.read_facts.new.rows c.in_ok-x.x.count c.in_ok-x.x.next c.in_ok-x.x.line = opened number_rows (c.args.s.now) (run_from fact_line 0 (c.args.s.now) c.in_ok-f.f.line c.in_ok-f.f.next) c.args.xs.now _ _
+    let rows : Opened number_rows (c.args.place.s.now) (run_from fact_line 0 (c.args.place.s.now) c.in_ok-f.f.line c.in_ok-f.f.next) c.args.xs.now c.read_facts.new.rows c.in_ok-x.x.count c.in_ok-x.x.next c.in_ok-x.x.line = opened number_rows (c.args.place.s.now) (run_from fact_line 0 (c.args.place.s.now) c.in_ok-f.f.line c.in_ok-f.f.next) c.args.xs.now _ _
     (c.in_ok-x.ensures.answer) c.in_ok-x.ensures.left in
     let o = child in
     let x = rows in
-    (λ b. c.read_masks.ensures.answer b o.rs x.rs x.counts ∙ ap facts_by (sym (facts_on (c.args.s.now) c.args.children c.args.line c.args.at b _ _ _ _ _ o _ _ _ _ _ x)))
+    (λ b. c.read_masks.ensures.answer b o.rs x.rs x.counts ∙ ap facts_by (sym (facts_on (c.args.place.s.now) c.args.children c.args.place.line c.args.place.at b _ _ _ _ _ o _ _ _ _ _ x)))
 
 pub returns-clause-held : goal.returns-clause-held
 returns-clause-held c =
-    let child : Opened number_rows (c.args.s.now) (run_from child_line c.args.children (c.args.s.now) c.args.line c.args.at) c.args.facts.now c.read_children.new.rows c.in_ok-f.f.count c.in_ok-f.f.next c.in_ok-f.f.line = opened number_rows (c.args.s.now) (run_from child_line c.args.children (c.args.s.now) c.args.line c.args.at) c.args.facts.now _ _
+    let child : Opened number_rows (c.args.place.s.now) (run_from child_line c.args.children (c.args.place.s.now) c.args.place.line c.args.place.at) c.args.facts.now c.read_children.new.rows c.in_ok-f.f.count c.in_ok-f.f.next c.in_ok-f.f.line = opened number_rows (c.args.place.s.now) (run_from child_line c.args.children (c.args.place.s.now) c.args.place.line c.args.place.at) c.args.facts.now _ _
     (c.in_ok-f.ensures.answer) c.in_ok-f.ensures.left in
-    let rows : Opened number_rows (c.args.s.now) (run_from fact_line 0 (c.args.s.now) c.in_ok-f.f.line c.in_ok-f.f.next) c.args.xs.now c.read_facts.new.rows c.in_ok-x.x.count c.in_ok-x.x.next c.in_ok-x.x.line = opened number_rows (c.args.s.now) (run_from fact_line 0 (c.args.s.now) c.in_ok-f.f.line c.in_ok-f.f.next) c.args.xs.now _ _
+    let rows : Opened number_rows (c.args.place.s.now) (run_from fact_line 0 (c.args.place.s.now) c.in_ok-f.f.line c.in_ok-f.f.next) c.args.xs.now c.read_facts.new.rows c.in_ok-x.x.count c.in_ok-x.x.next c.in_ok-x.x.line = opened number_rows (c.args.place.s.now) (run_from fact_line 0 (c.args.place.s.now) c.in_ok-f.f.line c.in_ok-f.f.next) c.args.xs.now _ _
     (c.in_ok-x.ensures.answer) c.in_ok-x.ensures.left in
     let o = child in
     let x = rows in
-    let n = counted_long child_shape c.args.children 0 c.args.line c.args.at _ o.rs o.ls _ _ o.is in (λ b g h.
-    let k = sym (facts_on (c.args.s.now) c.args.children c.args.line c.args.at b _ _ _ _ _ o _ _ _ _ _ x) ∙ h in
-    children_held c.args.children (c.args.s.now) b c.args.line c.args.at _ _ _ _ _ o _ _ _ _ _ x _ _ n g k (c.read_masks.ensures.held b o.rs x.rs g k))
+    let n = counted_long child_shape c.args.children 0 c.args.place.line c.args.place.at _ o.rs o.ls _ _ o.is in (λ b g h.
+    let k = sym (facts_on (c.args.place.s.now) c.args.children c.args.place.line c.args.place.at b _ _ _ _ _ o _ _ _ _ _ x) ∙ h in
+    children_held c.args.children (c.args.place.s.now) b c.args.place.line c.args.place.at _ _ _ _ _ o _ _ _ _ _ x _ _ n g k (c.read_masks.ensures.held b o.rs x.rs g k))

@@ -45,8 +45,8 @@ returns-in_err-n-clause-answer c =
     (c.remove_dist_changing_operators-worked.result ≡ length (removed t)) × WorkedRooms t c.args.rows.now c.remove_dist_changing_operators-worked.result = λ t rest e. let q : c.remove_dist_changing_operators-worked.result ≡ length (removed t) = omega (arith, c.remove_dist_changing_operators-worked.ensures t rest e) in
     (q, worked_rooms t c.args.rows.now rest c.remove_dist_changing_operators-worked.result e q) in
     let many : (t : Plan) (rest : List (List ℕ)) → c.args.rows.now ≡ flatten t ++ rest → c.children_at-children.result ≡ child_count t = λ t rest e. c.children_at-children.ensures ∙ (worked t rest e).1.children in
-    let a = c.args in let e = facts_turned ((let a = c.args in read_facts c.children_at-children.result a.line a.at (parts 10 (drop a.at a.s.now)))) _ c.in_err-n.ensures.answer in
-    let p = err_from_is_err_and c.from_residual.result c.from_residual.ensures.1 in (λ t rest h l. rw (p.1, p.2) (ap back e.on ∙ ap (λ (y : Reading FactLines). plan_by (with_facts ((settings_of c.args.head.now)) t y)) (sym (ap (λ (k : ℕ). read_facts k a.line a.at (parts 10 (drop a.at a.s.now))) (sym (many t rest h)) ∙ e.is))))
+    let a = c.args in let e = facts_turned ((let a = c.args in read_facts c.children_at-children.result a.place.line a.place.at (parts 10 (drop a.place.at a.place.s.now)))) _ c.in_err-n.ensures.answer in
+    let p = err_from_is_err_and c.from_residual.result c.from_residual.ensures.1 in (λ t rest h l. rw (p.1, p.2) (ap back e.on ∙ ap (λ (y : Reading FactLines). plan_by (with_facts ((settings_of c.args.head.now)) t y)) (sym (ap (λ (k : ℕ). read_facts k a.place.line a.place.at (parts 10 (drop a.place.at a.place.s.now))) (sym (many t rest h)) ∙ e.is))))
 
 pub returns-in_err-n-clause-held : goal.returns-in_err-n-clause-held
 returns-in_err-n-clause-held c =
@@ -54,19 +54,19 @@ returns-in_err-n-clause-held c =
     (c.remove_dist_changing_operators-worked.result ≡ length (removed t)) × WorkedRooms t c.args.rows.now c.remove_dist_changing_operators-worked.result = λ t rest e. let q : c.remove_dist_changing_operators-worked.result ≡ length (removed t) = omega (arith, c.remove_dist_changing_operators-worked.ensures t rest e) in
     (q, worked_rooms t c.args.rows.now rest c.remove_dist_changing_operators-worked.result e q) in
     let many : (t : Plan) (rest : List (List ℕ)) → c.args.rows.now ≡ flatten t ++ rest → c.children_at-children.result ≡ child_count t = λ t rest e. c.children_at-children.ensures ∙ (worked t rest e).1.children in
-    let a = c.args in let e = facts_turned ((let a = c.args in read_facts c.children_at-children.result a.line a.at (parts 10 (drop a.at a.s.now)))) _ c.in_err-n.ensures.answer in
-    (λ t rest x h l f. absurd (after_turned ((settings_of c.args.head.now)) t _ _ _ x (ap (λ (k : ℕ). read_facts k a.line a.at (parts 10 (drop a.at a.s.now))) (sym (many t rest h)) ∙ e.is) f))
+    let a = c.args in let e = facts_turned ((let a = c.args in read_facts c.children_at-children.result a.place.line a.place.at (parts 10 (drop a.place.at a.place.s.now)))) _ c.in_err-n.ensures.answer in
+    (λ t rest x h l f. absurd (after_turned ((settings_of c.args.head.now)) t _ _ _ x (ap (λ (k : ℕ). read_facts k a.place.line a.place.at (parts 10 (drop a.place.at a.place.s.now))) (sym (many t rest h)) ∙ e.is) f))
 
 pub judge_plan-requires-clause-in_bounds : goal.judge_plan-requires-clause-in_bounds
 judge_plan-requires-clause-in_bounds c =
-    let lines : FactsRead ((let a = c.args in read_facts c.children_at-children.result a.line a.at (parts 10 (drop a.at a.s.now)))) c.in_ok-n.n = facts_read ((let a = c.args in read_facts c.children_at-children.result a.line a.at (parts 10 (drop a.at a.s.now)))) _ c.in_ok-n.ensures.answer in
-    let bytes : 28 * c.in_ok-n.n ≤ length c.args.s.now + 1 = let a = c.args in let g = lines in
-    omega (arith, g.counted, facts_few _ g.lines a.line a.at a.s.now g.is) in
-    (c.requires.in_bounds.1, omega (arith, c.requires.in_bounds.3, c.read_fact_lines.auto.facts), (λ z. let q = fact_room (length c.args.s.now) (length c.args.xs.now) _ c.requires.in_bounds.4 (bytes) (omega (arith, c.read_fact_lines.auto.xs)) in omega (arith, c.read_fact_lines.auto.xs)), omega (arith, c.requires.in_bounds.5, c.read_fact_lines.auto.masks), c.requires.in_bounds.6)
+    let lines : FactsRead ((let a = c.args in read_facts c.children_at-children.result a.place.line a.place.at (parts 10 (drop a.place.at a.place.s.now)))) c.in_ok-n.n = facts_read ((let a = c.args in read_facts c.children_at-children.result a.place.line a.place.at (parts 10 (drop a.place.at a.place.s.now)))) _ c.in_ok-n.ensures.answer in
+    let bytes : 28 * c.in_ok-n.n ≤ length c.args.place.s.now + 1 = let a = c.args in let g = lines in
+    omega (arith, g.counted, facts_few _ g.lines a.place.line a.place.at a.place.s.now g.is) in
+    (c.requires.in_bounds.1, omega (arith, c.requires.in_bounds.3, c.read_fact_lines.auto.facts), (λ z. let q = fact_room (length c.args.place.s.now) (length c.args.xs.now) _ c.requires.in_bounds.4 (bytes) (omega (arith, c.read_fact_lines.auto.xs)) in omega (arith, c.read_fact_lines.auto.xs)), omega (arith, c.requires.in_bounds.5, c.read_fact_lines.auto.masks), c.requires.in_bounds.6)
 
 pub judge_plan-requires-clause-filled : goal.judge_plan-requires-clause-filled
 judge_plan-requires-clause-filled c =
-    let lines : FactsRead ((let a = c.args in read_facts c.children_at-children.result a.line a.at (parts 10 (drop a.at a.s.now)))) c.in_ok-n.n = facts_read ((let a = c.args in read_facts c.children_at-children.result a.line a.at (parts 10 (drop a.at a.s.now)))) _ c.in_ok-n.ensures.answer in
+    let lines : FactsRead ((let a = c.args in read_facts c.children_at-children.result a.place.line a.place.at (parts 10 (drop a.place.at a.place.s.now)))) c.in_ok-n.n = facts_read ((let a = c.args in read_facts c.children_at-children.result a.place.line a.place.at (parts 10 (drop a.place.at a.place.s.now)))) _ c.in_ok-n.ensures.answer in
     let worked : (t : Plan) (rest : List (List ℕ)) → c.args.rows.now ≡ flatten t ++ rest →
     (c.remove_dist_changing_operators-worked.result ≡ length (removed t)) × WorkedRooms t c.args.rows.now c.remove_dist_changing_operators-worked.result = λ t rest e. let q : c.remove_dist_changing_operators-worked.result ≡ length (removed t) = omega (arith, c.remove_dist_changing_operators-worked.ensures t rest e) in
     (q, worked_rooms t c.args.rows.now rest c.remove_dist_changing_operators-worked.result e q) in
@@ -80,7 +80,7 @@ judge_plan-requires-clause-filled c =
 
 pub returns-clause-answer : goal.returns-clause-answer
 returns-clause-answer c =
-    let lines : FactsRead ((let a = c.args in read_facts c.children_at-children.result a.line a.at (parts 10 (drop a.at a.s.now)))) c.in_ok-n.n = facts_read ((let a = c.args in read_facts c.children_at-children.result a.line a.at (parts 10 (drop a.at a.s.now)))) _ c.in_ok-n.ensures.answer in
+    let lines : FactsRead ((let a = c.args in read_facts c.children_at-children.result a.place.line a.place.at (parts 10 (drop a.place.at a.place.s.now)))) c.in_ok-n.n = facts_read ((let a = c.args in read_facts c.children_at-children.result a.place.line a.place.at (parts 10 (drop a.place.at a.place.s.now)))) _ c.in_ok-n.ensures.answer in
     let worked : (t : Plan) (rest : List (List ℕ)) → c.args.rows.now ≡ flatten t ++ rest →
     (c.remove_dist_changing_operators-worked.result ≡ length (removed t)) × WorkedRooms t c.args.rows.now c.remove_dist_changing_operators-worked.result = λ t rest e. let q : c.remove_dist_changing_operators-worked.result ≡ length (removed t) = omega (arith, c.remove_dist_changing_operators-worked.ensures t rest e) in
     (q, worked_rooms t c.args.rows.now rest c.remove_dist_changing_operators-worked.result e q) in
@@ -91,14 +91,14 @@ returns-clause-answer c =
     rooms_filled t g.lines c.args.rows.now rest c.remove_dist_changing_operators-worked.result c.children_at-children.result _ c.args.node.now _ c.args.facts.now _ c.args.xs.now _ c.args.masks.now _
     e (worked t rest e).0 (many t rest e) (few) g.counted c.requires.in_bounds.3 c.requires.in_bounds.5 (c.in_ok-n.ensures.held g.lines g.is) in
     let facts_are : (t : Plan) (rest : List (List ℕ)) → c.args.rows.now ≡ flatten t ++ rest →
-    let a = c.args in read_facts (child_count t) a.line a.at (parts 10 (drop a.at a.s.now)) ≡ sheet (lines).lines = λ t rest h. let a = c.args in ap (λ (k : ℕ). read_facts k a.line a.at (parts 10 (drop a.at a.s.now))) (sym (many t rest h)) ∙ (lines).is in
+    let a = c.args in read_facts (child_count t) a.place.line a.place.at (parts 10 (drop a.place.at a.place.s.now)) ≡ sheet (lines).lines = λ t rest h. let a = c.args in ap (λ (k : ℕ). read_facts k a.place.line a.place.at (parts 10 (drop a.place.at a.place.s.now))) (sym (many t rest h)) ∙ (lines).is in
     let g = lines in
     let j = c.judge_plan.ensures in (λ t rest h l.
     j.answer t g.lines l (rooms t rest h) ∙ ap (λ (y : Reading FactLines). plan_by (with_facts ((settings_of c.args.head.now)) t y)) (sym (facts_are t rest h)))
 
 pub returns-clause-held : goal.returns-clause-held
 returns-clause-held c =
-    let lines : FactsRead ((let a = c.args in read_facts c.children_at-children.result a.line a.at (parts 10 (drop a.at a.s.now)))) c.in_ok-n.n = facts_read ((let a = c.args in read_facts c.children_at-children.result a.line a.at (parts 10 (drop a.at a.s.now)))) _ c.in_ok-n.ensures.answer in
+    let lines : FactsRead ((let a = c.args in read_facts c.children_at-children.result a.place.line a.place.at (parts 10 (drop a.place.at a.place.s.now)))) c.in_ok-n.n = facts_read ((let a = c.args in read_facts c.children_at-children.result a.place.line a.place.at (parts 10 (drop a.place.at a.place.s.now)))) _ c.in_ok-n.ensures.answer in
     let worked : (t : Plan) (rest : List (List ℕ)) → c.args.rows.now ≡ flatten t ++ rest →
     (c.remove_dist_changing_operators-worked.result ≡ length (removed t)) × WorkedRooms t c.args.rows.now c.remove_dist_changing_operators-worked.result = λ t rest e. let q : c.remove_dist_changing_operators-worked.result ≡ length (removed t) = omega (arith, c.remove_dist_changing_operators-worked.ensures t rest e) in
     (q, worked_rooms t c.args.rows.now rest c.remove_dist_changing_operators-worked.result e q) in
@@ -109,7 +109,7 @@ returns-clause-held c =
     rooms_filled t g.lines c.args.rows.now rest c.remove_dist_changing_operators-worked.result c.children_at-children.result _ c.args.node.now _ c.args.facts.now _ c.args.xs.now _ c.args.masks.now _
     e (worked t rest e).0 (many t rest e) (few) g.counted c.requires.in_bounds.3 c.requires.in_bounds.5 (c.in_ok-n.ensures.held g.lines g.is) in
     let facts_are : (t : Plan) (rest : List (List ℕ)) → c.args.rows.now ≡ flatten t ++ rest →
-    let a = c.args in read_facts (child_count t) a.line a.at (parts 10 (drop a.at a.s.now)) ≡ sheet (lines).lines = λ t rest h. let a = c.args in ap (λ (k : ℕ). read_facts k a.line a.at (parts 10 (drop a.at a.s.now))) (sym (many t rest h)) ∙ (lines).is in
+    let a = c.args in read_facts (child_count t) a.place.line a.place.at (parts 10 (drop a.place.at a.place.s.now)) ≡ sheet (lines).lines = λ t rest h. let a = c.args in ap (λ (k : ℕ). read_facts k a.place.line a.place.at (parts 10 (drop a.place.at a.place.s.now))) (sym (many t rest h)) ∙ (lines).is in
     let a = c.args in let g = lines in
     let j = c.judge_plan.ensures in (λ t rest x h l f.
     let q = ap (with_facts ((settings_of c.args.head.now)) t) (sym (facts_are t rest h)) ∙ f in

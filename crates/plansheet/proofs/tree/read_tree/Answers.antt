@@ -13,11 +13,18 @@ use Rattle.linekinds.specs.Reading.{read_by}
 use Rattle.plansheet.specs.Shapes.{children_at}
 use Rattle.plansheet.specs.PlanSheets.{operator_row, operator_rows}
 use Rattle.plansheet.specs.Described.{shape_by, tree_by}
-use Rattle.plansheet.proofs.Turns.{Taken, taken, head_first, head_long, head_done, head_refused, head_next, head_more}
+use Rattle.plansheet.proofs.Turns.{Head, on, Taken, taken, head_first, head_long, head_done, head_refused, head_next, head_more}
 use Rattle.plansheet.proofs.FineLines.{tree_small, operators_made}
 use Rattle.plansheet.proofs.PlainTrees.{line_again, refused_again}
-use Rattle.linekinds.specs.declared.line.Read.TheVariants as L
-use Rattle.std.specs.Prelude.{Result, Err}
+use Rattle.std.specs.Prelude.{Result, Ok, Err}
+use Rattle.std.proofs.lemmas.Result.{err_from_is_err_and}
+use Rattle.linekinds.specs.Lines.{Run}
+use Rattle.refusals.specs.declared.Refusal.{Refusal}
+use Rattle.plansheet.specs.declared.description.TreeShape.{TreeShape}
+use Rattle.plansheet.specs.declared.tree.TreeRow.{TreeRow}
+use Rattle.plansheet.specs.PlainTrees.{tree_row_by, number_at}
+use Rattle.plansheet.proofs.Mapped.{mapped_ok, mapped_err}
+use Rattle.std.proofs.Common.{rules}
 use Rattle.refusals.specs.declared.Refused.{Refused}
 use Rattle.plansheet.specs.declared.tree.RowsRead.{RowsRead}
 use Rattle.plansheet.proofs.tree.read_tree.Goals as goal
@@ -25,94 +32,94 @@ use Rattle.plansheet.proofs.tree.read_tree.Goals as goal
 abbrev back : Refused → Result RowsRead Refused
 back w = Err w
 
--- the numbers of the turn
-pub record Room (n most p next s children : ℕ) : Type 0 where
-  pub few : n < most
-  pub small : children ≤ 8
-  pub on : p < next
-  pub within : next ≤ s
+-- ---- a turn
+
+module _ (h : TreeShape) (s : List ℕ) (p n : ℕ) where
+  abbrev here : Option (List Field)
+  here = line_at h.line.letter s p
+
+  -- the line that was read, its children, and the numbers of the turn
+  record Turn (row : TreeRow) : Type 0 where
+    took : Taken (tree_by h) n (after s p) here (length (fields_of here)) row.next
+    children_are : row.children ≡ children_at took.fs
+    few : n < h.most
+    small : row.children ≤ 8
+    on : p < row.next
+    within : row.next ≤ length s
+
+  turn :
+      (whole : Run) (out₀ out : List (List ℕ)) (l owed : ℕ) → Head (operator_rows 1) (tree_by h) s whole out₀ out p l n owed →
+      (r : Result TreeRow Refusal) → r ≡ tree_row_by (number_at (tree_by h) n s p) (after s p) here → (row : TreeRow) → r ≡ Ok row → Turn row
+  turn whole out₀ out l owed held r e row o =
+      let read = line_again (line_number (tree_by h) n (after s p) here) (after s p) here row.children row.next (sym o ∙ e) in
+      let took = taken (tree_by h) n (after s p) here _ _ read.0 in
+      let children_are : row.children ≡ children_at took.fs = read.1 ∙ ap (λ (x : Option (List Field)). children_at (fields_of x)) took.is in
+      let a = tree_small (shape_by h.line) h.rules.now h.most n _ took.fs took.zero in
+      let b = head_next (operator_rows 1) _ operators_made (tree_by h) _ _ _ _ _ _ _ _ held _ _ took in
+      record { took = took; children_are = children_are; few = a.0; small = omega (arith, a.1, children_are); on = b.0; within = b.1 }
 
 pub loop-owed-init : goal.loop-owed-init
-loop-owed-init c = (head_first (operator_rows 1) _ operators_made (tree_by c.args.h) _ _ _ _ _ c.requires.at_bound.0 c.requires.at_bound.1, omega arith, omega arith, refl)
+loop-owed-init c = (head_first (operator_rows 1) _ operators_made (tree_by c.args.h) _ _ _ _ _ c.args.place.within c.args.place.numbered, omega arith, omega arith, refl)
 
 pub tree_row-requires-clause-in_bounds : goal.tree_row-requires-clause-in_bounds
 tree_row-requires-clause-in_bounds c =
-    omega (arith, c.requires.in_bounds, c.loop-owed.invariant.3)
+    omega (arith, c.requires, c.loop-owed.invariant.3)
 
 pub tree_row-requires-clause-plain_shape : goal.tree_row-requires-clause-plain_shape
 tree_row-requires-clause-plain_shape c =
     let rows_long : length c.loop-owed.rows ≡ length c.args.rows.now = head_long (operator_rows 1) _ operators_made (tree_by c.args.h) _ _ _ _ _ _ _ _ c.loop-owed.invariant.0 in
     let q = c.quick_rows-quick.ensures in (q.0, q.1, omega (arith, q.2, rows_long))
 
-pub shape_of-fields-in-Err : goal.shape_of-fields-in-Err
-shape_of-fields-in-Err c = omega (arith, c.loop-owed.invariant.3, c.tree_row.auto.fields)
+pub returns-in_err-row-clause-answer : goal.returns-in_err-row-clause-answer
+returns-in_err-row-clause-answer c =
+    let l = c.loop-owed in let a = c.args in
+    let was = mapped_err _ _ _ c.map_err.ensures.cases _ c.in_err-row.was in
+    let both = head_refused (operator_rows 1) _ operators_made (tree_by a.h) _ _ _ _ _ _ _ _ l.invariant.0 (ne_eqb _ _ c.loop-owed-test.true) was.0
+    (refused_again (line_number (tree_by a.h) l.n (after a.place.s.now l.p) (line_at a.h.line.letter a.place.s.now l.p)) (after a.place.s.now l.p) (line_at a.h.line.letter a.place.s.now l.p) _ (sym was.1 ∙ c.tree_row.ensures.answer))
+    c.tree_row.new.rows (c.tree_row.auto.rows ∙ head_long (operator_rows 1) _ operators_made (tree_by a.h) _ _ _ _ _ _ _ _ l.invariant.0) in
+    let p = err_from_is_err_and c.from_residual.result c.from_residual.ensures.1 in
+    let is : c.in_err-row.field-0.0 ≡ on was.0 l.l = search (rules, was.2) in
+    rw (p.1, p.2, is) both.0
 
-pub shape_of-rows-in-Err : goal.shape_of-rows-in-Err
-shape_of-rows-in-Err c =
-    let rows_long : length c.loop-owed.rows ≡ length c.args.rows.now = head_long (operator_rows 1) _ operators_made (tree_by c.args.h) _ _ _ _ _ _ _ _ c.loop-owed.invariant.0 in
-    omega (arith, rows_long, c.tree_row.auto.rows)
-
-pub returns-in-Err : goal.returns-in-Err
-returns-in-Err c =
-    let rows_long : length c.loop-owed.rows ≡ length c.args.rows.now = head_long (operator_rows 1) _ operators_made (tree_by c.args.h) _ _ _ _ _ _ _ _ c.loop-owed.invariant.0 in
-    let both = head_refused (operator_rows 1) _ operators_made (tree_by c.args.h) _ _ _ _ _ _ _ _ c.loop-owed.invariant.0 (ne_eqb _ _ c.loop-owed-test.true) _
-    (refused_again (line_number (tree_by c.args.h) c.loop-owed.n ((after c.args.s.now c.loop-owed.p)) ((line_at c.args.h.line.letter c.args.s.now c.loop-owed.p))) ((after c.args.s.now c.loop-owed.p)) ((line_at c.args.h.line.letter c.args.s.now c.loop-owed.p)) _ (sym c.in-Err.is ∙ c.tree_row.ensures.answer))
-    _ (omega (arith, rows_long, c.tree_row.auto.rows)) in record { answer = ap back c.on_line.ensures ∙ both.0; left = both.1 }
+pub returns-in_err-row-clause-left : goal.returns-in_err-row-clause-left
+returns-in_err-row-clause-left c =
+    let l = c.loop-owed in let a = c.args in
+    let was = mapped_err _ _ _ c.map_err.ensures.cases _ c.in_err-row.was in
+    let both = head_refused (operator_rows 1) _ operators_made (tree_by a.h) _ _ _ _ _ _ _ _ l.invariant.0 (ne_eqb _ _ c.loop-owed-test.true) was.0
+    (refused_again (line_number (tree_by a.h) l.n (after a.place.s.now l.p) (line_at a.h.line.letter a.place.s.now l.p)) (after a.place.s.now l.p) (line_at a.h.line.letter a.place.s.now l.p) _ (sym was.1 ∙ c.tree_row.ensures.answer))
+    c.tree_row.new.rows (c.tree_row.auto.rows ∙ head_long (operator_rows 1) _ operators_made (tree_by a.h) _ _ _ _ _ _ _ _ l.invariant.0) in
+    both.1
 
 pub overflow_add-owed : goal.overflow_add-owed
 overflow_add-owed c =
-    let read : (L.Line (length (fields_of ((line_at c.args.h.line.letter c.args.s.now c.loop-owed.p)))) c.in-Ok.row.next ≡ read_by (line_number (tree_by c.args.h) c.loop-owed.n ((after c.args.s.now c.loop-owed.p)) ((line_at c.args.h.line.letter c.args.s.now c.loop-owed.p))) ((after c.args.s.now c.loop-owed.p)) ((line_at c.args.h.line.letter c.args.s.now c.loop-owed.p))) × (c.in-Ok.row.children ≡ children_at (fields_of ((line_at c.args.h.line.letter c.args.s.now c.loop-owed.p)))) = line_again (line_number (tree_by c.args.h) c.loop-owed.n ((after c.args.s.now c.loop-owed.p)) ((line_at c.args.h.line.letter c.args.s.now c.loop-owed.p))) ((after c.args.s.now c.loop-owed.p)) ((line_at c.args.h.line.letter c.args.s.now c.loop-owed.p)) _ _ (sym c.in-Ok.is ∙ c.tree_row.ensures.answer) in
-    let took : Taken (tree_by c.args.h) c.loop-owed.n ((after c.args.s.now c.loop-owed.p)) ((line_at c.args.h.line.letter c.args.s.now c.loop-owed.p)) (length (fields_of ((line_at c.args.h.line.letter c.args.s.now c.loop-owed.p)))) c.in-Ok.row.next = taken (tree_by c.args.h) c.loop-owed.n ((after c.args.s.now c.loop-owed.p)) ((line_at c.args.h.line.letter c.args.s.now c.loop-owed.p)) _ _ (read).0 in
-    let children_are : c.in-Ok.row.children ≡ children_at (took).fs = (read).1 ∙ ap (λ (x : Option (List Field)). children_at (fields_of x)) (took).is in
-    let room : let l = c.loop-owed in Room l.n c.args.h.most l.p c.in-Ok.row.next (length c.args.s.now) c.in-Ok.row.children = let l = c.loop-owed in let a = tree_small (shape_by c.args.h.line) c.args.h.rules.now c.args.h.most l.n _ (took).fs (took).zero in
-    let b = head_next (operator_rows 1) _ operators_made (tree_by c.args.h) _ _ _ _ _ _ _ _ l.invariant.0 _ _ (took) in
-    record { few = a.0; small = omega (arith, a.1, children_are); on = b.0; within = b.1 } in
-    omega (arith, room, c.args.h.few, c.requires.at_bound, c.loop-owed.invariant.2)
+    let l = c.loop-owed in let t = turn c.args.h c.args.place.s.now l.p l.n _ _ _ _ _ l.invariant.0 c.tree_row.result c.tree_row.ensures.answer c.in_ok-row.row (mapped_ok _ _ _ c.map_err.ensures.cases _ c.in_ok-row.was) in
+    omega (arith, t, c.args.h.few, c.args.place, l.invariant.2)
 
 pub overflow_add-n : goal.overflow_add-n
 overflow_add-n c =
-    let read : (L.Line (length (fields_of ((line_at c.args.h.line.letter c.args.s.now c.loop-owed.p)))) c.in-Ok.row.next ≡ read_by (line_number (tree_by c.args.h) c.loop-owed.n ((after c.args.s.now c.loop-owed.p)) ((line_at c.args.h.line.letter c.args.s.now c.loop-owed.p))) ((after c.args.s.now c.loop-owed.p)) ((line_at c.args.h.line.letter c.args.s.now c.loop-owed.p))) × (c.in-Ok.row.children ≡ children_at (fields_of ((line_at c.args.h.line.letter c.args.s.now c.loop-owed.p)))) = line_again (line_number (tree_by c.args.h) c.loop-owed.n ((after c.args.s.now c.loop-owed.p)) ((line_at c.args.h.line.letter c.args.s.now c.loop-owed.p))) ((after c.args.s.now c.loop-owed.p)) ((line_at c.args.h.line.letter c.args.s.now c.loop-owed.p)) _ _ (sym c.in-Ok.is ∙ c.tree_row.ensures.answer) in
-    let took : Taken (tree_by c.args.h) c.loop-owed.n ((after c.args.s.now c.loop-owed.p)) ((line_at c.args.h.line.letter c.args.s.now c.loop-owed.p)) (length (fields_of ((line_at c.args.h.line.letter c.args.s.now c.loop-owed.p)))) c.in-Ok.row.next = taken (tree_by c.args.h) c.loop-owed.n ((after c.args.s.now c.loop-owed.p)) ((line_at c.args.h.line.letter c.args.s.now c.loop-owed.p)) _ _ (read).0 in
-    let children_are : c.in-Ok.row.children ≡ children_at (took).fs = (read).1 ∙ ap (λ (x : Option (List Field)). children_at (fields_of x)) (took).is in
-    let room : let l = c.loop-owed in Room l.n c.args.h.most l.p c.in-Ok.row.next (length c.args.s.now) c.in-Ok.row.children = let l = c.loop-owed in let a = tree_small (shape_by c.args.h.line) c.args.h.rules.now c.args.h.most l.n _ (took).fs (took).zero in
-    let b = head_next (operator_rows 1) _ operators_made (tree_by c.args.h) _ _ _ _ _ _ _ _ l.invariant.0 _ _ (took) in
-    record { few = a.0; small = omega (arith, a.1, children_are); on = b.0; within = b.1 } in
-    omega (arith, room, c.args.h.few, c.requires.at_bound)
+    let l = c.loop-owed in let t = turn c.args.h c.args.place.s.now l.p l.n _ _ _ _ _ l.invariant.0 c.tree_row.result c.tree_row.ensures.answer c.in_ok-row.row (mapped_ok _ _ _ c.map_err.ensures.cases _ c.in_ok-row.was) in
+    omega (arith, t, c.args.h.few, c.args.place)
 
 pub overflow_add-l : goal.overflow_add-l
 overflow_add-l c =
-    let read : (L.Line (length (fields_of ((line_at c.args.h.line.letter c.args.s.now c.loop-owed.p)))) c.in-Ok.row.next ≡ read_by (line_number (tree_by c.args.h) c.loop-owed.n ((after c.args.s.now c.loop-owed.p)) ((line_at c.args.h.line.letter c.args.s.now c.loop-owed.p))) ((after c.args.s.now c.loop-owed.p)) ((line_at c.args.h.line.letter c.args.s.now c.loop-owed.p))) × (c.in-Ok.row.children ≡ children_at (fields_of ((line_at c.args.h.line.letter c.args.s.now c.loop-owed.p)))) = line_again (line_number (tree_by c.args.h) c.loop-owed.n ((after c.args.s.now c.loop-owed.p)) ((line_at c.args.h.line.letter c.args.s.now c.loop-owed.p))) ((after c.args.s.now c.loop-owed.p)) ((line_at c.args.h.line.letter c.args.s.now c.loop-owed.p)) _ _ (sym c.in-Ok.is ∙ c.tree_row.ensures.answer) in
-    let took : Taken (tree_by c.args.h) c.loop-owed.n ((after c.args.s.now c.loop-owed.p)) ((line_at c.args.h.line.letter c.args.s.now c.loop-owed.p)) (length (fields_of ((line_at c.args.h.line.letter c.args.s.now c.loop-owed.p)))) c.in-Ok.row.next = taken (tree_by c.args.h) c.loop-owed.n ((after c.args.s.now c.loop-owed.p)) ((line_at c.args.h.line.letter c.args.s.now c.loop-owed.p)) _ _ (read).0 in
-    let children_are : c.in-Ok.row.children ≡ children_at (took).fs = (read).1 ∙ ap (λ (x : Option (List Field)). children_at (fields_of x)) (took).is in
-    let room : let l = c.loop-owed in Room l.n c.args.h.most l.p c.in-Ok.row.next (length c.args.s.now) c.in-Ok.row.children = let l = c.loop-owed in let a = tree_small (shape_by c.args.h.line) c.args.h.rules.now c.args.h.most l.n _ (took).fs (took).zero in
-    let b = head_next (operator_rows 1) _ operators_made (tree_by c.args.h) _ _ _ _ _ _ _ _ l.invariant.0 _ _ (took) in
-    record { few = a.0; small = omega (arith, a.1, children_are); on = b.0; within = b.1 } in
-    omega (arith, room, c.loop-owed.invariant.0.lines)
+    let l = c.loop-owed in let t = turn c.args.h c.args.place.s.now l.p l.n _ _ _ _ _ l.invariant.0 c.tree_row.result c.tree_row.ensures.answer c.in_ok-row.row (mapped_ok _ _ _ c.map_err.ensures.cases _ c.in_ok-row.was) in
+    omega (arith, t, l.invariant.0.lines)
 
 pub loop-owed-smaller : goal.loop-owed-smaller
 loop-owed-smaller c =
-    let read : (L.Line (length (fields_of ((line_at c.args.h.line.letter c.args.s.now c.loop-owed.p)))) c.in-Ok.row.next ≡ read_by (line_number (tree_by c.args.h) c.loop-owed.n ((after c.args.s.now c.loop-owed.p)) ((line_at c.args.h.line.letter c.args.s.now c.loop-owed.p))) ((after c.args.s.now c.loop-owed.p)) ((line_at c.args.h.line.letter c.args.s.now c.loop-owed.p))) × (c.in-Ok.row.children ≡ children_at (fields_of ((line_at c.args.h.line.letter c.args.s.now c.loop-owed.p)))) = line_again (line_number (tree_by c.args.h) c.loop-owed.n ((after c.args.s.now c.loop-owed.p)) ((line_at c.args.h.line.letter c.args.s.now c.loop-owed.p))) ((after c.args.s.now c.loop-owed.p)) ((line_at c.args.h.line.letter c.args.s.now c.loop-owed.p)) _ _ (sym c.in-Ok.is ∙ c.tree_row.ensures.answer) in
-    let took : Taken (tree_by c.args.h) c.loop-owed.n ((after c.args.s.now c.loop-owed.p)) ((line_at c.args.h.line.letter c.args.s.now c.loop-owed.p)) (length (fields_of ((line_at c.args.h.line.letter c.args.s.now c.loop-owed.p)))) c.in-Ok.row.next = taken (tree_by c.args.h) c.loop-owed.n ((after c.args.s.now c.loop-owed.p)) ((line_at c.args.h.line.letter c.args.s.now c.loop-owed.p)) _ _ (read).0 in
-    let children_are : c.in-Ok.row.children ≡ children_at (took).fs = (read).1 ∙ ap (λ (x : Option (List Field)). children_at (fields_of x)) (took).is in
-    let room : let l = c.loop-owed in Room l.n c.args.h.most l.p c.in-Ok.row.next (length c.args.s.now) c.in-Ok.row.children = let l = c.loop-owed in let a = tree_small (shape_by c.args.h.line) c.args.h.rules.now c.args.h.most l.n _ (took).fs (took).zero in
-    let b = head_next (operator_rows 1) _ operators_made (tree_by c.args.h) _ _ _ _ _ _ _ _ l.invariant.0 _ _ (took) in
-    record { few = a.0; small = omega (arith, a.1, children_are); on = b.0; within = b.1 } in
-    omega (arith, room)
+    let l = c.loop-owed in let t = turn c.args.h c.args.place.s.now l.p l.n _ _ _ _ _ l.invariant.0 c.tree_row.result c.tree_row.ensures.answer c.in_ok-row.row (mapped_ok _ _ _ c.map_err.ensures.cases _ c.in_ok-row.was) in
+    omega (arith, t)
 
 pub loop-owed-preserved : goal.loop-owed-preserved
 loop-owed-preserved c =
-    let read : (L.Line (length (fields_of ((line_at c.args.h.line.letter c.args.s.now c.loop-owed.p)))) c.in-Ok.row.next ≡ read_by (line_number (tree_by c.args.h) c.loop-owed.n ((after c.args.s.now c.loop-owed.p)) ((line_at c.args.h.line.letter c.args.s.now c.loop-owed.p))) ((after c.args.s.now c.loop-owed.p)) ((line_at c.args.h.line.letter c.args.s.now c.loop-owed.p))) × (c.in-Ok.row.children ≡ children_at (fields_of ((line_at c.args.h.line.letter c.args.s.now c.loop-owed.p)))) = line_again (line_number (tree_by c.args.h) c.loop-owed.n ((after c.args.s.now c.loop-owed.p)) ((line_at c.args.h.line.letter c.args.s.now c.loop-owed.p))) ((after c.args.s.now c.loop-owed.p)) ((line_at c.args.h.line.letter c.args.s.now c.loop-owed.p)) _ _ (sym c.in-Ok.is ∙ c.tree_row.ensures.answer) in
-    let took : Taken (tree_by c.args.h) c.loop-owed.n ((after c.args.s.now c.loop-owed.p)) ((line_at c.args.h.line.letter c.args.s.now c.loop-owed.p)) (length (fields_of ((line_at c.args.h.line.letter c.args.s.now c.loop-owed.p)))) c.in-Ok.row.next = taken (tree_by c.args.h) c.loop-owed.n ((after c.args.s.now c.loop-owed.p)) ((line_at c.args.h.line.letter c.args.s.now c.loop-owed.p)) _ _ (read).0 in
-    let stored : let l = c.loop-owed in c.tree_row.new.rows ≡ set l.rows l.n (operator_row (l.n + 1) (took).fs) = c.tree_row.ensures.stored (ap (line_number (tree_by c.args.h) c.loop-owed.n ((after c.args.s.now c.loop-owed.p))) (took).is ∙ (took).zero)
-    ∙ ap (λ (x : Option (List Field)). set c.loop-owed.rows c.loop-owed.n (operator_row (c.loop-owed.n + 1) (fields_of x))) (took).is in
-    let children_are : c.in-Ok.row.children ≡ children_at (took).fs = (read).1 ∙ ap (λ (x : Option (List Field)). children_at (fields_of x)) (took).is in
-    let room : let l = c.loop-owed in Room l.n c.args.h.most l.p c.in-Ok.row.next (length c.args.s.now) c.in-Ok.row.children = let l = c.loop-owed in let a = tree_small (shape_by c.args.h.line) c.args.h.rules.now c.args.h.most l.n _ (took).fs (took).zero in
-    let b = head_next (operator_rows 1) _ operators_made (tree_by c.args.h) _ _ _ _ _ _ _ _ l.invariant.0 _ _ (took) in
-    record { few = a.0; small = omega (arith, a.1, children_are); on = b.0; within = b.1 } in
-    let l = c.loop-owed in (
-      head_more (operator_rows 1) _ operators_made (tree_by c.args.h) _ _ _ _ _ _ _ _ l.invariant.0 _ _ (took) (ne_eqb _ _ c.loop-owed-test.true) _ (stored) _ (ap (λ (n : ℕ). l.owed - 1 + n) (children_are)),
-      omega (arith, room),
-      omega (arith, room, l.invariant.2),
+    let l = c.loop-owed in let t = turn c.args.h c.args.place.s.now l.p l.n _ _ _ _ _ l.invariant.0 c.tree_row.result c.tree_row.ensures.answer c.in_ok-row.row (mapped_ok _ _ _ c.map_err.ensures.cases _ c.in_ok-row.was) in
+    let took = t.took in
+    let stored : c.tree_row.new.rows ≡ set l.rows l.n (operator_row (l.n + 1) took.fs) =
+    c.tree_row.ensures.stored (ap (line_number (tree_by c.args.h) l.n (after c.args.place.s.now l.p)) took.is ∙ took.zero)
+    ∙ ap (λ (x : Option (List Field)). set l.rows l.n (operator_row (l.n + 1) (fields_of x))) took.is in (
+      head_more (operator_rows 1) _ operators_made (tree_by c.args.h) _ _ _ _ _ _ _ _ l.invariant.0 _ _ took (ne_eqb _ _ c.loop-owed-test.true) _ stored _ (ap (λ (n : ℕ). l.owed - 1 + n) t.children_are),
+      omega (arith, t),
+      omega (arith, t, l.invariant.2),
       omega (arith, l.invariant.3, c.tree_row.auto.fields),
     )
 

@@ -10,7 +10,7 @@ use Rattle.plansheet.proofs.tree.read_tree.Given as goal
 
 abbrev pub invariant-loop-owed : goal.invariant-loop-owed
 invariant-loop-owed l = let k : Kind = tree_by l.h in
-    Head (operator_rows 1) k l.s (from k l.s 1 0 l.line l.at) l.initial.rows l.rows l.p l.l l.n l.owed × (l.n ≤ l.h.most) × (l.owed ≤ 1 + 8 * l.n) × (length l.fields ≡ length l.initial.fields)
+    Head (operator_rows 1) k l.place.s.now (from k l.place.s.now 1 0 l.place.line l.place.at) l.initial.rows l.rows l.p l.l l.n l.owed × (l.n ≤ l.h.most) × (l.owed ≤ 1 + 8 * l.n) × (length l.fields ≡ length l.initial.fields)
 
 abbrev pub decreases-loop-owed : goal.decreases-loop-owed
-decreases-loop-owed l = length l.s - l.p
+decreases-loop-owed l = length l.place.s.now - l.p
