@@ -8,6 +8,7 @@ use Prim.Native.Nat.{ℕ, suc, ◌≤◌, ◌<◌}
 use native.Mathlib.Omega.{arith}
 use lib.Dec.{eqb}
 use lib.ListN.{length, drop, take, length-drop, length-map, drop_of_length-le}
+use Rattle.std.proofs.Common.{length-take}
 use borrow.Author.Tests.{ne_eqb}
 use Rattle.text.specs.declared.field.Field.{Field}
 use Rattle.text.specs.Text.{onto, parts, line, line_fields, line_at, after, row}
@@ -27,7 +28,7 @@ use Rattle.std.specs.Prelude.{Ok, Err}
 use Rattle.refusals.specs.declared.Refusal.{Refusal}
 use Rattle.refusals.specs.declared.Refused.{Refused}
 use Rattle.sheet.specs.SheetLines.{refused_on}
-use Rattle.plansheet.proofs.Turns.{Taken, turned, rows_line, rows_done}
+use Rattle.plansheet.proofs.Turns.{Taken, taken, turned, rows_line, rows_done}
 use Rattle.plansheet.proofs.FineLines.{fine_long, fine_rows}
 
 optional_at : (b : Bool) → eqb (cond b 1 0) 1 ≡ b
@@ -78,6 +79,27 @@ module _ (h : Shape) (s : List ℕ) (n p : ℕ) where
 
     pub single_part : (out out' : List (List ℕ)) → out' ≡ stored_in out (line_fields h.letter (line (drop p s))) → length h.heads ≤ length out → length (take count out') ≡ length h.heads
     single_part out out' stored room = ap length (single_rows out out' stored room) ∙ length-map t.fs row ∙ sym t.counts ∙ single_long
+
+-- the one line that was read, as it stands in the rows lent
+pub record Single (h : Shape) (s : List ℕ) (p count next : ℕ) (out' : List (List ℕ)) : Type 0 where
+  pub took : Taken (fixed_line h) 0 (after s p) (line_at h.letter s p) count next
+  pub long : count ≡ length h.heads
+  pub on : p < next
+  pub within : next ≤ length s
+  pub part : length (take count out') ≡ length h.heads
+  pub vals : row_values (take count out') ≡ values took.fs
+  pub fits : count ≤ length out'
+
+pub single :
+    (h : Shape) (s : List ℕ) (p count next : ℕ) (out out' : List (List ℕ)) →
+    L.Line count next ≡ read_by (line_number (fixed_line h) 0 (after s p) (line_at h.letter s p)) (after s p) (line_at h.letter s p) →
+    out' ≡ stored_in out (line_fields h.letter (line (drop p s))) → length h.heads ≤ length out → Single h s p count next out'
+single h s p count next out out' e stored room =
+    let t = taken (fixed_line h) 0 (after s p) (line_at h.letter s p) count next e in
+    let o = single_next h s 0 p count next t in
+    let l = single_long h s 0 p count next t in
+    let k = single_part h s 0 p count next t out out' stored room in
+    record { took = t; long = l; on = o.0; within = o.1; part = k; vals = single_values h s 0 p count next t out out' stored room; fits = omega (arith, k, l, length-take count out') }
 
 -- ---- what follows the last line
 

@@ -8,13 +8,13 @@ use native.Mathlib.Omega.{arith}
 use Rattle.plansheet.specs.PlanLines.{child_shape, child_line, fact_line}
 use Rattle.plansheet.specs.ReadRows.{number_rows, run_from}
 use Rattle.plansheet.specs.ReadPlans.{facts_by}
-use Rattle.plansheet.proofs.Singles.{Opened, opened, turned_run}
+use Rattle.plansheet.proofs.Singles.{opened, turned_run}
 use Rattle.plansheet.proofs.CountedRuns.{counted_long}
 use Rattle.plansheet.proofs.Wholes.{children_back, facts_back, facts_on, children_held, not_sheet}
 use Rattle.plansheet.proofs.lines.read_child_lines.Goals as goal
 
 pub read_children-requires : goal.read_children-requires
-read_children-requires c = (c.requires.1, omega (arith, c.requires.0, c.requires.2), c.requires.4, c.requires.5)
+read_children-requires c = (c.requires.1, omega (arith, c.requires.0, c.requires.2))
 
 abbrev back : Refused → Result ℕ Refused
 back w = Err w
@@ -30,53 +30,47 @@ returns-in_err-f-clause-held c =
     let a = c.args in let e = turned_run (run_from child_line a.children a.place.s.now a.place.line a.place.at) _ (c.in_err-f.ensures.answer) in
     λ b g f. absurd (not_sheet _ _ _ g (children_back a.place.s.now a.children a.place.line a.place.at b _ _ e.is) f)
 
+pub invariant_of-at_facts : goal.invariant_of-at_facts
+invariant_of-at_facts c =
+    let a = c.args in let child = opened number_rows a.place.s.now (run_from child_line a.children a.place.s.now a.place.line a.place.at) a.facts.now _ _ c.in_ok-f.ensures.answer c.in_ok-f.ensures.left in
+    record { within = child.leaves.within; numbered = child.leaves.numbers }
+
 pub read_facts-requires : goal.read_facts-requires
 read_facts-requires c =
-    let child : Opened number_rows (c.args.place.s.now) (run_from child_line c.args.children (c.args.place.s.now) c.args.place.line c.args.place.at) c.args.facts.now c.read_children.new.rows c.in_ok-f.f.count c.in_ok-f.f.next c.in_ok-f.f.line = opened number_rows (c.args.place.s.now) (run_from child_line c.args.children (c.args.place.s.now) c.args.place.line c.args.place.at) c.args.facts.now _ _
-    (c.in_ok-f.ensures.answer) c.in_ok-f.ensures.left in
-    let o = (child).leaves in
-    (omega (arith, c.requires.1, c.read_children.auto.fields), o.within, o.numbers)
+    omega (arith, c.requires.1, c.read_children.auto.fields)
 
 pub returns-in_err-x-clause-answer : goal.returns-in_err-x-clause-answer
 returns-in_err-x-clause-answer c =
-    let child : Opened number_rows (c.args.place.s.now) (run_from child_line c.args.children (c.args.place.s.now) c.args.place.line c.args.place.at) c.args.facts.now c.read_children.new.rows c.in_ok-f.f.count c.in_ok-f.f.next c.in_ok-f.f.line = opened number_rows (c.args.place.s.now) (run_from child_line c.args.children (c.args.place.s.now) c.args.place.line c.args.place.at) c.args.facts.now _ _
-    (c.in_ok-f.ensures.answer) c.in_ok-f.ensures.left in
-    let e = turned_run (run_from fact_line 0 (c.args.place.s.now) c.in_ok-f.f.line c.in_ok-f.f.next) _ (c.in_err-x.ensures.answer) in
+    let a = c.args in let child = opened number_rows a.place.s.now (run_from child_line a.children a.place.s.now a.place.line a.place.at) a.facts.now _ _ c.in_ok-f.ensures.answer c.in_ok-f.ensures.left in
+    let e = turned_run (run_from fact_line 0 a.place.s.now c.in_ok-f.f.line c.in_ok-f.f.next) _ c.in_err-x.ensures.answer in
     let p = err_from_is_err_and c.from_residual-in_err-x.result c.from_residual-in_err-x.ensures.1 in
-    λ b. rw (p.1, p.2) (ap back e.on ∙ ap facts_by (sym (facts_back (c.args.place.s.now) c.args.children c.args.place.line c.args.place.at b _ _ _ _ _ (child) _ _ e.is)))
+    λ b. rw (p.1, p.2) (ap back e.on ∙ ap facts_by (sym (facts_back a.place.s.now a.children a.place.line a.place.at b _ _ _ _ _ child _ _ e.is)))
 
 pub returns-in_err-x-clause-held : goal.returns-in_err-x-clause-held
 returns-in_err-x-clause-held c =
-    let child : Opened number_rows (c.args.place.s.now) (run_from child_line c.args.children (c.args.place.s.now) c.args.place.line c.args.place.at) c.args.facts.now c.read_children.new.rows c.in_ok-f.f.count c.in_ok-f.f.next c.in_ok-f.f.line = opened number_rows (c.args.place.s.now) (run_from child_line c.args.children (c.args.place.s.now) c.args.place.line c.args.place.at) c.args.facts.now _ _
-    (c.in_ok-f.ensures.answer) c.in_ok-f.ensures.left in
-    let e = turned_run (run_from fact_line 0 (c.args.place.s.now) c.in_ok-f.f.line c.in_ok-f.f.next) _ (c.in_err-x.ensures.answer) in
-    λ b g h. absurd (not_sheet _ _ _ g (facts_back (c.args.place.s.now) c.args.children c.args.place.line c.args.place.at b _ _ _ _ _ (child) _ _ e.is) h)
+    let a = c.args in let child = opened number_rows a.place.s.now (run_from child_line a.children a.place.s.now a.place.line a.place.at) a.facts.now _ _ c.in_ok-f.ensures.answer c.in_ok-f.ensures.left in
+    let e = turned_run (run_from fact_line 0 a.place.s.now c.in_ok-f.f.line c.in_ok-f.f.next) _ c.in_err-x.ensures.answer in
+    λ b g h. absurd (not_sheet _ _ _ g (facts_back a.place.s.now a.children a.place.line a.place.at b _ _ _ _ _ child _ _ e.is) h)
+
+pub invariant_of-at_masks : goal.invariant_of-at_masks
+invariant_of-at_masks c =
+    let a = c.args in let rows = opened number_rows a.place.s.now (run_from fact_line 0 a.place.s.now c.in_ok-f.f.line c.in_ok-f.f.next) a.xs.now _ _ c.in_ok-x.ensures.answer c.in_ok-x.ensures.left in
+    record { within = rows.leaves.within; numbered = rows.leaves.numbers }
 
 pub read_masks-requires : goal.read_masks-requires
 read_masks-requires c =
-    let rows : Opened number_rows (c.args.place.s.now) (run_from fact_line 0 (c.args.place.s.now) c.in_ok-f.f.line c.in_ok-f.f.next) c.args.xs.now c.read_facts.new.rows c.in_ok-x.x.count c.in_ok-x.x.next c.in_ok-x.x.line = opened number_rows (c.args.place.s.now) (run_from fact_line 0 (c.args.place.s.now) c.in_ok-f.f.line c.in_ok-f.f.next) c.args.xs.now _ _
-    (c.in_ok-x.ensures.answer) c.in_ok-x.ensures.left in
-    let x = (rows).leaves in
-    (c.requires.0, omega (arith, c.requires.1, c.read_children.auto.fields, c.read_facts.auto.fields), c.requires.3, x.within, x.numbers)
+    (c.requires.0, omega (arith, c.requires.1, c.read_children.auto.fields, c.read_facts.auto.fields), c.requires.3)
 
 pub returns-clause-answer : goal.returns-clause-answer
 returns-clause-answer c =
-    let child : Opened number_rows (c.args.place.s.now) (run_from child_line c.args.children (c.args.place.s.now) c.args.place.line c.args.place.at) c.args.facts.now c.read_children.new.rows c.in_ok-f.f.count c.in_ok-f.f.next c.in_ok-f.f.line = opened number_rows (c.args.place.s.now) (run_from child_line c.args.children (c.args.place.s.now) c.args.place.line c.args.place.at) c.args.facts.now _ _
-    (c.in_ok-f.ensures.answer) c.in_ok-f.ensures.left in
-    let rows : Opened number_rows (c.args.place.s.now) (run_from fact_line 0 (c.args.place.s.now) c.in_ok-f.f.line c.in_ok-f.f.next) c.args.xs.now c.read_facts.new.rows c.in_ok-x.x.count c.in_ok-x.x.next c.in_ok-x.x.line = opened number_rows (c.args.place.s.now) (run_from fact_line 0 (c.args.place.s.now) c.in_ok-f.f.line c.in_ok-f.f.next) c.args.xs.now _ _
-    (c.in_ok-x.ensures.answer) c.in_ok-x.ensures.left in
-    let o = child in
-    let x = rows in
-    (λ b. c.read_masks.ensures.answer b o.rs x.rs x.counts ∙ ap facts_by (sym (facts_on (c.args.place.s.now) c.args.children c.args.place.line c.args.place.at b _ _ _ _ _ o _ _ _ _ _ x)))
+    let a = c.args in let child = opened number_rows a.place.s.now (run_from child_line a.children a.place.s.now a.place.line a.place.at) a.facts.now _ _ c.in_ok-f.ensures.answer c.in_ok-f.ensures.left in
+    let rows = opened number_rows a.place.s.now (run_from fact_line 0 a.place.s.now c.in_ok-f.f.line c.in_ok-f.f.next) a.xs.now _ _ c.in_ok-x.ensures.answer c.in_ok-x.ensures.left in
+    λ b. c.read_masks.ensures.answer b child.rs rows.rs rows.counts ∙ ap facts_by (sym (facts_on a.place.s.now a.children a.place.line a.place.at b _ _ _ _ _ child _ _ _ _ _ rows))
 
 pub returns-clause-held : goal.returns-clause-held
 returns-clause-held c =
-    let child : Opened number_rows (c.args.place.s.now) (run_from child_line c.args.children (c.args.place.s.now) c.args.place.line c.args.place.at) c.args.facts.now c.read_children.new.rows c.in_ok-f.f.count c.in_ok-f.f.next c.in_ok-f.f.line = opened number_rows (c.args.place.s.now) (run_from child_line c.args.children (c.args.place.s.now) c.args.place.line c.args.place.at) c.args.facts.now _ _
-    (c.in_ok-f.ensures.answer) c.in_ok-f.ensures.left in
-    let rows : Opened number_rows (c.args.place.s.now) (run_from fact_line 0 (c.args.place.s.now) c.in_ok-f.f.line c.in_ok-f.f.next) c.args.xs.now c.read_facts.new.rows c.in_ok-x.x.count c.in_ok-x.x.next c.in_ok-x.x.line = opened number_rows (c.args.place.s.now) (run_from fact_line 0 (c.args.place.s.now) c.in_ok-f.f.line c.in_ok-f.f.next) c.args.xs.now _ _
-    (c.in_ok-x.ensures.answer) c.in_ok-x.ensures.left in
-    let o = child in
-    let x = rows in
-    let n = counted_long child_shape c.args.children 0 c.args.place.line c.args.place.at _ o.rs o.ls _ _ o.is in (λ b g h.
-    let k = sym (facts_on (c.args.place.s.now) c.args.children c.args.place.line c.args.place.at b _ _ _ _ _ o _ _ _ _ _ x) ∙ h in
-    children_held c.args.children (c.args.place.s.now) b c.args.place.line c.args.place.at _ _ _ _ _ o _ _ _ _ _ x _ _ n g k (c.read_masks.ensures.held b o.rs x.rs g k))
+    let a = c.args in let child = opened number_rows a.place.s.now (run_from child_line a.children a.place.s.now a.place.line a.place.at) a.facts.now _ _ c.in_ok-f.ensures.answer c.in_ok-f.ensures.left in
+    let rows = opened number_rows a.place.s.now (run_from fact_line 0 a.place.s.now c.in_ok-f.f.line c.in_ok-f.f.next) a.xs.now _ _ c.in_ok-x.ensures.answer c.in_ok-x.ensures.left in
+    let n = counted_long child_shape a.children 0 a.place.line a.place.at _ child.rs child.ls _ _ child.is in λ b g h.
+    let k = sym (facts_on a.place.s.now a.children a.place.line a.place.at b _ _ _ _ _ child _ _ _ _ _ rows) ∙ h in
+    children_held a.children a.place.s.now b a.place.line a.place.at _ _ _ _ _ child _ _ _ _ _ rows _ _ n g k (c.read_masks.ensures.held b child.rs rows.rs g k)

@@ -13,8 +13,8 @@ use Rattle.refusals.specs.declared.Refused.{Refused}
 use Rattle.plansheet.specs.declared.tree.RowsRead.{RowsRead}
 use Rattle.plansheet.specs.PlanLines.{settings_shape, settings_line, plan_line}
 use Rattle.plansheet.specs.ReadRows.{run_from, rows_by}
-use Rattle.plansheet.proofs.Turns.{Taken, taken, turned_on}
-use Rattle.plansheet.proofs.Singles.{single_next, single_long, single_values, single_part}
+use Rattle.plansheet.proofs.Turns.{turned_on}
+use Rattle.plansheet.proofs.Singles.{single}
 use Rattle.plansheet.proofs.Wholes.{head_back, head_on, head_is, tree_left}
 use Rattle.plansheet.proofs.lines.read_tree_lines.Goals as goal
 
@@ -31,40 +31,36 @@ returns-in-Refused-clause-left c = rw (head_back c.args.s.now _ (sym c.in-Refuse
 
 pub slice_bounds-copy_values-end : goal.slice_bounds-copy_values-end
 slice_bounds-copy_values-end c =
-    let took : Taken settings_line 0 (after (c.args.s.now) 0) (line_at 68 (c.args.s.now) 0) c.in-Line.count c.in-Line.next = taken settings_line 0 (after (c.args.s.now) 0) (line_at 68 (c.args.s.now) 0) _ _ (sym c.in-Line.is ∙ c.settings_line.ensures.answer 0) in
-    let long : c.in-Line.count ≡ 9 = single_long settings_shape (c.args.s.now) 1 0 _ _ (took) in
-    omega (arith, long, c.requires.0, c.settings_line.auto.fields)
+    let a = c.args in let t = single settings_shape a.s.now 0 _ _ a.fields.now _ (sym c.in-Line.is ∙ c.settings_line.ensures.answer 0) c.settings_line.ensures.stored (omega (arith, c.requires.0)) in
+    t.fits
 
 pub slice_bounds-copy_values-end-in-Line : goal.slice_bounds-copy_values-end-in-Line
 slice_bounds-copy_values-end-in-Line c =
-    let took : Taken settings_line 0 (after (c.args.s.now) 0) (line_at 68 (c.args.s.now) 0) c.in-Line.count c.in-Line.next = taken settings_line 0 (after (c.args.s.now) 0) (line_at 68 (c.args.s.now) 0) _ _ (sym c.in-Line.is ∙ c.settings_line.ensures.answer 0) in
-    let long : c.in-Line.count ≡ 9 = single_long settings_shape (c.args.s.now) 1 0 _ _ (took) in
-    sym (length-take-le _ _ (omega (arith, long, c.requires.0, c.settings_line.auto.fields)))
+    let a = c.args in let t = single settings_shape a.s.now 0 _ _ a.fields.now _ (sym c.in-Line.is ∙ c.settings_line.ensures.answer 0) c.settings_line.ensures.stored (omega (arith, c.requires.0)) in
+    sym (length-take-le _ _ t.fits)
 
 pub copy_values-requires : goal.copy_values-requires
 copy_values-requires c =
-    let took : Taken settings_line 0 (after (c.args.s.now) 0) (line_at 68 (c.args.s.now) 0) c.in-Line.count c.in-Line.next = taken settings_line 0 (after (c.args.s.now) 0) (line_at 68 (c.args.s.now) 0) _ _ (sym c.in-Line.is ∙ c.settings_line.ensures.answer 0) in
-    let room : 9 ≤ length c.args.fields.now = omega (arith, c.requires.0) in
-    let part : length (take (c.in-Line.count) c.settings_line.new.fields) ≡ 9 = single_part settings_shape (c.args.s.now) 1 0 _ _ (took) c.args.fields.now _ c.settings_line.ensures.stored (room) in
-    omega (arith, part, c.requires.1)
+    let a = c.args in let t = single settings_shape a.s.now 0 _ _ a.fields.now _ (sym c.in-Line.is ∙ c.settings_line.ensures.answer 0) c.settings_line.ensures.stored (omega (arith, c.requires.0)) in
+    omega (arith, t.part, c.requires.1)
+
+pub invariant_of-place : goal.invariant_of-place
+invariant_of-place c =
+    let a = c.args in let t = single settings_shape a.s.now 0 _ _ a.fields.now _ (sym c.in-Line.is ∙ c.settings_line.ensures.answer 0) c.settings_line.ensures.stored (omega (arith, c.requires.0)) in
+    record { within = t.within; numbered = omega (arith, t.on) }
 
 pub read_plan_tree-requires : goal.read_plan_tree-requires
 read_plan_tree-requires c =
-    let took : Taken settings_line 0 (after (c.args.s.now) 0) (line_at 68 (c.args.s.now) 0) c.in-Line.count c.in-Line.next = taken settings_line 0 (after (c.args.s.now) 0) (line_at 68 (c.args.s.now) 0) _ _ (sym c.in-Line.is ∙ c.settings_line.ensures.answer 0) in
-    let next : (0 < c.in-Line.next) × (c.in-Line.next ≤ length (c.args.s.now)) = single_next settings_shape (c.args.s.now) 1 0 _ _ (took) in
-    (omega (arith, c.requires.0, c.settings_line.auto.fields), (next).1, omega (arith, next))
+    omega (arith, c.requires.0, c.settings_line.auto.fields)
 
 pub returns-in-Line-clause-answer : goal.returns-in-Line-clause-answer
 returns-in-Line-clause-answer c =
-    let took : Taken settings_line 0 (after (c.args.s.now) 0) (line_at 68 (c.args.s.now) 0) c.in-Line.count c.in-Line.next = taken settings_line 0 (after (c.args.s.now) 0) (line_at 68 (c.args.s.now) 0) _ _ (sym c.in-Line.is ∙ c.settings_line.ensures.answer 0) in
-    rw (head_on (c.args.s.now) _ _ (took)) c.read_plan_tree.ensures.answer
+    let a = c.args in let t = single settings_shape a.s.now 0 _ _ a.fields.now _ (sym c.in-Line.is ∙ c.settings_line.ensures.answer 0) c.settings_line.ensures.stored (omega (arith, c.requires.0)) in
+    rw (head_on a.s.now _ _ t.took) c.read_plan_tree.ensures.answer
 
 pub returns-in-Line-clause-left : goal.returns-in-Line-clause-left
 returns-in-Line-clause-left c =
-    let took : Taken settings_line 0 (after (c.args.s.now) 0) (line_at 68 (c.args.s.now) 0) c.in-Line.count c.in-Line.next = taken settings_line 0 (after (c.args.s.now) 0) (line_at 68 (c.args.s.now) 0) _ _ (sym c.in-Line.is ∙ c.settings_line.ensures.answer 0) in
-    let room : 9 ≤ length c.args.fields.now = omega (arith, c.requires.0) in
-    let vals : row_values (take (c.in-Line.count) c.settings_line.new.fields) ≡ values (took).fs = single_values settings_shape (c.args.s.now) 1 0 _ _ (took) c.args.fields.now _ c.settings_line.ensures.stored (room) in
-    let long : c.in-Line.count ≡ 9 = single_long settings_shape (c.args.s.now) 1 0 _ _ (took) in
-    rw (head_on (c.args.s.now) _ _ (took)) (tree_left (c.args.s.now) (run_from plan_line 1 (c.args.s.now) 2 c.in-Line.next) c.args.head.now _ c.args.rows.now c.read_plan_tree.new.rows
-    (c.copy_values.ensures ∙ ap (sets c.args.head.now 0) (vals ∙ ap values (sym (head_is (c.args.s.now) _ _ (took)))))
-    (ap length (head_is (c.args.s.now) _ _ (took)) ∙ sym (took).counts ∙ long) c.read_plan_tree.ensures.left)
+    let a = c.args in let t = single settings_shape a.s.now 0 _ _ a.fields.now _ (sym c.in-Line.is ∙ c.settings_line.ensures.answer 0) c.settings_line.ensures.stored (omega (arith, c.requires.0)) in
+    rw (head_on a.s.now _ _ t.took) (tree_left a.s.now (run_from plan_line 1 a.s.now 2 c.in-Line.next) a.head.now _ a.rows.now c.read_plan_tree.new.rows
+    (c.copy_values.ensures ∙ ap (sets a.head.now 0) (t.vals ∙ ap values (sym (head_is a.s.now _ _ t.took))))
+    (ap length (head_is a.s.now _ _ t.took) ∙ sym t.took.counts ∙ t.long) c.read_plan_tree.ensures.left)
