@@ -8,4 +8,5 @@ pub mod PlainFacts
 pub mod ReadPlans
 pub mod FitRows
 pub mod PlanRooms
+pub mod LentRooms
 pub mod PlainTrees

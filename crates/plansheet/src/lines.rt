@@ -6,12 +6,14 @@ ghost use Rattle.sheet.specs.KeySheets.{sheet};
 ghost use Rattle.plansheet.specs.PlanLines.{plan_line};
 ghost use Rattle.plansheet.specs.PlanSheets.{FactLines, operator_rows, read_masks, read_children, read_facts};
 ghost use Rattle.plansheet.specs.ReadRows.{rows_by, Left, run_from};
+ghost use Rattle.plansheet.specs.LentRooms.{SameRooms, TreeKept};
 ghost use Rattle.plansheet.specs.ReadPlans.{tree_run, TreeLeft, facts_by, MasksHeld, ChildrenHeld, FactsHeld};
 
 use crate::description::{LineShape, TreeShape};
 use crate::facts::{copy_values, read_children, read_facts};
 use crate::line::{ANY, mask_line, node_line, settings_line};
 use crate::place::Place;
+use crate::rooms::SheetRooms;
 use crate::tree::{RowsRead, read_tree};
 use exchange::fact::FactRow;
 use exchange::row::Row;
@@ -152,25 +154,31 @@ fn read_child_lines(
 pub fn read_fact_lines(
     place: Place,
     children: usize,
-    fields: &mut [[u64; 2]],
-    node: &mut [u64],
-    facts: &mut [ChildRow],
-    xs: &mut [FactRow],
-    masks: &mut [u64],
+    lent: &mut SheetRooms,
 ) -> Result<usize, Refused>
-    requires { (children ≤ 8) × (256 ≤ length fields.old) × (4 ≤ length node.old) × (8 ≤ length facts.old) × (256 ≤ length masks.old) }
+    requires { children ≤ 8 }
     ensures answer { result ≡ facts_by (read_facts children place.entry.line place.entry.at (parts 10 (drop place.entry.at place.entry.s.now))) }
-    ensures held { (g : FactLines) → read_facts children place.entry.line place.entry.at (parts 10 (drop place.entry.at place.entry.s.now)) ≡ sheet g → FactsHeld children g node.old node.new facts.old facts.new xs.old xs.new masks.old masks.new }
+    ensures held { (g : FactLines) → read_facts children place.entry.line place.entry.at (parts 10 (drop place.entry.at place.entry.s.now)) ≡ sheet g → FactsHeld children g lent.old.node.now lent.new.node.now lent.old.facts.now lent.new.facts.now lent.old.xs.now lent.new.xs.now lent.old.masks.now lent.new.masks.now }
+    ensures room { length lent.new.xs.now ≡ length lent.old.xs.now }
+    ensures kept { TreeKept lent.old lent.new }
+    ensures same { SameRooms lent.old lent.new }
 {
-    match node_line(place.s, place.at, &mut *fields) {
+    match node_line(place.s, place.at, &mut *lent.fields) {
         Read::Line { count, next } => {
-            copy_values(&fields[..count], &mut *node);
+            copy_values(&lent.fields[..count], &mut *lent.node);
             let after = Place {
                 s: place.s,
                 at: next,
                 line: place.line + 1,
             };
-            read_child_lines(after, children, fields, facts, xs, masks)
+            read_child_lines(
+                after,
+                children,
+                &mut *lent.fields,
+                &mut *lent.facts,
+                &mut *lent.xs,
+                &mut *lent.masks,
+            )
         }
         Read::Refused(refusal) => Err(refusal.on_line(place.line)),
     }

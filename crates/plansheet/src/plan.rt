@@ -9,17 +9,17 @@ ghost use Rattle.exchange.specs.Fit.{facts_fit};
 ghost use Rattle.exchange.specs.Found.{index_of};
 ghost use Rattle.sheet.specs.KeySheets.{sheet};
 ghost use Rattle.plansheet.specs.PlanSheets.{PlanSheet, FactLines, settings_of, facts_of, plan_sheet, judged_plan, with_facts, child_count, read_facts, read_plan};
-ghost use Rattle.plansheet.specs.PlanRooms.{PlanRooms, Filled, TreeStands, RoomFor, Suffices, plan_by, PlanHeld};
+ghost use Rattle.plansheet.specs.PlanRooms.{PlanRooms, Filled, TreeStands, RoomFor, plan_by, PlanHeld};
+ghost use Rattle.plansheet.specs.LentRooms.{SameRooms};
 
 use crate::fit::facts_fit;
 use crate::line::sets_of;
 use crate::lines::{read_fact_lines, read_tree_lines};
 use crate::place::Place;
-use crate::rooms::LinesRead;
-use exchange::fact::{FactRow, FactRows, index_rows};
-use exchange::row::{Row, children_at};
+use crate::rooms::{LinesRead, SheetRooms};
+use exchange::fact::{FactRows, index_rows};
+use exchange::row::children_at;
 use exchange::settings::Settings;
-use exchange::status::ChildRow;
 use exchange::worked::remove_dist_changing_operators;
 use refusals::{Refusal, Refused};
 
@@ -87,37 +87,26 @@ fn judge_plan(head: &[u64], lines: usize, f: LinesRead, index: &mut [u64]) -> Re
 }
 
 // What follows the tree, which stands in the rows and has so many lines: the facts, and the sheet judged.
-fn read_after_tree(
-    place: Place,
-    lines: usize,
-    fields: &mut [[u64; 2]],
-    head: &[u64],
-    rows: &[Row],
-    node: &mut [u64],
-    facts: &mut [ChildRow],
-    xs: &mut [FactRow],
-    masks: &mut [u64],
-    index: &mut [u64],
-) -> Result<Plan, Refused>
-    requires in_bounds { (256 ≤ length fields.old) × (9 ≤ length head.now) × (4 ≤ length node.old) × (8 ≤ length facts.old) × RoomFor 128 28 (length place.s.now) (length xs.old) × (256 ≤ length masks.old) × (length index.old ≡ 129) }
-    requires tree_stands { TreeStands rows.now }
-    ensures answer { (t : PlanTree) (rest : List (List ℕ)) → rows.now ≡ flatten t ++ rest → lines ≡ length (flatten t) → result ≡ plan_by (with_facts (settings_of head.now) t (read_facts (child_count t) place.entry.line place.entry.at (parts 10 (drop place.entry.at place.entry.s.now)))) }
-    ensures held { (t : PlanTree) (rest : List (List ℕ)) (x : PlanSheet) → rows.now ≡ flatten t ++ rest → lines ≡ length (flatten t) → with_facts (settings_of head.now) t (read_facts (child_count t) place.entry.line place.entry.at (parts 10 (drop place.entry.at place.entry.s.now))) ≡ sheet x → PlanHeld x rows.now node.new facts.new xs.new masks.new index.new }
+fn read_after_tree(place: Place, lines: usize, lent: &mut SheetRooms) -> Result<Plan, Refused>
+    requires room { RoomFor 128 28 (length place.s.now) (length lent.old.xs.now) }
+    requires tree_stands { TreeStands lent.old.rows.now }
+    ensures answer { (t : PlanTree) (rest : List (List ℕ)) → lent.old.rows.now ≡ flatten t ++ rest → lines ≡ length (flatten t) → result ≡ plan_by (with_facts (settings_of lent.old.head.now) t (read_facts (child_count t) place.entry.line place.entry.at (parts 10 (drop place.entry.at place.entry.s.now)))) }
+    ensures held { (t : PlanTree) (rest : List (List ℕ)) (x : PlanSheet) → lent.old.rows.now ≡ flatten t ++ rest → lines ≡ length (flatten t) → with_facts (settings_of lent.old.head.now) t (read_facts (child_count t) place.entry.line place.entry.at (parts 10 (drop place.entry.at place.entry.s.now))) ≡ sheet x → PlanHeld x lent.new.rows.now lent.new.node.now lent.new.facts.now lent.new.xs.now lent.new.masks.now lent.new.index.now }
+    ensures same { SameRooms lent.old lent.new }
 {
-    let worked = remove_dist_changing_operators(rows, 0);
+    // Behind `lent` the rooms are read by `&mut`: of one that is read by `&` there, the checker knows the length alone.
+    let tree = &mut *lent.rows;
+    let worked = remove_dist_changing_operators(&*tree, 0);
     // No From goes from u64 to usize.
-    let children = children_at(rows, worked) as usize;
-    let count = read_fact_lines(
-        place,
-        children,
-        fields,
-        node,
-        &mut *facts,
-        &mut *xs,
-        &mut *masks,
-    )?;
+    let children = children_at(&*tree, worked) as usize;
+    let count = read_fact_lines(place, children, &mut *lent)?;
+    let head = &mut *lent.head;
+    let rows = &mut *lent.rows;
+    let facts = &mut *lent.facts;
+    let xs = &mut *lent.xs;
+    let masks = &mut *lent.masks;
     let read = LinesRead {
-        rows,
+        rows: &*rows,
         worked,
         children,
         facts: &*facts,
@@ -125,32 +114,21 @@ fn read_after_tree(
         count,
         masks: &*masks,
     };
-    judge_plan(head, lines, read, index)
+    judge_plan(&*head, lines, read, &mut *lent.index)
 }
 
 // A D sheet, in the rooms lent.
-pub fn read_plan(
-    s: &[u8],
-    fields: &mut [[u64; 2]],
-    head: &mut [u64],
-    rows: &mut [Row],
-    node: &mut [u64],
-    facts: &mut [ChildRow],
-    xs: &mut [FactRow],
-    masks: &mut [u64],
-    index: &mut [u64],
-) -> Result<Plan, Refused>
-    requires { (256 ≤ length fields.old) × (9 ≤ length head.old) × RoomFor 256 17 (length s.now) (length rows.old) × (4 ≤ length node.old) × (8 ≤ length facts.old) × RoomFor 128 28 (length s.now) (length xs.old) × (256 ≤ length masks.old) × (length index.old ≡ 129) }
+pub fn read_plan(s: &[u8], lent: &mut SheetRooms) -> Result<Plan, Refused>
+    requires { RoomFor 256 17 (length s.now) (length lent.old.rows.now) × RoomFor 128 28 (length s.now) (length lent.old.xs.now) }
     ensures answer { result ≡ plan_by (read_plan s.now) }
-    ensures held { (x : PlanSheet) → read_plan s.now ≡ sheet x → PlanHeld x rows.new node.new facts.new xs.new masks.new index.new }
+    ensures held { (x : PlanSheet) → read_plan s.now ≡ sheet x → PlanHeld x lent.new.rows.now lent.new.node.now lent.new.facts.now lent.new.xs.now lent.new.masks.now lent.new.index.now }
+    ensures same { SameRooms lent.old lent.new }
 {
-    let t = read_tree_lines(s, &mut *fields, &mut *head, &mut *rows)?;
+    let t = read_tree_lines(s, &mut *lent.fields, &mut *lent.head, &mut *lent.rows)?;
     let place = Place {
         s,
         at: t.next,
         line: t.line,
     };
-    read_after_tree(
-        place, t.count, fields, &*head, &*rows, node, facts, xs, masks, index,
-    )
+    read_after_tree(place, t.count, lent)
 }

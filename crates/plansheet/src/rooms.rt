@@ -1,10 +1,29 @@
-// What the lines of a sheet left in the rooms lent.
-ghost use Rattle.std.specs.Prelude.{◌≤◌, length};
+// The rooms lent for a sheet, and what its lines left in them.
+ghost use Rattle.std.specs.Prelude.{◌≡◌, ◌≤◌, length};
 ghost use Rattle.plansheet.specs.PlanRooms.{Suffices};
 
 use exchange::fact::FactRow;
 use exchange::row::Row;
 use exchange::status::ChildRow;
+
+// For a line's fields, the D line's numbers, the tree's rows, the B row, F and X rows, masks, and the index of the X rows.
+#[derive(Drop)]
+pub struct SheetRooms<'a> {
+    pub fields: &'a mut [[u64; 2]],
+    pub head: &'a mut [u64],
+    pub rows: &'a mut [Row],
+    pub node: &'a mut [u64],
+    pub facts: &'a mut [ChildRow],
+    pub xs: &'a mut [FactRow],
+    pub masks: &'a mut [u64],
+    pub index: &'a mut [u64],
+    pub ghost wide: { 256 ≤ length fields.now },
+    pub ghost nine: { 9 ≤ length head.now },
+    pub ghost four: { 4 ≤ length node.now },
+    pub ghost eight: { 8 ≤ length facts.now },
+    pub ghost masked: { 256 ≤ length masks.now },
+    pub ghost indexed: { length index.now ≡ 129 },
+}
 
 // The tree's rows in front, the worked node's place, its children, and the F rows, X rows and masks in front; of the X rows, which may be more than there is room for, how many there are.
 #[derive(Clone, Copy)]

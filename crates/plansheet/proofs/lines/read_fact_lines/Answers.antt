@@ -30,42 +30,37 @@ returns-in-Refused-clause-held c = let e = sym c.in-Refused.is ∙ c.node_line.e
 
 pub slice_bounds-copy_values-end : goal.slice_bounds-copy_values-end
 slice_bounds-copy_values-end c =
-    let a = c.args in let t = single node_shape a.place.s.now a.place.at _ _ a.fields.now _ (sym c.in-Line.is ∙ c.node_line.ensures.answer 0) c.node_line.ensures.stored (omega (arith, c.requires.1)) in
-    t.fits
-
-pub slice_bounds-copy_values-end-in-Line : goal.slice_bounds-copy_values-end-in-Line
-slice_bounds-copy_values-end-in-Line c =
-    let a = c.args in let t = single node_shape a.place.s.now a.place.at _ _ a.fields.now _ (sym c.in-Line.is ∙ c.node_line.ensures.answer 0) c.node_line.ensures.stored (omega (arith, c.requires.1)) in
+    let a = c.args in let t = single node_shape a.place.s.now a.place.at _ _ a.lent.now.fields.now _ (sym c.in-Line.is ∙ c.node_line.ensures.answer 0) c.node_line.ensures.stored (omega (arith, a.lent.now.wide)) in
     sym (length-take-le _ _ t.fits)
 
 pub copy_values-requires : goal.copy_values-requires
 copy_values-requires c =
-    let a = c.args in let t = single node_shape a.place.s.now a.place.at _ _ a.fields.now _ (sym c.in-Line.is ∙ c.node_line.ensures.answer 0) c.node_line.ensures.stored (omega (arith, c.requires.1)) in
-    omega (arith, t.part, c.requires.2)
+    let a = c.args in let t = single node_shape a.place.s.now a.place.at _ _ a.lent.now.fields.now _ (sym c.in-Line.is ∙ c.node_line.ensures.answer 0) c.node_line.ensures.stored (omega (arith, a.lent.now.wide)) in
+    omega (arith, t.part, a.lent.now.four)
 
 pub overflow_add-after : goal.overflow_add-after
 overflow_add-after c =
-    let a = c.args in let t = single node_shape a.place.s.now a.place.at _ _ a.fields.now _ (sym c.in-Line.is ∙ c.node_line.ensures.answer 0) c.node_line.ensures.stored (omega (arith, c.requires.1)) in
+    let a = c.args in let t = single node_shape a.place.s.now a.place.at _ _ a.lent.now.fields.now _ (sym c.in-Line.is ∙ c.node_line.ensures.answer 0) c.node_line.ensures.stored (omega (arith, a.lent.now.wide)) in
     omega (arith, t.on, t.within, a.place.numbered)
 
 pub invariant_of-after : goal.invariant_of-after
 invariant_of-after c =
-    let a = c.args in let t = single node_shape a.place.s.now a.place.at _ _ a.fields.now _ (sym c.in-Line.is ∙ c.node_line.ensures.answer 0) c.node_line.ensures.stored (omega (arith, c.requires.1)) in
+    let a = c.args in let t = single node_shape a.place.s.now a.place.at _ _ a.lent.now.fields.now _ (sym c.in-Line.is ∙ c.node_line.ensures.answer 0) c.node_line.ensures.stored (omega (arith, a.lent.now.wide)) in
     record { within = t.within; numbered = omega (arith, t.on, a.place.numbered) }
 
 pub read_child_lines-requires : goal.read_child_lines-requires
 read_child_lines-requires c =
-    (c.requires.0, omega (arith, c.requires.1, c.node_line.auto.fields), c.requires.3, c.requires.4)
+    let l = c.args.lent.now in (c.requires, omega (arith, l.wide, c.node_line.auto.fields), l.eight, l.masked)
 
 pub returns-in-Line-clause-answer : goal.returns-in-Line-clause-answer
 returns-in-Line-clause-answer c =
-    let a = c.args in let t = single node_shape a.place.s.now a.place.at _ _ a.fields.now _ (sym c.in-Line.is ∙ c.node_line.ensures.answer 0) c.node_line.ensures.stored (omega (arith, c.requires.1)) in
+    let a = c.args in let t = single node_shape a.place.s.now a.place.at _ _ a.lent.now.fields.now _ (sym c.in-Line.is ∙ c.node_line.ensures.answer 0) c.node_line.ensures.stored (omega (arith, a.lent.now.wide)) in
     c.read_child_lines.ensures.answer t.took.fs ∙ ap facts_by (sym (node_on a.place.s.now a.children a.place.line a.place.at _ _ t.took))
 
 pub returns-in-Line-clause-held : goal.returns-in-Line-clause-held
 returns-in-Line-clause-held c =
-    let a = c.args in let t = single node_shape a.place.s.now a.place.at _ _ a.fields.now _ (sym c.in-Line.is ∙ c.node_line.ensures.answer 0) c.node_line.ensures.stored (omega (arith, c.requires.1)) in
+    let a = c.args in let t = single node_shape a.place.s.now a.place.at _ _ a.lent.now.fields.now _ (sym c.in-Line.is ∙ c.node_line.ensures.answer 0) c.node_line.ensures.stored (omega (arith, a.lent.now.wide)) in
     λ g f.
     let k = sym (node_on a.place.s.now a.children a.place.line a.place.at _ _ t.took) ∙ f in
-    facts_held a.children a.place.s.now t.took.fs _ _ g k a.node.now _ _ _ _ _ _ _
-    (c.copy_values.ensures ∙ ap (sets a.node.now 0) t.vals) (sym t.took.counts ∙ t.long) (c.read_child_lines.ensures.held t.took.fs g k)
+    facts_held a.children a.place.s.now t.took.fs _ _ g k a.lent.now.node.now _ _ _ _ _ _ _
+    (c.copy_values.ensures ∙ ap (sets a.lent.now.node.now 0) t.vals) (sym t.took.counts ∙ t.long) (c.read_child_lines.ensures.held t.took.fs g k)

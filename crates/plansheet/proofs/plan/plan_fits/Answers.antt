@@ -9,42 +9,39 @@ use Rattle.plansheet.proofs.FineLines.{two_small}
 use Rattle.plansheet.proofs.PlanFitted.{WorkedRooms, worked_rooms, rooms_fit, rooms_crowded, stand_all, fits_room}
 use Rattle.plansheet.proofs.plan.plan_fits.Goals as goal
 
-pub returns-then-xs-n-clause-answer : goal.returns-then-xs-n-clause-answer
-returns-then-xs-n-clause-answer c = let a = c.args in (λ st t g e r. sym (rooms_crowded t g a.rows.now a.facts.now a.xs.now a.masks.now a.worked a.children a.n r c.requires.in_bounds.0 (c.requires.in_bounds.1 c.if-xs-n.true) c.if-xs-n.true st))
+pub returns-then-f-clause-answer : goal.returns-then-f-clause-answer
+returns-then-f-clause-answer c =
+    let f = c.args.f in
+    λ st t g e r. sym (rooms_crowded t g f.rows.now f.facts.now f.xs.now f.masks.now f.worked f.children f.count r f.eight (f.roomy c.if-f.true) c.if-f.true st)
 
-pub returns-then-xs-n-clause-indexed : goal.returns-then-xs-n-clause-indexed
-returns-then-xs-n-clause-indexed c = (λ z. absurd (fits_room z))
+pub returns-then-f-clause-indexed : goal.returns-then-f-clause-indexed
+returns-then-f-clause-indexed c =
+    λ z. absurd (fits_room z)
 
-pub slice_bounds-facts_fit-end-2 : goal.slice_bounds-facts_fit-end-2
-slice_bounds-facts_fit-end-2 c = sym (length-take-le c.sets_of-many.result c.args.masks.now (omega (arith, c.sets_of-many.ensures, two_small c.args.children c.requires.filled.rooms.few, c.requires.in_bounds.2)))
+pub slice_bounds-masks-end : goal.slice_bounds-masks-end
+slice_bounds-masks-end c =
+    sym (length-take-le c.sets_of.result c.args.f.masks.now (omega (arith, c.sets_of.ensures, two_small c.args.f.children c.requires.filled.rooms.few, c.args.f.masked)))
 
 pub facts_fit-requires-clause-stand_all : goal.facts_fit-requires-clause-stand_all
 facts_fit-requires-clause-stand_all c =
-    let worked : WorkedRooms c.requires.filled.plan c.args.rows.now c.args.worked = let r = c.requires.filled.rooms in worked_rooms c.requires.filled.plan c.args.rows.now r.rest c.args.worked r.stands r.place in
-    let part : length (take c.args.children c.args.facts.now) ≡ c.args.children =
-    (length-take-le c.args.children c.args.facts.now (omega (arith, c.requires.filled.rooms.few, c.requires.in_bounds.0))) in
-    let r = c.requires.filled.rooms in let w = worked in
-    let n = part in
-    rw n (stand_all c.requires.filled.plan c.args.rows.now c.args.worked c.args.children w (sym r.many))
+    let f = c.args.f in let q = c.requires.filled in let r = q.rooms in
+    let part : length (take f.children f.facts.now) ≡ f.children = length-take-le f.children f.facts.now (omega (arith, r.few, f.eight)) in
+    rw part (stand_all q.plan f.rows.now f.worked f.children (worked_rooms q.plan f.rows.now r.rest f.worked r.stands r.place) (sym r.many))
 
 pub facts_fit-requires-clause-worked_in_bounds : goal.facts_fit-requires-clause-worked_in_bounds
 facts_fit-requires-clause-worked_in_bounds c =
-    let worked : WorkedRooms c.requires.filled.plan c.args.rows.now c.args.worked = let r = c.requires.filled.rooms in worked_rooms c.requires.filled.plan c.args.rows.now r.rest c.args.worked r.stands r.place in
-    let part : length (take c.args.children c.args.facts.now) ≡ c.args.children =
-    (length-take-le c.args.children c.args.facts.now (omega (arith, c.requires.filled.rooms.few, c.requires.in_bounds.0))) in
-    let r = c.requires.filled.rooms in let w = worked in
-    let n = part in
-    (w.inside, rw n r.few)
+    let f = c.args.f in let q = c.requires.filled in let r = q.rooms in
+    let part : length (take f.children f.facts.now) ≡ f.children = length-take-le f.children f.facts.now (omega (arith, r.few, f.eight)) in
+    ((worked_rooms q.plan f.rows.now r.rest f.worked r.stands r.place).inside, rw part r.few)
 
 pub returns-clause-answer : goal.returns-clause-answer
 returns-clause-answer c =
-    let part : length (take c.args.children c.args.facts.now) ≡ c.args.children =
-    (length-take-le c.args.children c.args.facts.now (omega (arith, c.requires.filled.rooms.few, c.requires.in_bounds.0))) in
-    let a = c.args in (λ st t g e r.
-    let w = worked_rooms t a.rows.now r.rest a.worked r.stands r.place in
-    c.facts_fit.ensures st w.operator (node_facts (values g.node)) w.below w.rest e (sym w.count ∙ sym r.many ∙ sym (part)) w.stands
-    ∙ rooms_fit t g a.rows.now a.facts.now a.xs.now a.masks.now a.worked a.children a.n r c.if-xs-n.false _ c.sets_of-many.ensures st)
+    let f = c.args.f in λ st t g e r.
+    let part : length (take f.children f.facts.now) ≡ f.children = length-take-le f.children f.facts.now (omega (arith, r.few, f.eight)) in
+    let w = worked_rooms t f.rows.now r.rest f.worked r.stands r.place in
+    c.facts_fit.ensures st w.operator (node_facts (values g.node)) w.below w.rest e (sym w.count ∙ sym r.many ∙ sym part) w.stands
+    ∙ rooms_fit t g f.rows.now f.facts.now f.xs.now f.masks.now f.worked f.children f.count r c.if-f.false _ c.sets_of.ensures st
 
 pub returns-clause-indexed : goal.returns-clause-indexed
 returns-clause-indexed c =
-    (λ z. (c.if-xs-n.false, c.index_rows.ensures))
+    λ z. (c.if-f.false, c.index_rows.ensures)

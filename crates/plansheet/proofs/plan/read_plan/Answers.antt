@@ -2,8 +2,8 @@
 use mathlib.Core.Path.{sym, ap, ◌∙◌}
 use native.Mathlib.Omega.{arith}
 use Rattle.plansheet.specs.PlanSheets.{plan_of}
-use Rattle.plansheet.specs.PlanRooms.{plan_by}
-use Rattle.plansheet.proofs.PlanWhole.{TreeRead, tree_read, tree_turned, plan_turned, turned_not, plan_on}
+use Rattle.plansheet.specs.PlanRooms.{plan_by, PlanHeld}
+use Rattle.plansheet.proofs.PlanWhole.{tree_read, tree_turned, plan_turned, turned_not, plan_on}
 use Rattle.std.specs.Prelude.{Result, Err}
 use Rattle.std.proofs.lemmas.Result.{err_from_is_err_and}
 use Rattle.refusals.specs.declared.Refused.{Refused}
@@ -22,28 +22,28 @@ returns-in_err-t-clause-answer c =
 pub returns-in_err-t-clause-held : goal.returns-in_err-t-clause-held
 returns-in_err-t-clause-held c =
     let e = tree_turned c.args.s.now _ c.in_err-t.ensures.answer in
-    λ x f. absurd (turned_not _ _ x (sym (plan_turned c.args.s.now _ _ e.is) ∙ f))
+    λ x f. absurd {A = PlanHeld x _ _ _ _ _ _} (turned_not _ _ x (sym (plan_turned c.args.s.now _ _ e.is) ∙ f))
 
-pub read_after_tree-requires-clause-in_bounds : goal.read_after_tree-requires-clause-in_bounds
-read_after_tree-requires-clause-in_bounds c =
-    let tree : TreeRead c.args.s.now c.args.head.now c.read_tree_lines.new.head c.args.rows.now c.read_tree_lines.new.rows c.in_ok-t.t.count c.in_ok-t.t.next c.in_ok-t.t.line = tree_read c.args.s.now c.args.head.now _ c.args.rows.now _ _ c.requires.1 c.requires.2 c.in_ok-t.ensures.answer c.in_ok-t.ensures.left in
-    let t = tree in
-    (omega (arith, c.requires.0, c.read_tree_lines.auto.fields), omega (arith, c.requires.1, c.read_tree_lines.auto.head), c.requires.3, c.requires.4, c.requires.5, c.requires.6, c.requires.7, t.within, t.numbers)
+pub invariant_of-place : goal.invariant_of-place
+invariant_of-place c =
+    let a = c.args in let l = a.lent.now in let q = c.read_tree_lines in
+    let t = tree_read a.s.now l.head.now _ l.rows.now _ _ l.nine c.requires.0 c.in_ok-t.ensures.answer c.in_ok-t.ensures.left in
+    record { within = t.within; numbered = t.numbers }
 
 pub read_after_tree-requires-clause-tree_stands : goal.read_after_tree-requires-clause-tree_stands
 read_after_tree-requires-clause-tree_stands c =
-    let tree : TreeRead c.args.s.now c.args.head.now c.read_tree_lines.new.head c.args.rows.now c.read_tree_lines.new.rows c.in_ok-t.t.count c.in_ok-t.t.next c.in_ok-t.t.line = tree_read c.args.s.now c.args.head.now _ c.args.rows.now _ _ c.requires.1 c.requires.2 c.in_ok-t.ensures.answer c.in_ok-t.ensures.left in
-    let t = tree in
+    let a = c.args in let l = a.lent.now in let q = c.read_tree_lines in
+    let t = tree_read a.s.now l.head.now _ l.rows.now _ _ l.nine c.requires.0 c.in_ok-t.ensures.answer c.in_ok-t.ensures.left in
     record { tree = plan_of t.rs; rest = t.rest; stands = t.stands; few = t.few }
 
 pub returns-clause-answer : goal.returns-clause-answer
 returns-clause-answer c =
-    let tree : TreeRead c.args.s.now c.args.head.now c.read_tree_lines.new.head c.args.rows.now c.read_tree_lines.new.rows c.in_ok-t.t.count c.in_ok-t.t.next c.in_ok-t.t.line = tree_read c.args.s.now c.args.head.now _ c.args.rows.now _ _ c.requires.1 c.requires.2 c.in_ok-t.ensures.answer c.in_ok-t.ensures.left in
-    let t = tree in
-    let e = plan_on c.args.s.now _ _ _ _ _ _ _ t in c.read_after_tree.ensures.answer (plan_of t.rs) t.rest t.stands t.whole ∙ ap plan_by (sym e)
+    let a = c.args in let l = a.lent.now in let q = c.read_tree_lines in
+    let t = tree_read a.s.now l.head.now _ l.rows.now _ _ l.nine c.requires.0 c.in_ok-t.ensures.answer c.in_ok-t.ensures.left in
+    c.read_after_tree.ensures.answer (plan_of t.rs) t.rest t.stands t.whole ∙ ap plan_by (sym (plan_on a.s.now _ _ _ _ _ _ _ t))
 
 pub returns-clause-held : goal.returns-clause-held
 returns-clause-held c =
-    let tree : TreeRead c.args.s.now c.args.head.now c.read_tree_lines.new.head c.args.rows.now c.read_tree_lines.new.rows c.in_ok-t.t.count c.in_ok-t.t.next c.in_ok-t.t.line = tree_read c.args.s.now c.args.head.now _ c.args.rows.now _ _ c.requires.1 c.requires.2 c.in_ok-t.ensures.answer c.in_ok-t.ensures.left in
-    let t = tree in
-    let e = plan_on c.args.s.now _ _ _ _ _ _ _ t in (λ x f. c.read_after_tree.ensures.held (plan_of t.rs) t.rest x t.stands t.whole (sym e ∙ f))
+    let a = c.args in let l = a.lent.now in let q = c.read_tree_lines in
+    let t = tree_read a.s.now l.head.now _ l.rows.now _ _ l.nine c.requires.0 c.in_ok-t.ensures.answer c.in_ok-t.ensures.left in
+    λ x f. c.read_after_tree.ensures.held (plan_of t.rs) t.rest x t.stands t.whole (sym (plan_on a.s.now _ _ _ _ _ _ _ t) ∙ f)
