@@ -16,6 +16,7 @@ use linekinds::lists::SheetKind;
 use lines::sheet_text::put_sheet;
 use plananswer::sheet_text::put_plan_sheet;
 use plansheet::plan::read_plan;
+use plansheet::rooms::SheetRooms;
 use refusals::Refusal;
 use sheet::held::Lists;
 use sheet::sheets::{read_join_sheet, read_key_sheet};
@@ -95,17 +96,17 @@ pub(crate) fn rewrite_plan_sheet(sheet: &[u8], out: &mut [u8]) -> u64
     let mut xs = [[0u64; 13]; 128];
     let mut masks = [0u64; 256];
     let mut index = [0u64; 129];
-    match read_plan(
-        sheet,
-        &mut fields,
-        &mut head,
-        &mut rows,
-        &mut node,
-        &mut facts,
-        &mut xs,
-        &mut masks,
-        &mut index,
-    ) {
+    let mut lent = SheetRooms {
+        fields: &mut fields,
+        head: &mut head,
+        rows: &mut rows,
+        node: &mut node,
+        facts: &mut facts,
+        xs: &mut xs,
+        masks: &mut masks,
+        index: &mut index,
+    };
+    match read_plan(sheet, &mut lent) {
         Err(refused) => refused.word(),
         Ok(p) => {
             let f = held_facts(p, node, &facts, &xs, &masks, &index);

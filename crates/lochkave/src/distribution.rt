@@ -8,6 +8,7 @@ use crate::plan::{answer_plan, held_facts};
 use exchange::fact::FactRow;
 use exchange::row::Row;
 use plansheet::plan::read_plan;
+use plansheet::rooms::SheetRooms;
 
 // A sheet of fewer bytes has at most 64 T lines and 39 X rows: a T line takes 17 bytes at least, an X row 28.
 const SHORT: usize = 1088;
@@ -44,17 +45,17 @@ pub(crate) fn distribute_in(sheet: &[u8], lent: TreeRooms, out: &mut [u8]) -> u6
     let mut head = [0u64; 9];
     let mut node = [0u64; 4];
     let mut facts = [[0u64; 7]; 8];
-    match read_plan(
-        sheet,
+    let mut read_in = SheetRooms {
         fields,
-        &mut head,
-        &mut *rows,
-        &mut node,
-        &mut facts,
-        &mut *xs,
-        &mut *masks,
-        &mut *index,
-    ) {
+        head: &mut head,
+        rows: &mut *rows,
+        node: &mut node,
+        facts: &mut facts,
+        xs: &mut *xs,
+        masks: &mut *masks,
+        index: &mut *index,
+    };
+    match read_plan(sheet, &mut read_in) {
         Err(refused) => return refused.word(),
         Ok(p) => {
             let f = held_facts(p, node, &facts, &*xs, &*masks, &*index);

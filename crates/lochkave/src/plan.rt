@@ -41,7 +41,7 @@ pub(crate) fn held_facts<'a>(
 {
     PlanFacts {
         node,
-        children: &facts[..p.children as usize],
+        children: &facts[..p.children],
         xs: FactRows {
             index,
             rows: &xs[..p.rows],

@@ -4,20 +4,20 @@ use mathlib.Core.Path.{◌≡◌, refl, sym, ap, ◌∙◌}
 use mathlib.Core.List.{List, [], ◌∷◌, map}
 use mathlib.Core.Option.{Option, none, some}
 use mathlib.Core.Bool.{Bool, true, false, cond, not, ◌&&◌, ◌||◌}
-use Prim.Native.Nat.{ℕ, zero, suc, ◌+◌, ◌-◌, ◌/◌, ◌%◌, ◌≤◌, ◌<◌}
+use Prim.Native.Nat.{ℕ, zero, suc, ◌+◌, ◌-◌, ◌/◌, ◌≤◌, ◌<◌}
 use native.Mathlib.Omega.{arith}
 use native.Mathlib.Numerals.{add-one}
 use lib.Dec.{eqb, leb}
 use lib.ListN.{length, get_or, drop, drop_of_length-le}
 use lib.Seq.{drop-cons}
-use borrow.Author.Tests.{eq-eqb, ne_eqb, eqb-true, eqb-false, le-leb, lt-leb, leb-true}
+use borrow.Author.Tests.{eq-eqb, eqb-true, eqb-false, leb-true}
 use Rattle.text.proofs.Exact.{both}
 use Rattle.exchange.specs.declared.fact.Fact.{Fact}
 use Rattle.exchange.specs.declared.fact.Fact.TheVariants.{Row, Missing}
 use Rattle.exchange.specs.FactRows.{fact_row}
 use Rattle.exchange.specs.Found.{child_of, form_number, later, row_for, found_of}
 use Rattle.exchange.specs.Fit.{within_bits, all_within_bits, is_repeated, none_repeated}
-use Rattle.plansheet.specs.FitRows.{count_fits_by, child_fits_by, row_fits_by, rows_fit_by, found_at}
+use Rattle.plansheet.specs.FitRows.{row_fits_by, rows_fit_by, found_at}
 
 -- ---- bits
 

@@ -1,5 +1,5 @@
 -- `plansheet::facts::marked` meets its contract: each mark was tested, and the other numbers are small (`marks_fine`).
-use Rattle.std.proofs.Common.{◌≡◌, ℕ, ◌+◌, ◌<◌, ◌≤◌, List, length, get_or, take, drop, arith, length-take, length-drop}
+use Rattle.std.proofs.Common.{ℕ, ◌+◌, ◌<◌, ◌≤◌, List, length, get_or, take, drop, arith, length-take, length-drop}
 use Rattle.std.proofs.lemmas.List.{get_or-drop, get_or-take}
 use Rattle.plansheet.proofs.PlainFacts.{marks_fine}
 use Rattle.plansheet.proofs.facts.marked.Goals as goal

@@ -1,13 +1,10 @@
 -- `plansheet::lines::read_fact_lines` meets its contract: the B line is a run of one (`Singles`), and what follows goes on where it ends (`Wholes`).
-use mathlib.Core.Path.{◌≡◌, sym, ap, ◌∙◌}
-use Prim.Native.Nat.{ℕ, ◌≤◌, ◌<◌}
+use mathlib.Core.Path.{sym, ap, ◌∙◌}
+use Prim.Native.Nat.{ℕ}
 use native.Mathlib.Omega.{arith}
-use lib.ListN.{length, take}
 use lib.Seq.{sets}
 use lib.Seq.{length-take-le}
 use Rattle.text.specs.Text.{line_at, after}
-use Rattle.linekinds.specs.KeyLines.{values}
-use Rattle.linekinds.specs.Reading.{row_values}
 use Rattle.std.specs.Prelude.{Result, Err}
 use Rattle.refusals.specs.declared.Refused.{Refused}
 use Rattle.plansheet.specs.PlanLines.{node_shape, node_line}

@@ -1,14 +1,12 @@
 -- `plansheet::lines::read_masks` meets its contract: the Y line is a run of one (`Singles`), and nothing follows it (`Wholes`).
-use mathlib.Core.Path.{◌≡◌, sym, ap, ◌∙◌}
-use Prim.Native.Nat.{ℕ, ◌≤◌, ◌<◌}
+use mathlib.Core.Path.{sym, ap, ◌∙◌}
+use Prim.Native.Nat.{ℕ}
 use native.Mathlib.Omega.{arith}
-use lib.ListN.{length, take, length-replicate}
+use lib.ListN.{length-replicate}
 use lib.Seq.{sets}
 use lib.Seq.{length-take-le}
 use Rattle.text.specs.Text.{line_at, after}
-use Rattle.linekinds.specs.KeyLines.{values}
 use Rattle.linekinds.specs.Lines.{plain}
-use Rattle.linekinds.specs.Reading.{row_values}
 use Rattle.std.specs.Prelude.{Result, Err}
 use Rattle.refusals.specs.declared.Refused.{Refused}
 use Rattle.plansheet.specs.PlanLines.{two_to, mask_shape, mask_line}

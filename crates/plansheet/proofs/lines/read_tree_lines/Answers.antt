@@ -1,13 +1,11 @@
 -- `plansheet::lines::read_tree_lines` meets its contract: the D line is a run of one (`Singles`), and the tree goes on where it ends (`Wholes`).
-use mathlib.Core.Path.{◌≡◌, sym, ap, ◌∙◌}
-use Prim.Native.Nat.{◌≤◌, ◌<◌}
+use mathlib.Core.Path.{sym, ap, ◌∙◌}
 use native.Mathlib.Omega.{arith}
-use lib.ListN.{length, take}
+use lib.ListN.{length}
 use lib.Seq.{sets}
 use lib.Seq.{length-take-le}
 use Rattle.text.specs.Text.{line_at, after}
 use Rattle.linekinds.specs.KeyLines.{values}
-use Rattle.linekinds.specs.Reading.{row_values}
 use Rattle.std.specs.Prelude.{Result, Err}
 use Rattle.refusals.specs.declared.Refused.{Refused}
 use Rattle.plansheet.specs.declared.tree.RowsRead.{RowsRead}

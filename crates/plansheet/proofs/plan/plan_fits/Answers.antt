@@ -6,7 +6,7 @@ use lib.Seq.{length-take-le}
 use Rattle.linekinds.specs.KeyLines.{values}
 use Rattle.exchange.specs.FactRows.{node_facts}
 use Rattle.plansheet.proofs.FineLines.{two_small}
-use Rattle.plansheet.proofs.PlanFitted.{WorkedRooms, worked_rooms, rooms_fit, rooms_crowded, stand_all, fits_room}
+use Rattle.plansheet.proofs.PlanFitted.{worked_rooms, rooms_fit, rooms_crowded, stand_all, fits_room}
 use Rattle.plansheet.proofs.plan.plan_fits.Goals as goal
 
 pub returns-then-f-clause-answer : goal.returns-then-f-clause-answer

@@ -14,7 +14,7 @@ use Rattle.plansheet.specs.PlanSheets.{FactLines, settings_of, child_count, read
 use Rattle.plansheet.specs.PlanRooms.{PlanRooms, TreeStands, plan_by, PlanHeld}
 use Rattle.plansheet.proofs.PlanFitted.{WorkedRooms, worked_rooms}
 use Rattle.plansheet.proofs.RunBytes.{facts_few, fact_room}
-use Rattle.plansheet.proofs.PlanWhole.{FactsRead, facts_read, facts_turned, rooms_filled, plan_held, judged_is, after_turned}
+use Rattle.plansheet.proofs.PlanWhole.{facts_read, facts_turned, rooms_filled, plan_held, judged_is, after_turned}
 use Rattle.std.specs.Prelude.{Result, Err}
 use Rattle.std.proofs.lemmas.Result.{err_from_is_err_and}
 use Rattle.refusals.specs.declared.Refused.{Refused}

@@ -1,6 +1,5 @@
 -- `plansheet::plan::read_plan` meets its contract: the tree's lines, and what follows them where they end (`PlanWhole`).
 use mathlib.Core.Path.{sym, ap, ◌∙◌}
-use native.Mathlib.Omega.{arith}
 use Rattle.plansheet.specs.PlanSheets.{plan_of}
 use Rattle.plansheet.specs.PlanRooms.{plan_by, PlanHeld}
 use Rattle.plansheet.proofs.PlanWhole.{tree_read, tree_turned, plan_turned, turned_not, plan_on}

@@ -9,7 +9,6 @@ use lib.ListN.{length, set}
 use Rattle.text.specs.declared.field.Field.{Field}
 use Rattle.text.specs.Text.{line_at, after}
 use Rattle.linekinds.specs.Lines.{line_number, fields_of}
-use Rattle.linekinds.specs.Reading.{read_by}
 use Rattle.plansheet.specs.Shapes.{children_at}
 use Rattle.plansheet.specs.PlanSheets.{operator_row, operator_rows}
 use Rattle.plansheet.specs.Described.{shape_by, tree_by}
