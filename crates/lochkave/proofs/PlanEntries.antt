@@ -2,9 +2,9 @@
 -- Assumes nothing.
 use Prim.Native.Nat.{ℕ, ◌≤◌}
 use mathlib.Core.Path.{◌≡◌, refl, sym, ap, ◌∙◌}
-use mathlib.Core.List.{List}
+use mathlib.Core.List.{List, [], ◌∷◌}
 use native.Mathlib.Omega.{arith}
-use lib.ListN.{length}
+use lib.ListN.{length, get_or}
 use Rattle.sheet.specs.KeySheets.{Reading, sheet, turned}
 use Rattle.sheet.specs.KeyAnswers.{refused, wrote}
 use Rattle.exchange.specs.declared.settings.Settings.{Settings}
@@ -78,6 +78,25 @@ module _ (bytes : List ℕ) where
     pub room_long : 8 ≤ length facts → 256 ≤ length masks → HeldLong s k c n tree node facts xs masks index (length bytes)
     unfolding room_held
     room_long r m = record { held = room_held r m; long = sym (ap length (plan_written_again bytes w.x w.is)) }
+
+-- the four numbers of the B line
+abbrev pub four : List ℕ → List ℕ
+four ns = get_or ns 0 0 ∷ get_or ns 1 0 ∷ get_or ns 2 0 ∷ get_or ns 3 0 ∷ []
+
+pub held_four :
+    (x : PlanSheet) (tree : List (List ℕ)) (node : List ℕ) (facts xs : List (List ℕ)) (masks index : List ℕ) →
+    PlanHeld x tree node facts xs masks index → PlanHeld x tree (four node) facts xs masks index
+held_four x tree node facts xs masks index h = record {
+  rest = h.rest;
+  stands = h.stands;
+  few = h.few;
+  above = h.above;
+  each = h.each;
+  room = h.room;
+  held = h.held;
+  found = h.found;
+  bits = h.bits;
+}
 
 -- the rooms have one text
 pub one_text : (x y : PlanSheet) (s : Settings) (k c n : ℕ) (tree : List (List ℕ)) (node : List ℕ) (facts xs : List (List ℕ)) (masks index : List ℕ)

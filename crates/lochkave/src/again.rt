@@ -109,7 +109,17 @@ pub(crate) fn rewrite_plan_sheet(sheet: &[u8], out: &mut [u8]) -> u64
     match read_plan(sheet, &mut lent) {
         Err(refused) => refused.word(),
         Ok(p) => {
-            let f = held_facts(p, node, &facts, &xs, &masks, &index);
+            let SheetRooms {
+                rows,
+                node,
+                facts,
+                xs,
+                masks,
+                index,
+                ..
+            } = lent;
+            let node = [node[0], node[1], node[2], node[3]];
+            let f = held_facts(p, node, &*facts, &*xs, &*masks, &*index);
             put_plan_again(sheet.len(), p.settings, &rows[..p.lines], f, out)
         }
     }

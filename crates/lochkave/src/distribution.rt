@@ -45,20 +45,30 @@ pub(crate) fn distribute_in(sheet: &[u8], lent: TreeRooms, out: &mut [u8]) -> u6
     let mut head = [0u64; 9];
     let mut node = [0u64; 4];
     let mut facts = [[0u64; 7]; 8];
-    let mut read_in = SheetRooms {
+    let mut lent = SheetRooms {
         fields,
         head: &mut head,
-        rows: &mut *rows,
+        rows,
         node: &mut node,
         facts: &mut facts,
-        xs: &mut *xs,
-        masks: &mut *masks,
-        index: &mut *index,
+        xs,
+        masks,
+        index,
     };
-    match read_plan(sheet, &mut read_in) {
+    match read_plan(sheet, &mut lent) {
         Err(refused) => return refused.word(),
         Ok(p) => {
-            let f = held_facts(p, node, &facts, &*xs, &*masks, &*index);
+            let SheetRooms {
+                rows,
+                node,
+                facts,
+                xs,
+                masks,
+                index,
+                ..
+            } = lent;
+            let node = [node[0], node[1], node[2], node[3]];
+            let f = held_facts(p, node, &*facts, &*xs, &*masks, &*index);
             return answer_plan(p.settings, f, &mut rows[..p.lines], mid, dst, out);
         }
     }

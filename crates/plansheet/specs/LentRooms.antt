@@ -1,13 +1,9 @@
 -- The rooms lent for a sheet, before a call and after it.
-use Rattle.std.specs.Prelude.{◌≡◌}
+use Rattle.std.specs.Prelude.{◌≡◌, length}
 use Rattle.plansheet.specs.declared.rooms.SheetRooms.{SheetRooms}
 
--- the same slices are lent
-abbrev pub SameRooms : SheetRooms → SheetRooms → Type 0
-SameRooms a b =
-    (a.head.ghost_name ≡ b.head.ghost_name) × (a.rows.ghost_name ≡ b.rows.ghost_name) × (a.node.ghost_name ≡ b.node.ghost_name) × (a.facts.ghost_name ≡ b.facts.ghost_name)
-    × (a.xs.ghost_name ≡ b.xs.ghost_name) × (a.masks.ghost_name ≡ b.masks.ghost_name) × (a.index.ghost_name ≡ b.index.ghost_name)
-
--- the D line and the tree are as they were
-abbrev pub TreeKept : SheetRooms → SheetRooms → Type 0
-TreeKept a b = (a.head.now ≡ b.head.now) × (a.rows.now ≡ b.rows.now)
+-- each is as large as it was
+abbrev pub SameSizes : SheetRooms → SheetRooms → Type 0
+SameSizes a b =
+    (length b.fields.now ≡ length a.fields.now) × (length b.head.now ≡ length a.head.now) × (length b.rows.now ≡ length a.rows.now) × (length b.node.now ≡ length a.node.now)
+    × (length b.facts.now ≡ length a.facts.now) × (length b.xs.now ≡ length a.xs.now) × (length b.masks.now ≡ length a.masks.now) × (length b.index.now ≡ length a.index.now)

@@ -17,8 +17,8 @@ use numberlines::child::LONG;
 use refusals::Refusal;
 use text::line::{Fields, line_at};
 
-// No code and no size is asked.
-pub const ANY: u64 = 4294967295;
+// No code and no size is asked: no number is larger.
+pub const ANY: u64 = LONG;
 
 // How many sets n children have.
 pub fn sets_of(n: usize) -> usize

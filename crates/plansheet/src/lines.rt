@@ -6,7 +6,7 @@ ghost use Rattle.sheet.specs.KeySheets.{sheet};
 ghost use Rattle.plansheet.specs.PlanLines.{plan_line};
 ghost use Rattle.plansheet.specs.PlanSheets.{FactLines, operator_rows, read_masks, read_children, read_facts};
 ghost use Rattle.plansheet.specs.ReadRows.{rows_by, Left, run_from};
-ghost use Rattle.plansheet.specs.LentRooms.{SameRooms, TreeKept};
+ghost use Rattle.plansheet.specs.LentRooms.{SameSizes};
 ghost use Rattle.plansheet.specs.ReadPlans.{tree_run, TreeLeft, facts_by, MasksHeld, ChildrenHeld, FactsHeld};
 
 use crate::description::{LineShape, TreeShape};
@@ -159,9 +159,8 @@ pub fn read_fact_lines(
     requires { children ≤ 8 }
     ensures answer { result ≡ facts_by (read_facts children place.entry.line place.entry.at (parts 10 (drop place.entry.at place.entry.s.now))) }
     ensures held { (g : FactLines) → read_facts children place.entry.line place.entry.at (parts 10 (drop place.entry.at place.entry.s.now)) ≡ sheet g → FactsHeld children g lent.old.node.now lent.new.node.now lent.old.facts.now lent.new.facts.now lent.old.xs.now lent.new.xs.now lent.old.masks.now lent.new.masks.now }
-    ensures room { length lent.new.xs.now ≡ length lent.old.xs.now }
-    ensures kept { TreeKept lent.old lent.new }
-    ensures same { SameRooms lent.old lent.new }
+    ensures sizes { SameSizes lent.old lent.new }
+    ensures kept { (lent.old.head.now ≡ lent.new.head.now) × (lent.old.rows.now ≡ lent.new.rows.now) }
 {
     match node_line(place.s, place.at, &mut *lent.fields) {
         Read::Line { count, next } => {

@@ -10,7 +10,7 @@ ghost use Rattle.exchange.specs.Found.{index_of};
 ghost use Rattle.sheet.specs.KeySheets.{sheet};
 ghost use Rattle.plansheet.specs.PlanSheets.{PlanSheet, FactLines, settings_of, facts_of, plan_sheet, judged_plan, with_facts, child_count, read_facts, read_plan};
 ghost use Rattle.plansheet.specs.PlanRooms.{PlanRooms, Filled, TreeStands, RoomFor, plan_by, PlanHeld};
-ghost use Rattle.plansheet.specs.LentRooms.{SameRooms};
+ghost use Rattle.plansheet.specs.LentRooms.{SameSizes};
 
 use crate::fit::facts_fit;
 use crate::line::sets_of;
@@ -65,10 +65,10 @@ fn plan_fits(target: u64, f: LinesRead, index: &mut [u64]) -> bool
 }
 
 // The lines that were read, judged as a sheet: target and batch first, then X rows and masks.
-fn judge_plan(head: &[u64], lines: usize, f: LinesRead, index: &mut [u64]) -> Result<Plan, Refused>
+fn judge_plan(head: &[u64], f: LinesRead, index: &mut [u64]) -> Result<Plan, Refused>
     requires in_bounds { (9 ≤ length head.now) × (length index.old ≡ 129) }
     requires filled { Filled f.rows.now f.facts.now f.xs.now f.masks.now f.worked f.children f.count }
-    ensures answer { (t : PlanTree) (g : FactLines) → lines ≡ length (flatten t) → PlanRooms t g f.entry.rows.now f.entry.facts.now f.entry.xs.now f.entry.masks.now f.entry.worked f.entry.children f.entry.count → result ≡ plan_by (judged_plan (plan_sheet (settings_of head.now) t g)) }
+    ensures answer { (t : PlanTree) (g : FactLines) → f.entry.lines ≡ length (flatten t) → PlanRooms t g f.entry.rows.now f.entry.facts.now f.entry.xs.now f.entry.masks.now f.entry.worked f.entry.children f.entry.count → result ≡ plan_by (judged_plan (plan_sheet (settings_of head.now) t g)) }
     ensures indexed { (x : PlanSheet) → result ≡ plan_by (sheet x) → (f.entry.count ≤ length f.entry.xs.now) × (index.new ≡ index_of (take f.entry.count f.entry.xs.now)) }
 {
     let Some(settings) = checked_settings(head) else {
@@ -79,7 +79,7 @@ fn judge_plan(head: &[u64], lines: usize, f: LinesRead, index: &mut [u64]) -> Re
     }
     Ok(Plan {
         settings,
-        lines,
+        lines: f.lines,
         worked: f.worked,
         children: f.children,
         rows: f.count,
@@ -92,7 +92,7 @@ fn read_after_tree(place: Place, lines: usize, lent: &mut SheetRooms) -> Result<
     requires tree_stands { TreeStands lent.old.rows.now }
     ensures answer { (t : PlanTree) (rest : List (List ℕ)) → lent.old.rows.now ≡ flatten t ++ rest → lines ≡ length (flatten t) → result ≡ plan_by (with_facts (settings_of lent.old.head.now) t (read_facts (child_count t) place.entry.line place.entry.at (parts 10 (drop place.entry.at place.entry.s.now)))) }
     ensures held { (t : PlanTree) (rest : List (List ℕ)) (x : PlanSheet) → lent.old.rows.now ≡ flatten t ++ rest → lines ≡ length (flatten t) → with_facts (settings_of lent.old.head.now) t (read_facts (child_count t) place.entry.line place.entry.at (parts 10 (drop place.entry.at place.entry.s.now))) ≡ sheet x → PlanHeld x lent.new.rows.now lent.new.node.now lent.new.facts.now lent.new.xs.now lent.new.masks.now lent.new.index.now }
-    ensures same { SameRooms lent.old lent.new }
+    ensures sizes { SameSizes lent.old lent.new }
 {
     // Behind `lent` the rooms are read by `&mut`: of one that is read by `&` there, the checker knows the length alone.
     let tree = &mut *lent.rows;
@@ -107,6 +107,7 @@ fn read_after_tree(place: Place, lines: usize, lent: &mut SheetRooms) -> Result<
     let masks = &mut *lent.masks;
     let read = LinesRead {
         rows: &*rows,
+        lines,
         worked,
         children,
         facts: &*facts,
@@ -114,7 +115,7 @@ fn read_after_tree(place: Place, lines: usize, lent: &mut SheetRooms) -> Result<
         count,
         masks: &*masks,
     };
-    judge_plan(&*head, lines, read, &mut *lent.index)
+    judge_plan(&*head, read, &mut *lent.index)
 }
 
 // A D sheet, in the rooms lent.
@@ -122,7 +123,7 @@ pub fn read_plan(s: &[u8], lent: &mut SheetRooms) -> Result<Plan, Refused>
     requires { RoomFor 256 17 (length s.now) (length lent.old.rows.now) × RoomFor 128 28 (length s.now) (length lent.old.xs.now) }
     ensures answer { result ≡ plan_by (read_plan s.now) }
     ensures held { (x : PlanSheet) → read_plan s.now ≡ sheet x → PlanHeld x lent.new.rows.now lent.new.node.now lent.new.facts.now lent.new.xs.now lent.new.masks.now lent.new.index.now }
-    ensures same { SameRooms lent.old lent.new }
+    ensures sizes { SameSizes lent.old lent.new }
 {
     let t = read_tree_lines(s, &mut *lent.fields, &mut *lent.head, &mut *lent.rows)?;
     let place = Place {

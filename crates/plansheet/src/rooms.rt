@@ -25,10 +25,11 @@ pub struct SheetRooms<'a> {
     pub ghost indexed: { length index.now ≡ 129 },
 }
 
-// The tree's rows in front, the worked node's place, its children, and the F rows, X rows and masks in front; of the X rows, which may be more than there is room for, how many there are.
+// The tree's rows in front and how many there are, the worked node's place, its children, and the F rows, X rows and masks in front; of the X rows, which may be more than there is room for, how many there are.
 #[derive(Clone, Copy)]
 pub struct LinesRead<'a> {
     pub rows: &'a [Row],
+    pub lines: usize,
     pub worked: usize,
     pub children: usize,
     pub facts: &'a [ChildRow],

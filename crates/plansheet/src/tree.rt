@@ -141,8 +141,7 @@ fn judged_row(
 
 // The tree line at a place as row `seen`; the first `quick` rows quickly, where nothing in the line is unusual.
 fn tree_row(
-    s: &[u8],
-    at: usize,
+    place: Place,
     seen: usize,
     quick: usize,
     h: TreeShape,
@@ -151,18 +150,18 @@ fn tree_row(
 ) -> Result<TreeRow, Refusal>
     requires in_bounds { length h.line.bounds.now ≤ length fields.old }
     requires plain_shape { (0 < quick → PlainShape h.line.letter h.line.bounds.now h.line.sizes.now h.line.codes.now) × (quick ≤ h.most) × (quick ≤ length rows.old) }
-    ensures answer { result ≡ tree_row_by (number_at (tree_by h.entry) seen s.now at) (after s.now at) (line_at h.entry.line.letter s.now at) }
-    ensures stored { RowStored (tree_by h.entry) seen s.now at rows.old rows.new }
+    ensures answer { result ≡ tree_row_by (number_at (tree_by h.entry) seen place.entry.s.now place.entry.at) (after place.entry.s.now place.entry.at) (line_at h.entry.line.letter place.entry.s.now place.entry.at) }
+    ensures stored { RowStored (tree_by h.entry) seen place.entry.s.now place.entry.at rows.old rows.new }
 {
     if seen < quick {
-        if let Ok(end) = operator_read(s, at, seen, h, &mut rows[seen]) {
+        if let Ok(end) = operator_read(place.s, place.at, seen, h, &mut rows[seen]) {
             return Ok(TreeRow {
                 children: rows[seen][CHILDREN],
                 next: end + 1,
             });
         }
     }
-    judged_row(s, at, seen, h, fields, rows)
+    judged_row(place.s, place.at, seen, h, fields, rows)
 }
 
 // How many rows were read, the place after them and the number of the line there.
@@ -191,7 +190,12 @@ pub fn read_tree(
     let mut owed: u64 = 1;
     // No `for`: the lines say themselves how many are still to come.
     while owed != 0 {
-        let row = tree_row(place.s, p, n, quick, h, &mut *fields, &mut *rows).map_err(
+        let here = Place {
+            s: place.s,
+            at: p,
+            line: l,
+        };
+        let row = tree_row(here, n, quick, h, &mut *fields, &mut *rows).map_err(
             |refusal| refusal.on_line(l),
         )?;
         owed = owed - 1 + row.children;

@@ -6,7 +6,7 @@ use Rattle.plantheorems.proofs.PlanRoundTrip.{plan_written_again}
 use Rattle.lochkave.specs.Entry.{plan_again}
 use Rattle.lochkave.proofs.PlanBounded.{plan_turned_few}
 use Rattle.lochkave.proofs.Entries.{leaves_refused, turned_line, turned_word}
-use Rattle.lochkave.proofs.PlanEntries.{plan_was_turned, plan_was_held, again_turned, again_held, room_holds}
+use Rattle.lochkave.proofs.PlanEntries.{held_four, plan_was_turned, plan_was_held, again_turned, again_held, room_holds}
 use Rattle.lochkave.proofs.PlanLent.{lent_in, lent_within, lent_long, lent_written}
 use Rattle.lochkave.proofs.again.rewrite_plan_sheet.Goals as goal
 
@@ -24,23 +24,15 @@ held_facts-f-requires c =
     let a = c.args in
     let q = c.read_plan in
     let w = plan_was_held (read_plan a.sheet.now) q.result _ q.ensures.answer c.in-Ok.is in
-    let h = room_holds a.sheet.now _ _ _ _ w _ _ _ _ _ _ q.ensures.held in
-    lent_in _ _ _ _ _ _ _ _ _ _ _ h (omega (arith, q.auto.facts)) (omega (arith, q.auto.masks))
-
-pub slice_bounds-rows-end : goal.slice_bounds-rows-end
-slice_bounds-rows-end c =
-    let a = c.args in
-    let q = c.read_plan in
-    let w = plan_was_held (read_plan a.sheet.now) q.result _ q.ensures.answer c.in-Ok.is in
-    let h = room_holds a.sheet.now _ _ _ _ w _ _ _ _ _ _ q.ensures.held in
-    lent_within _ _ _ _ _ _ _ _ _ _ _ h
+    let h = room_holds a.sheet.now _ _ _ _ w _ _ _ _ _ _ (λ x e. held_four x _ _ _ _ _ _ (q.ensures.held x e)) in
+    lent_in _ _ _ _ _ _ _ _ _ _ _ h q.new.lent.eight q.new.lent.masked
 
 pub slice_bounds-put_plan_again-end : goal.slice_bounds-put_plan_again-end
 slice_bounds-put_plan_again-end c =
     let a = c.args in
     let q = c.read_plan in
     let w = plan_was_held (read_plan a.sheet.now) q.result _ q.ensures.answer c.in-Ok.is in
-    let h = room_holds a.sheet.now _ _ _ _ w _ _ _ _ _ _ q.ensures.held in
+    let h = room_holds a.sheet.now _ _ _ _ w _ _ _ _ _ _ (λ x e. held_four x _ _ _ _ _ _ (q.ensures.held x e)) in
     sym (lent_long _ _ _ _ _ _ _ _ _ _ _ h)
 
 pub put_plan_again-requires : goal.put_plan_again-requires
@@ -48,7 +40,7 @@ put_plan_again-requires c =
     let a = c.args in
     let q = c.read_plan in
     let w = plan_was_held (read_plan a.sheet.now) q.result _ q.ensures.answer c.in-Ok.is in
-    let h = room_holds a.sheet.now _ _ _ _ w _ _ _ _ _ _ q.ensures.held in
+    let h = room_holds a.sheet.now _ _ _ _ w _ _ _ _ _ _ (λ x e. held_four x _ _ _ _ _ _ (q.ensures.held x e)) in
     let f = c.held_facts-f in
     let text = lent_written _ _ _ _ _ _ _ _ _ _ _ h f.result f.ensures.node f.ensures.children f.ensures.rows f.ensures.masks in
     sym (ap length (text ∙ plan_written_again a.sheet.now w.x w.is))
@@ -58,7 +50,7 @@ returns-in-Ok c =
     let a = c.args in
     let q = c.read_plan in
     let w = plan_was_held (read_plan a.sheet.now) q.result _ q.ensures.answer c.in-Ok.is in
-    let h = room_holds a.sheet.now _ _ _ _ w _ _ _ _ _ _ q.ensures.held in
+    let h = room_holds a.sheet.now _ _ _ _ w _ _ _ _ _ _ (λ x e. held_four x _ _ _ _ _ _ (q.ensures.held x e)) in
     let f = c.held_facts-f in
     let text = lent_written _ _ _ _ _ _ _ _ _ _ _ h f.result f.ensures.node f.ensures.children f.ensures.rows f.ensures.masks in
     let left = rw text at c.put_plan_again.ensures in

@@ -4,7 +4,7 @@ use Rattle.plansheet.specs.PlanSheets.{read_plan}
 use Rattle.plananswer.specs.PlanDecision.{plan_decision}
 use Rattle.lochkave.proofs.PlanBounded.{plan_turned_few}
 use Rattle.lochkave.proofs.Entries.{leaves_refused, turned_line, turned_word}
-use Rattle.lochkave.proofs.PlanEntries.{plan_was_turned, plan_was_held, plan_turned, plan_held, room_holds}
+use Rattle.lochkave.proofs.PlanEntries.{held_four, plan_was_turned, plan_was_held, plan_turned, plan_held, room_holds}
 use Rattle.lochkave.proofs.PlanLent.{lent_in, lent_within, lent_long, lent_sheet, lent_stands, lent_same}
 use Rattle.lochkave.proofs.distribution.distribute_in.Goals as goal
 
@@ -22,23 +22,15 @@ held_facts-f-requires c =
     let a = c.args in
     let q = c.read_plan in
     let w = plan_was_held (read_plan a.sheet.now) q.result _ q.ensures.answer c.in-Ok.is in
-    let h = room_holds a.sheet.now _ _ _ _ w _ _ _ _ _ _ q.ensures.held in
-    lent_in _ _ _ _ _ _ _ _ _ _ _ h (omega (arith, q.auto.facts)) (omega (arith, c.requires.masked, q.auto.masks))
+    let h = room_holds a.sheet.now _ _ _ _ w _ _ _ _ _ _ (λ x e. held_four x _ _ _ _ _ _ (q.ensures.held x e)) in
+    lent_in _ _ _ _ _ _ _ _ _ _ _ h q.new.lent.eight q.new.lent.masked
 
 pub slice_bounds-answer_plan-end : goal.slice_bounds-answer_plan-end
 slice_bounds-answer_plan-end c =
     let a = c.args in
     let q = c.read_plan in
     let w = plan_was_held (read_plan a.sheet.now) q.result _ q.ensures.answer c.in-Ok.is in
-    let h = room_holds a.sheet.now _ _ _ _ w _ _ _ _ _ _ q.ensures.held in
-    lent_within _ _ _ _ _ _ _ _ _ _ _ h
-
-pub slice_bounds-answer_plan-end-in-Ok : goal.slice_bounds-answer_plan-end-in-Ok
-slice_bounds-answer_plan-end-in-Ok c =
-    let a = c.args in
-    let q = c.read_plan in
-    let w = plan_was_held (read_plan a.sheet.now) q.result _ q.ensures.answer c.in-Ok.is in
-    let h = room_holds a.sheet.now _ _ _ _ w _ _ _ _ _ _ q.ensures.held in
+    let h = room_holds a.sheet.now _ _ _ _ w _ _ _ _ _ _ (λ x e. held_four x _ _ _ _ _ _ (q.ensures.held x e)) in
     sym (lent_long _ _ _ _ _ _ _ _ _ _ _ h)
 
 pub answer_plan-requires-clause-sheet : goal.answer_plan-requires-clause-sheet
@@ -46,16 +38,16 @@ answer_plan-requires-clause-sheet c =
     let a = c.args in
     let q = c.read_plan in
     let w = plan_was_held (read_plan a.sheet.now) q.result _ q.ensures.answer c.in-Ok.is in
-    let h = room_holds a.sheet.now _ _ _ _ w _ _ _ _ _ _ q.ensures.held in
+    let h = room_holds a.sheet.now _ _ _ _ w _ _ _ _ _ _ (λ x e. held_four x _ _ _ _ _ _ (q.ensures.held x e)) in
     let f = c.held_facts-f in
-    rw f.ensures.children (lent_sheet _ _ _ _ _ _ _ _ _ _ _ h (omega (arith, q.auto.facts)))
+    rw f.ensures.children (lent_sheet _ _ _ _ _ _ _ _ _ _ _ h q.new.lent.eight)
 
 pub returns-in-Ok : goal.returns-in-Ok
 returns-in-Ok c =
     let a = c.args in
     let q = c.read_plan in
     let w = plan_was_held (read_plan a.sheet.now) q.result _ q.ensures.answer c.in-Ok.is in
-    let h = room_holds a.sheet.now _ _ _ _ w _ _ _ _ _ _ q.ensures.held in
+    let h = room_holds a.sheet.now _ _ _ _ w _ _ _ _ _ _ (λ x e. held_four x _ _ _ _ _ _ (q.ensures.held x e)) in
     let f = c.held_facts-f in
     let same = lent_same _ _ _ _ _ _ _ _ _ _ _ h f.result f.ensures.node f.ensures.children f.ensures.rows f.ensures.masks in
     let given = c.answer_plan.ensures w.x.plan [] (lent_stands _ _ _ _ _ _ _ _ _ _ _ h) in

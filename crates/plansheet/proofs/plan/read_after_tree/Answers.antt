@@ -76,7 +76,7 @@ invariant_of-read c =
     let bytes : 28 * c.in_ok-count.count ≤ length p.s.now + 1 = omega (arith, g.counted, facts_few _ g.lines p.line p.at p.s.now g.is) in
     record {
       eight = c.read_fact_lines.new.lent.eight;
-      roomy = λ z. let q = fact_room (length p.s.now) (length l.xs.now) _ c.requires.room bytes (omega (arith, c.read_fact_lines.ensures.room)) in omega (arith, c.read_fact_lines.ensures.room);
+      roomy = λ z. let q = fact_room (length p.s.now) (length l.xs.now) _ c.requires.room bytes (omega (arith, c.read_fact_lines.ensures.sizes.5)) in omega (arith, c.read_fact_lines.ensures.sizes.5);
       masked = c.read_fact_lines.new.lent.masked;
     }
 

@@ -60,6 +60,9 @@ module _ (h : TreeShape) (s : List ℕ) (p n : ℕ) where
 pub loop-owed-init : goal.loop-owed-init
 loop-owed-init c = (head_first (operator_rows 1) _ operators_made (tree_by c.args.h) _ _ _ _ _ c.args.place.within c.args.place.numbered, omega arith, omega arith, refl)
 
+pub invariant_of-here : goal.invariant_of-here
+invariant_of-here c = record { within = c.loop-owed.invariant.0.within; numbered = c.loop-owed.invariant.0.lines }
+
 pub tree_row-requires-clause-in_bounds : goal.tree_row-requires-clause-in_bounds
 tree_row-requires-clause-in_bounds c =
     omega (arith, c.requires, c.loop-owed.invariant.3)
