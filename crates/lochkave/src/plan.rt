@@ -73,7 +73,11 @@ pub(crate) fn answer_plan(
                 interleave: done.interleave,
                 tracked: done.tracked,
             };
-            write_plan(head, &dst[..done.lines], out)
+            match write_plan(head, &dst[..done.lines], out) {
+                // No From goes from usize to u64.
+                Ok(bytes) => bytes as u64,
+                Err(refused) => refused.word(),
+            }
         }
     }
 }

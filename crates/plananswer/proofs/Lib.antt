@@ -5,3 +5,4 @@ pub mod SizedPlans
 pub mod SizedAnswers
 pub mod PlanAnswersFit
 pub mod Examples
+pub mod Written

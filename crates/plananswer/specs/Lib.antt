@@ -3,3 +3,4 @@ pub mod RowTexts
 pub mod SheetTexts
 pub mod Sizes
 pub mod PlanDecision
+pub mod Written

@@ -2,16 +2,17 @@
 ghost use Rattle.std.specs.Prelude.{◌≡◌, ◌+◌, ◌≤◌, length};
 ghost use Rattle.text.specs.Write.{Wrote};
 ghost use Rattle.sheet.specs.KeyAnswers.{wrote};
-ghost use Rattle.sheet.specs.Outcomes.{answer, after, within};
+ghost use Rattle.sheet.specs.Outcomes.{after, within};
+ghost use Rattle.plananswer.specs.Written.{written_by};
 ghost use Rattle.plananswer.specs.RowTexts.{lines_of, row_line, head_line, rows_text};
 
 use crate::line::{AnswerLine, operator_length};
 use crate::rows::put_rows;
 use exchange::row::Row;
-use refusals::Refusal;
+use refusals::{Refusal, Refused};
 use text::write::{number_length, put_line};
 
-// The numbers of the d line.
+// The numbers of the d line, as `ensure::Answered` has them beside a count of rows: this crate doesn't see `ensure`.
 #[derive(Clone, Copy, Debug, PartialEq, Eq)]
 pub struct Head {
     pub changed: u64,
@@ -76,12 +77,12 @@ pub fn put_plan(out: &mut [u8], at: usize, head: Head, rows: &[Row]) -> usize
 }
 
 // The answer, where there is room for it; else refusal 12.
-pub fn write_plan(head: Head, rows: &[Row], out: &mut [u8]) -> u64
+pub fn write_plan(head: Head, rows: &[Row], out: &mut [u8]) -> Result<usize, Refused>
     requires { length rows.now ≤ 65536 }
-    ensures { let t = within (length out.old) (wrote (rows_text head.changed head.window head.interleave head.tracked rows.now)) in (result ≡ answer t) × (out.new ≡ after t out.old) }
+    ensures { let t = within (length out.old) (wrote (rows_text head.changed head.window head.interleave head.tracked rows.now)) in (result ≡ written_by t) × (out.new ≡ after t out.old) }
 {
     if out.len() < plan_text_length(head, rows) {
-        return Refusal::OutputTooShort.on_line(0).word();
+        return Err(Refusal::OutputTooShort.on_line(0));
     }
-    put_plan(out, 0, head, rows) as u64
+    Ok(put_plan(out, 0, head, rows))
 }
