@@ -52,14 +52,6 @@ module _ (line : Operator → ℕ → List ℕ) where
         ∙ ap (λ (x : List ℕ). x ++ lines_of (of_row line) (flattens ts)) (plan_lines_lem t)
         ∙ ap (λ (x : List ℕ). plan_lines line t ++ x) (plans_lines_lem ts)
 
--- a limit's field by its mark
-pub limit_same : (m l : ℕ) → limit_field (limit_of m l) ≡ marked_limit m l
-limit_same m l = go (eqb m 0)
-  where
-    go : (b : Bool) → limit_field (cond b absent (some l)) ≡ cond b empty (number l)
-    go true = refl
-    go false = refl
-
 -- an answer's text is that of its numbers and the rows of its tree
 pub rows_answer : (a : Answer) → rows_text a.changed a.window a.interleave a.tracked (flatten a.plan) ≡ plan_answer_text a
 unfolding rows_text head_line row_line plan_answer_text

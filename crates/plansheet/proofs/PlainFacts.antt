@@ -83,10 +83,6 @@ module _ (s : List ℕ) (at : ℕ) (row row' : List ℕ) where
     line = line;
   }
 
-  pub fact_other : (e : Unread) → RowFound 88 s at row (Err e) row' → FactFound s at row (Err e) row'
-  fact_other Unusual h = h
-  fact_other Other h = h
-
   -- where no X line stands, the row is as it was
   pub fact_none : (r : Result ℕ Unread) → FactFound s at row r row' → line_at 88 s at ≡ none → row' ≡ row
   fact_none (Ok end) o e = absurd (fact_stands s at (map number row') end o.line e)

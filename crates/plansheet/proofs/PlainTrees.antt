@@ -187,10 +187,6 @@ module _
 -- ---- what `operator_read` leaves
 
 module _ (letter : ℕ) (s : List ℕ) (at seen : ℕ) (codes : List ℕ) (rules : List (List ℕ)) where
-  pub operator_other : (e : Unread) (row' : List ℕ) → OperatorRead letter s at seen codes rules (Err e) row'
-  operator_other Unusual row' = tt
-  operator_other Other row' = tt
-
   pub operator_held :
       (end : ℕ) (before found row' : List ℕ) → OperatorFound letter s at before (Ok end) found → OperatorFits codes rules found → row' ≡ set found 0 (seen + 1) →
       OperatorRead letter s at seen codes rules (Ok end) row'

@@ -40,17 +40,8 @@ module _ (sizes codes : List ℕ) (next : ℕ) (ns : List ℕ) where
   abbrev S : ℕ
   S = shape_number sizes codes next ns
 
-  pub shape_long : most_bytes < next → 3 ≡ S
-  shape_long h = rw (lt-ltb most_bytes next h)
-
   module _ (h : next ≤ most_bytes) where
-    pub shape_large : over_any sizes ns ≡ true → 3 ≡ S
-    shape_large e = rw (le-ltb most_bytes next h, e)
-
     module _ (e : over_any sizes ns ≡ false) where
-      pub shape_undefined : over_any codes ns ≡ true → 4 ≡ S
-      shape_undefined f = rw (le-ltb most_bytes next h, e, f)
-
       pub shape_fine : over_any codes ns ≡ false → 0 ≡ S
       shape_fine f = rw (le-ltb most_bytes next h, e, f)
 
@@ -291,17 +282,8 @@ module _ (sets count worst largest next : ℕ) where
   masks_count h = rw (ne_eqb count sets h)
 
   module _ (a : count ≡ sets) where
-    pub masks_state : 0 < worst → 2 ≡ M
-    masks_state h = rw (eq-eqb count sets a, lt-leb worst 0 h)
-
     module _ (b : worst ≤ 0) where
-      pub masks_value : 65535 < largest → 2 ≡ M
-      masks_value h = rw (eq-eqb count sets a, le-leb worst 0 b, lt-leb largest 65535 h)
-
       module _ (d : largest ≤ 65535) where
-        pub masks_long : most_bytes < next → 3 ≡ M
-        masks_long h = rw (eq-eqb count sets a, le-leb worst 0 b, le-leb largest 65535 d, lt-ltb most_bytes next h)
-
         pub masks_fine : next ≤ most_bytes → 0 ≡ M
         masks_fine h = rw (eq-eqb count sets a, le-leb worst 0 b, le-leb largest 65535 d, le-ltb most_bytes next h)
 

@@ -1,6 +1,6 @@
 -- The lines of a D sheet one run after the other: what each reader answers, of what follows it.
 -- Assumes nothing.
-use mathlib.Core.Path.{◌≡◌, sym, ap, ◌∙◌}
+use mathlib.Core.Path.{◌≡◌, refl, sym, ap, ◌∙◌}
 use mathlib.Core.List.{List}
 use mathlib.Core.Bool.{Bool, true, false, cond}
 use Prim.Native.Nat.{ℕ, ◌+◌, ◌≤◌, ◌<◌}
@@ -15,12 +15,14 @@ use Rattle.linekinds.specs.Lines.{Run, read, refused, line_number, fields_of, ro
 use Rattle.linekinds.specs.KeyLines.{values}
 use Rattle.linekinds.specs.Reading.{read_by}
 use Rattle.linekinds.specs.declared.line.Read.TheVariants as L
+use Rattle.std.specs.Prelude.{Ok, Err}
 use Rattle.refusals.specs.declared.Refusal.{Refusal}
+use Rattle.refusals.specs.declared.Refused.{Refused}
 use Rattle.sheet.specs.KeySheets.{Reading, sheet, turned, head_of}
 use Rattle.plansheet.specs.PlanLines.{settings_shape, settings_line, node_shape, node_line, child_line, fact_line, mask_shape, mask_line, plan_line, two_to}
 use Rattle.plansheet.specs.PlanSheets.{FactLines, operator_rows, with_rows, read_masks, read_children, read_facts}
 use Rattle.plansheet.specs.ReadRows.{number_rows, run_from, Left}
-use Rattle.plansheet.specs.ReadPlans.{tree_run, head_line, TreeLeft, MasksHeld, ChildrenHeld, FactsHeld}
+use Rattle.plansheet.specs.ReadPlans.{tree_run, head_line, facts_by, whole_by, TreeLeft, MasksHeld, ChildrenHeld, FactsHeld}
 use Rattle.plansheet.proofs.Turns.{Taken}
 use Rattle.plansheet.proofs.Singles.{single_refused, single_read, more_follows, none_follows, Opened}
 
@@ -125,6 +127,22 @@ pub masks_open : (n : ℕ) (b : List Field) (fs xs : List (List Field)) (l p : �
     → read_masks b fs xs n l p ls ≡ sheet g → (b ≡ g.node) × (fs ≡ g.children) × (xs ≡ g.rows)
 unfolding read_masks
 masks_open n b fs xs l p ls g e = masks_of (rows_of (mask_line n) 1 0 l p ls) b fs xs g e
+
+-- all of the lines, by what the reader of the last of them answered
+pub whole_err : (r : Reading FactLines) (w : Refused) → Err w ≡ whole_by r → Err w ≡ facts_by r
+whole_err (turned m l) w e = cc
+whole_err (sheet g) w e = absurd cc
+
+pub whole_not : (r : Reading FactLines) (w : Refused) (g : FactLines) → Err w ≡ whole_by r → r ≡ sheet g → ⊥
+whole_not (turned m l) w g e f = cc
+whole_not (sheet h) w g e f = cc
+
+whole_ok : (r : Reading FactLines) (u : Unit {0}) (xs : List (List Field)) → ((g : FactLines) → r ≡ sheet g → xs ≡ g.rows) → Ok u ≡ whole_by r → Ok (length xs) ≡ facts_by r
+whole_ok (turned m l) u xs h e = absurd cc
+whole_ok (sheet g) u xs h e = ap (λ (ys : List (List Field)). Ok (length ys)) (h g refl)
+
+pub masks_whole : (n : ℕ) (b : List Field) (fs xs : List (List Field)) (l p : ℕ) (ls : List (List ℕ)) (u : Unit {0}) → Ok u ≡ whole_by (read_masks b fs xs n l p ls) → Ok (length xs) ≡ facts_by (read_masks b fs xs n l p ls)
+masks_whole n b fs xs l p ls u e = whole_ok (read_masks b fs xs n l p ls) u xs (λ g f. (masks_open n b fs xs l p ls g f).2) e
 
 rows_of_lem : (r : Run) (n : ℕ) (b : List Field) (fs : List (List Field)) (g : FactLines) → with_rows r (λ xs l p ls. read_masks b fs xs n l p ls) ≡ sheet g → b ≡ g.node
 rows_of_lem (refused m k) n b fs g e = let z : ◌≡◌ {A = ℕ} 0 1 = cc in absurd (omega arith)

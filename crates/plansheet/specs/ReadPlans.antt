@@ -41,6 +41,11 @@ abbrev pub facts_by : Reading FactLines → Result ℕ Refused
 facts_by (turned n l) = Err (refused_on n l)
 facts_by (sheet g) = Ok (length g.rows)
 
+-- that the last line was read, and nothing stands after it; or a refusal and its line
+abbrev pub whole_by : Reading FactLines → Result (Unit {0}) Refused
+whole_by (turned n l) = Err (refused_on n l)
+whole_by (sheet g) = Ok tt
+
 -- the Y line is in the room lent, with as many masks as there are sets
 pub record MasksHeld (n : ℕ) (g : FactLines) (masks masks' : List ℕ) : Type 0 where
   pub stored : masks' ≡ sets masks 0 (values g.masks)

@@ -7,7 +7,7 @@ ghost use Rattle.plansheet.specs.PlanLines.{plan_line};
 ghost use Rattle.plansheet.specs.PlanSheets.{FactLines, operator_rows, read_masks, read_children, read_facts};
 ghost use Rattle.plansheet.specs.ReadRows.{rows_by, Left, run_from};
 ghost use Rattle.plansheet.specs.LentRooms.{SameSizes};
-ghost use Rattle.plansheet.specs.ReadPlans.{tree_run, TreeLeft, facts_by, MasksHeld, ChildrenHeld, FactsHeld};
+ghost use Rattle.plansheet.specs.ReadPlans.{tree_run, TreeLeft, facts_by, whole_by, MasksHeld, ChildrenHeld, FactsHeld};
 
 use crate::description::{LineShape, TreeShape};
 use crate::facts::{copy_values, read_children, read_facts};
@@ -97,25 +97,24 @@ pub fn read_tree_lines(
     }
 }
 
-// The Y line at a place, and nothing after it; there are `count` X rows.
+// The Y line at a place, and nothing after it.
 fn read_masks(
     place: Place,
     children: usize,
-    count: usize,
     fields: &mut [[u64; 2]],
     masks: &mut [u64],
-) -> Result<usize, Refused>
+) -> Result<(), Refused>
     requires { (children ≤ 8) × (256 ≤ length fields.old) × (256 ≤ length masks.old) }
-    ensures answer { (b : List Field) (fs xs : List (List Field)) → count ≡ length xs → result ≡ facts_by (read_masks b fs xs children place.entry.line place.entry.at (parts 10 (drop place.entry.at place.entry.s.now))) }
+    ensures answer { (b : List Field) (fs xs : List (List Field)) → result ≡ whole_by (read_masks b fs xs children place.entry.line place.entry.at (parts 10 (drop place.entry.at place.entry.s.now))) }
     ensures held { (b : List Field) (fs xs : List (List Field)) (g : FactLines) → read_masks b fs xs children place.entry.line place.entry.at (parts 10 (drop place.entry.at place.entry.s.now)) ≡ sheet g → MasksHeld children g masks.old masks.new }
 {
     match mask_line(place.s, place.at, children, &mut *fields) {
-        Read::Line { count: many, next } => {
-            copy_values(&fields[..many], masks);
+        Read::Line { count, next } => {
+            copy_values(&fields[..count], masks);
             if next < place.s.len() {
                 return Err(Refusal::WrongLine.on_line(place.line + 1));
             }
-            Ok(count)
+            Ok(())
         }
         Read::Refused(refusal) => Err(refusal.on_line(place.line)),
     }
@@ -147,7 +146,8 @@ fn read_child_lines(
         at: x.next,
         line: x.line,
     };
-    read_masks(at_masks, children, x.count, fields, masks)
+    read_masks(at_masks, children, fields, masks)?;
+    Ok(x.count)
 }
 
 // The B line at a place, and what follows it: F lines, X rows, the Y line, and nothing more.

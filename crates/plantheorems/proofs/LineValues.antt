@@ -3,10 +3,10 @@
 use mathlib.Core.Path.{◌≡◌, refl, sym, ap, subst, ◌∙◌}
 use Prim.Native.Nat.{ℕ, zero, suc, ◌+◌}
 use native.Mathlib.Omega.{arith}
-use mathlib.Core.List.{List, [], ◌∷◌}
+use mathlib.Core.List.{List, [], ◌∷◌, map}
 use mathlib.Core.Bool.{true, ◌&&◌}
 use lib.Dec.{leb}
-use lib.ListN.{length, get_or, length-map, replicate}
+use lib.ListN.{length, get_or, length-map, replicate, length-replicate}
 use borrow.Author.Tests.{leb-true, le-leb}
 use Rattle.text.specs.declared.field.Field.{Field}
 use Rattle.text.specs.declared.field.Field.TheVariants.{Number as number, Empty as empty, Malformed as malformed}
@@ -30,6 +30,16 @@ use Rattle.plansheet.specs.PlanTexts.{number_fields, settings_numbers, node_numb
 use Rattle.plantheorems.specs.LegalPlans.{LegalSettings, LegalNode, LegalChild, LegalRow}
 use Rattle.plantheorems.proofs.FieldFacts.{Bounded, fixed_fine, fine_fits, fine_count, fine_value, fine_size, fine_code, fine_numbers}
 
+-- ---- of each line
+
+each_made : {A B : Type 0} (P : A → Type 0) (Q : B → Type 0) (f : A → B) → ((x : A) → P x → Q (f x)) → (xs : List A) → Each P xs → Each Q (map f xs)
+each_made P Q f h [] e = tt
+each_made P Q f h (x ∷ xs) e = (h x e.0, each_made P Q f h xs e.1)
+
+each_again : {A B : Type 0} (P : A → Type 0) (f : A → B) (g : B → A) → ((x : A) → P x → g (f x) ≡ x) → (xs : List A) → Each P xs → map g (map f xs) ≡ xs
+each_again P f g h [] e = refl
+each_again P f g h (x ∷ xs) e = λ i. h x e.0 i ∷ each_again P f g h xs e.1 i
+
 -- ---- written as it stood
 
 -- a line of fixed fields, by its places
@@ -48,13 +58,11 @@ node_again b f = again node_shape b f refl
 
 pub children_again : (fs : List (List Field)) → Each (Fine child_line) fs → child_fields (children_rows fs) ≡ fs
 unfolding filled
-children_again [] e = refl
-children_again (f ∷ fs) e = λ j. again child_shape f e.0 refl j ∷ children_again fs e.1 j
+children_again fs e = each_again (Fine child_line) (λ f. child_facts (values f)) (λ c. number_fields (child_numbers c)) (λ f k. again child_shape f k refl) fs e
 
 pub rows_again : (xs : List (List Field)) → Each (Fine (fixed_line fact_shape)) xs → fact_fields (fact_rows xs) ≡ xs
 unfolding filled
-rows_again [] e = refl
-rows_again (x ∷ xs) e = λ j. again fact_shape x e.0 refl j ∷ rows_again xs e.1 j
+rows_again xs e = each_again (Fine (fixed_line fact_shape)) (λ x. fact_row (values x)) (λ r. number_fields (row_numbers r)) (λ x k. again fact_shape x k refl) xs e
 
 plain_filled : (n : ℕ) → filled (replicate n plain) ≡ true
 unfolding filled
@@ -106,8 +114,7 @@ child_legal fs f =
     }
 
 pub children_legal : (fs : List (List Field)) → Each (Fine child_line) fs → Each LegalChild (children_rows fs)
-children_legal [] e = tt
-children_legal (f ∷ fs) e = (child_legal f e.0, children_legal fs e.1)
+children_legal fs e = each_made (Fine child_line) LegalChild (λ f. child_facts (values f)) child_legal fs e
 
 row_legal : (fs : List Field) → Fine (fixed_line fact_shape) fs → LegalRow (fact_row (values fs))
 row_legal fs f =
@@ -130,8 +137,7 @@ row_legal fs f =
     }
 
 pub rows_legal : (xs : List (List Field)) → Each (Fine (fixed_line fact_shape)) xs → Each LegalRow (fact_rows xs)
-rows_legal [] e = tt
-rows_legal (x ∷ xs) e = (row_legal x e.0, rows_legal xs e.1)
+rows_legal xs e = each_made (Fine (fixed_line fact_shape)) LegalRow (λ x. fact_row (values x)) row_legal xs e
 
 small_at_lem : (f : Field) → allows plain f ≡ true → Small (value_of f)
 small_at_lem (number n) e = leb-true n 65535 e
@@ -147,12 +153,8 @@ plain_small (suc n) (f ∷ fs) e = let p = both (allows plain f) (fits (replicat
 pub masks_small : (n : ℕ) (y : List Field) → Fine (mask_line n) y → Each Small (values y)
 masks_small n y f = plain_small (two_to n) y (fine_fits (mask_shape n) y f)
 
-plain_count : (n : ℕ) → length (replicate n plain) ≡ n
-plain_count zero = refl
-plain_count (suc n) = ap suc (plain_count n)
-
 pub masks_count : (n : ℕ) (y : List Field) → Fine (mask_line n) y → length (values y) ≡ two_to n
-masks_count n y f = length-map y value_of ∙ fine_count (mask_shape n) y f ∙ plain_count (two_to n)
+masks_count n y f = length-map y value_of ∙ fine_count (mask_shape n) y f ∙ length-replicate (two_to n) plain
 
 -- ---- fine lines of legal values
 
@@ -198,8 +200,7 @@ child_fine f l =
     (a, (b, (c, (d, (e, (g, tt))))))
 
 pub children_fine : (fs : List ChildFacts) → Each LegalChild fs → Each (Fine child_line) (child_fields fs)
-children_fine [] e = tt
-children_fine (f ∷ fs) e = (child_fine f e.0, children_fine fs e.1)
+children_fine fs e = each_made LegalChild (Fine child_line) (λ f. number_fields (child_numbers f)) child_fine fs e
 
 row_fine : (x : Row) → LegalRow x → Fine (fixed_line fact_shape) (number_fields (row_numbers x))
 row_fine x l =
@@ -222,8 +223,7 @@ row_fine x l =
     (omega arith, (omega arith, (omega arith, (omega arith, (e, (f, (g, (h, (i, (omega arith, (k, (m, tt))))))))))))
 
 pub rows_fine : (xs : List Row) → Each LegalRow xs → Each (Fine (fixed_line fact_shape)) (fact_fields xs)
-rows_fine [] e = tt
-rows_fine (x ∷ xs) e = (row_fine x e.0, rows_fine xs e.1)
+rows_fine xs e = each_made LegalRow (Fine (fixed_line fact_shape)) (λ x. number_fields (row_numbers x)) row_fine xs e
 
 plain_bounded : (ns : List ℕ) → Each Small ns → Bounded (replicate (length ns) plain) ns
 plain_bounded [] e = tt

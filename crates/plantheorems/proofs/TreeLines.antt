@@ -111,9 +111,6 @@ module _ (seen : ℕ) (fs : List Field) (fine : Fine (placed plan_line seen) fs)
   kinds : at fs 0 ≤ 11
   kinds = omega (arith, leb-false (length child_rules) (kind_at fs) (either_false (leb (length child_rules) (kind_at fs)) (over_any tree_shape.codes (values fs)) fine.defined).0)
 
-  pub line_seen : seen < most_lines
-  line_seen = leb-false most_lines seen (either_false (leb most_lines seen) (ltb most_children (children_at fs) || over_any tree_shape.sizes (values fs)) fine.small).0
-
   value : (i : ℕ) → at fs i ≤ get_or (largest_of tree_shape.heads) i 0
   value i = fits_value tree_shape.heads fs line_fits i
 

@@ -1,13 +1,12 @@
 -- `rewrite_plan_sheet` meets its contract: a refusal, or the sheet that is held.
-use Rattle.std.proofs.Common.{arith, ◌≡◌, sym, ap, ◌∙◌, length}
+use Rattle.std.proofs.Common.{arith, sym, ap, ◌∙◌, length}
 use Rattle.plansheet.specs.PlanSheets.{read_plan}
-use Rattle.plansheet.specs.PlanTexts.{plan_text}
 use Rattle.plantheorems.proofs.PlanRoundTrip.{plan_written_again}
 use Rattle.lochkave.specs.Entry.{plan_again}
 use Rattle.lochkave.proofs.PlanBounded.{plan_turned_few}
 use Rattle.lochkave.proofs.Entries.{leaves_refused, turned_line, turned_word}
 use Rattle.lochkave.proofs.PlanEntries.{held_four, plan_was_turned, plan_was_held, again_turned, again_held, room_holds}
-use Rattle.lochkave.proofs.PlanLent.{lent_in, lent_within, lent_long, lent_written}
+use Rattle.lochkave.proofs.PlanLent.{lent_in, lent_long, lent_written}
 use Rattle.lochkave.proofs.again.rewrite_plan_sheet.Goals as goal
 
 pub word-requires : goal.word-requires

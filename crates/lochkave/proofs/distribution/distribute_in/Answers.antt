@@ -5,7 +5,7 @@ use Rattle.plananswer.specs.PlanDecision.{plan_decision}
 use Rattle.lochkave.proofs.PlanBounded.{plan_turned_few}
 use Rattle.lochkave.proofs.Entries.{leaves_refused, turned_line, turned_word}
 use Rattle.lochkave.proofs.PlanEntries.{held_four, plan_was_turned, plan_was_held, plan_turned, plan_held, room_holds}
-use Rattle.lochkave.proofs.PlanLent.{lent_in, lent_within, lent_long, lent_sheet, lent_stands, lent_same}
+use Rattle.lochkave.proofs.PlanLent.{lent_in, lent_long, lent_sheet, lent_stands, lent_same}
 use Rattle.lochkave.proofs.distribution.distribute_in.Goals as goal
 
 pub word-requires : goal.word-requires

@@ -1,5 +1,7 @@
 -- `plansheet::lines::read_child_lines` meets its contract: F lines, X rows and the Y line, each where the one before ends (`Wholes`).
 use mathlib.Core.Path.{sym, ap, ◌∙◌}
+use mathlib.Core.List.{List}
+use Rattle.text.specs.declared.field.Field.{Field}
 use Rattle.std.specs.Prelude.{Result, Err}
 use Rattle.std.proofs.lemmas.Result.{err_from_is_err_and}
 use Rattle.refusals.specs.declared.Refused.{Refused}
@@ -10,7 +12,7 @@ use Rattle.plansheet.specs.ReadRows.{number_rows, run_from}
 use Rattle.plansheet.specs.ReadPlans.{facts_by}
 use Rattle.plansheet.proofs.Singles.{opened, turned_run}
 use Rattle.plansheet.proofs.CountedRuns.{counted_long}
-use Rattle.plansheet.proofs.Wholes.{children_back, facts_back, facts_on, children_held, not_sheet}
+use Rattle.plansheet.proofs.Wholes.{children_back, facts_back, facts_on, children_held, masks_whole, whole_err, whole_not, not_sheet}
 use Rattle.plansheet.proofs.lines.read_child_lines.Goals as goal
 
 pub read_children-requires : goal.read_children-requires
@@ -61,11 +63,27 @@ pub read_masks-requires : goal.read_masks-requires
 read_masks-requires c =
     (c.requires.0, omega (arith, c.requires.1, c.read_children.auto.fields, c.read_facts.auto.fields), c.requires.3)
 
+pub returns-in_err-read_masks-clause-answer : goal.returns-in_err-read_masks-clause-answer
+returns-in_err-read_masks-clause-answer c =
+    let a = c.args in let child = opened number_rows a.place.s.now (run_from child_line a.children a.place.s.now a.place.line a.place.at) a.facts.now _ _ c.in_ok-f.ensures.answer c.in_ok-f.ensures.left in
+    let rows = opened number_rows a.place.s.now (run_from fact_line 0 a.place.s.now c.in_ok-f.f.line c.in_ok-f.f.next) a.xs.now _ _ c.in_ok-x.ensures.answer c.in_ok-x.ensures.left in
+    let on = λ (b : List Field). facts_on a.place.s.now a.children a.place.line a.place.at b _ _ _ _ _ child _ _ _ _ _ rows in
+    let p = err_from_is_err_and c.from_residual-in_err-read_masks.result c.from_residual-in_err-read_masks.ensures.1 in
+    λ b. rw (p.1, p.2) (whole_err _ _ (c.in_err-read_masks.ensures.answer b child.rs rows.rs) ∙ ap facts_by (sym (on b)))
+
+pub returns-in_err-read_masks-clause-held : goal.returns-in_err-read_masks-clause-held
+returns-in_err-read_masks-clause-held c =
+    let a = c.args in let child = opened number_rows a.place.s.now (run_from child_line a.children a.place.s.now a.place.line a.place.at) a.facts.now _ _ c.in_ok-f.ensures.answer c.in_ok-f.ensures.left in
+    let rows = opened number_rows a.place.s.now (run_from fact_line 0 a.place.s.now c.in_ok-f.f.line c.in_ok-f.f.next) a.xs.now _ _ c.in_ok-x.ensures.answer c.in_ok-x.ensures.left in
+    let on = λ (b : List Field). facts_on a.place.s.now a.children a.place.line a.place.at b _ _ _ _ _ child _ _ _ _ _ rows in
+    λ b g h. absurd (whole_not _ _ g (c.in_err-read_masks.ensures.answer b child.rs rows.rs) (sym (on b) ∙ h))
+
 pub returns-clause-answer : goal.returns-clause-answer
 returns-clause-answer c =
     let a = c.args in let child = opened number_rows a.place.s.now (run_from child_line a.children a.place.s.now a.place.line a.place.at) a.facts.now _ _ c.in_ok-f.ensures.answer c.in_ok-f.ensures.left in
     let rows = opened number_rows a.place.s.now (run_from fact_line 0 a.place.s.now c.in_ok-f.f.line c.in_ok-f.f.next) a.xs.now _ _ c.in_ok-x.ensures.answer c.in_ok-x.ensures.left in
-    λ b. c.read_masks.ensures.answer b child.rs rows.rs rows.counts ∙ ap facts_by (sym (facts_on a.place.s.now a.children a.place.line a.place.at b _ _ _ _ _ child _ _ _ _ _ rows))
+    let on = λ (b : List Field). facts_on a.place.s.now a.children a.place.line a.place.at b _ _ _ _ _ child _ _ _ _ _ rows in
+    λ b. rw rows.counts (masks_whole a.children b child.rs rows.rs _ _ _ _ (c.in_ok-read_masks.ensures.answer b child.rs rows.rs) ∙ ap facts_by (sym (on b)))
 
 pub returns-clause-held : goal.returns-clause-held
 returns-clause-held c =
@@ -73,4 +91,4 @@ returns-clause-held c =
     let rows = opened number_rows a.place.s.now (run_from fact_line 0 a.place.s.now c.in_ok-f.f.line c.in_ok-f.f.next) a.xs.now _ _ c.in_ok-x.ensures.answer c.in_ok-x.ensures.left in
     let n = counted_long child_shape a.children 0 a.place.line a.place.at _ child.rs child.ls _ _ child.is in λ b g h.
     let k = sym (facts_on a.place.s.now a.children a.place.line a.place.at b _ _ _ _ _ child _ _ _ _ _ rows) ∙ h in
-    children_held a.children a.place.s.now b a.place.line a.place.at _ _ _ _ _ child _ _ _ _ _ rows _ _ n g k (c.read_masks.ensures.held b child.rs rows.rs g k)
+    children_held a.children a.place.s.now b a.place.line a.place.at _ _ _ _ _ child _ _ _ _ _ rows _ _ n g k (c.in_ok-read_masks.ensures.held b child.rs rows.rs g k)
