@@ -17,8 +17,6 @@ use Rattle.linekinds.specs.Lines.{Kind, fields_of}
 use Rattle.linekinds.specs.Reading.{Small, row_values, read_by}
 use Rattle.linekinds.specs.declared.line.Read.TheVariants as L
 use Rattle.numberlines.specs.NumberLines.{OperatorLine, OperatorFound}
-use Rattle.numberlines.specs.declared.row.Unread.{Unread}
-use Rattle.numberlines.specs.declared.row.Unread.TheVariants.{Unusual, Other}
 use Rattle.std.specs.Prelude.{Result, Ok, Err}
 use Rattle.refusals.specs.declared.Refusal.{Refusal}
 use Rattle.refusals.specs.Refusals.{refusal_of}

@@ -162,65 +162,19 @@ pub settings_fit_lem : (s : Settings) → LegalSettings s → settings_fit s ≡
 settings_fit_lem s l = rw (le-leb least_target s.target l.least_target, le-leb s.target most_target l.most_target, le-leb least_batch s.batch l.least_batch)
 
 pub settings_fine : (s : Settings) → LegalSettings s → Fine settings_line (number_fields (settings_numbers s))
-settings_fine s l =
-    let a = l.most_target in
-    let b = l.roundrobin in
-    let c = l.split in
-    let d = l.batch in
-    let e = l.estimates in
-    let f = l.subset in
-    let g = l.files in
-    let h = l.sort in
-    let i = l.union in
-    fixed_fine settings_shape (settings_numbers s)
-    (omega arith, (omega arith, (omega arith, (omega arith, (omega arith, (omega arith, (omega arith, (omega arith, (omega arith, tt)))))))))
-    tt
-    (omega arith, (omega arith, (omega arith, (omega arith, (omega arith, (omega arith, (omega arith, (omega arith, (omega arith, tt)))))))))
+settings_fine s l = fixed_fine settings_shape (settings_numbers s) (search (arith, l)) tt (search (arith, l))
 
 pub node_fine : (b : NodeFacts) → LegalNode b → Fine node_line (number_fields (node_numbers b))
-node_fine b l =
-    let c = l.friendly in
-    let d = l.window in
-    let e = l.aggexact in
-    let f = l.aggsubset in
-    fixed_fine node_shape (node_numbers b) (omega arith, (omega arith, (omega arith, (omega arith, tt)))) tt (c, (d, (e, (f, tt))))
+node_fine b l = fixed_fine node_shape (node_numbers b) (search (arith, l)) tt (search (arith, l))
 
 child_fine : (f : ChildFacts) → LegalChild f → Fine child_line (number_fields (child_numbers f))
-child_fine f l =
-    let a = l.gains in
-    let b = l.maintains in
-    let c = l.rowkind in
-    let d = l.rows in
-    let e = l.grouping in
-    let g = l.splits in
-    let h = l.entries in
-    fixed_fine child_shape (child_numbers f)
-    (omega arith, (omega arith, (omega arith, (omega arith, (omega arith, (omega arith, (omega arith, tt)))))))
-    (omega arith, (omega arith, (omega arith, (omega arith, (omega arith, (omega arith, (omega arith, tt)))))))
-    (a, (b, (c, (d, (e, (g, tt))))))
+child_fine f l = fixed_fine child_shape (child_numbers f) (search (arith, l)) (search (arith, l)) (search (arith, l))
 
 pub children_fine : (fs : List ChildFacts) → Each LegalChild fs → Each (Fine child_line) (child_fields fs)
 children_fine fs e = each_made LegalChild (Fine child_line) (λ f. number_fields (child_numbers f)) child_fine fs e
 
 row_fine : (x : Row) → LegalRow x → Fine (fixed_line fact_shape) (number_fields (row_numbers x))
-row_fine x l =
-    let a = l.child in
-    let b = l.form in
-    let c = l.count in
-    let d = l.layout in
-    let e = l.athash in
-    let f = l.exact in
-    let g = l.subset in
-    let h = l.met in
-    let i = l.aftermet in
-    let j = l.const in
-    let k = l.ford in
-    let m = l.fplain in
-    let n = l.order in
-    fixed_fine fact_shape (row_numbers x)
-    (a, (b, (c, (d, (omega arith, (omega arith, (omega arith, (omega arith, (omega arith, (j, (omega arith, (omega arith, (n, tt)))))))))))))
-    tt
-    (omega arith, (omega arith, (omega arith, (omega arith, (e, (f, (g, (h, (i, (omega arith, (k, (m, tt))))))))))))
+row_fine x l = fixed_fine fact_shape (row_numbers x) (search (arith, l)) tt (search (arith, l))
 
 pub rows_fine : (xs : List Row) → Each LegalRow xs → Each (Fine (fixed_line fact_shape)) (fact_fields xs)
 rows_fine xs e = each_made LegalRow (Fine (fixed_line fact_shape)) (λ x. number_fields (row_numbers x)) row_fine xs e

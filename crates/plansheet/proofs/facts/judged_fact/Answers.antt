@@ -16,17 +16,10 @@ use Rattle.plansheet.proofs.Turns.{Taken, taken}
 use Rattle.linekinds.specs.Reading.{row_values}
 use Rattle.linekinds.proofs.ReadLines.{row_values_lem}
 use Rattle.plansheet.proofs.FineLines.{fine_long, fine_rows}
-use Rattle.plansheet.proofs.PlainFacts.{left_alone}
 use Rattle.plansheet.proofs.facts.judged_fact.Goals as goal
 
 abbrev B : List (List ℕ)
 B = map bound_row fact_shape.heads
-
-pub returns-in_default-clause-answer : goal.returns-in_default-clause-answer
-returns-in_default-clause-answer c = c.fact_line-r.ensures.answer
-
-pub returns-in_default-clause-stored : goal.returns-in_default-clause-stored
-returns-in_default-clause-stored c = left_alone c.args.s.now c.args.at c.args.n c.args.rows.now _ _ c.in_default.is
 
 pub slice_bounds-numbers_of-end : goal.slice_bounds-numbers_of-end
 slice_bounds-numbers_of-end c =
@@ -47,10 +40,6 @@ numbers_of-requires c =
     (omega (arith, c.requires)) _ (took).counts in
     let long : c.in-Line.count ≡ 13 = (took).counts ∙ fine_long B fact_line refl refl 0 _ (took).fs (took).zero in
     rw (ap length (rows_are) ∙ length-map (took).fs row) (omega (arith, long, (took).counts))
-
-pub returns-clause-answer : goal.returns-clause-answer
-returns-clause-answer c =
-    (λ seen. sym c.in-Line.is ∙ c.fact_line-r.ensures.answer seen)
 
 pub returns-clause-stored : goal.returns-clause-stored
 returns-clause-stored c =

@@ -14,7 +14,7 @@ use Rattle.refusals.specs.declared.Refused.{Refused}
 use Rattle.plansheet.specs.declared.tree.RowsRead.{RowsRead}
 use Rattle.plansheet.specs.PlanLines.{child_shape, child_line}
 use Rattle.plansheet.specs.ReadRows.{number_rows}
-use Rattle.plansheet.proofs.Turns.{Taken, taken, head_first, head_long, head_done, head_refused, head_next, head_more}
+use Rattle.plansheet.proofs.Turns.{Taken, taken, head_long, head_done, head_refused, head_next, head_more}
 use Rattle.linekinds.specs.Reading.{row_values}
 use Rattle.linekinds.proofs.ReadLines.{row_values_lem}
 use Rattle.plansheet.proofs.FineLines.{fine_long, fine_rows, numbers_made}
@@ -35,13 +35,6 @@ pub record Room (p next s count fields : ℕ) : Type 0 where
   pub within : next ≤ s
   pub counted : count ≡ 7
   pub held : 256 ≤ fields
-
-pub loop-n-init : goal.loop-n-init
-loop-n-init c = let z : c.args.children - 0 ≡ c.args.children = omega arith in
-    (rw z (head_first number_rows _ numbers_made child_line _ _ _ c.args.children _ c.args.place.within c.args.place.numbered), omega arith, refl)
-
-pub child_line-requires : goal.child_line-requires
-child_line-requires c = omega (arith, c.requires.0, c.loop-n.invariant.2)
 
 pub returns-in-Refused : goal.returns-in-Refused
 returns-in-Refused c = let l = c.loop-n in let h : l.n < c.args.children = c.loop-n-test.true in
@@ -88,24 +81,6 @@ numbers_of-requires c =
     } in
     rw (ap length (rows_are) ∙ length-map (took).fs row) (omega (arith, room, (took).counts))
 
-pub bounds-rows-n : goal.bounds-rows-n
-bounds-rows-n c = omega (arith, c.requires.1, c.loop-n-test.true, head_long number_rows _ numbers_made child_line _ _ _ _ _ _ _ _ c.loop-n.invariant.0)
-
-pub overflow_add-l : goal.overflow_add-l
-overflow_add-l c =
-    let took : let l = c.loop-n in Taken child_line l.n (after c.args.place.s.now l.p) (line_at 70 c.args.place.s.now l.p) c.in-Line.count c.in-Line.next = let l = c.loop-n in taken child_line l.n (after c.args.place.s.now l.p) (line_at 70 c.args.place.s.now l.p) _ _ (sym c.in-Line.is ∙ c.child_line.ensures.answer l.n) in
-    let room : let l = c.loop-n in Room l.p c.in-Line.next (length c.args.place.s.now) c.in-Line.count (length c.child_line.new.fields) = let l = c.loop-n in let b = head_next number_rows _ numbers_made child_line _ _ _ _ _ _ _ _ l.invariant.0 _ _ (took) in
-    record {
-      on = b.0;
-      within = b.1;
-      counted = (took).counts ∙ fine_long B child_line refl refl l.n _ (took).fs (took).zero;
-      held = omega (arith, l.invariant.2, c.requires.0, c.child_line.auto.fields);
-    } in
-    omega (arith, room, c.loop-n.invariant.0.lines)
-
-pub loop-n-smaller : goal.loop-n-smaller
-loop-n-smaller c = omega (arith, c.loop-n-test.true)
-
 pub loop-n-preserved : goal.loop-n-preserved
 loop-n-preserved c =
     let took : let l = c.loop-n in Taken child_line l.n (after c.args.place.s.now l.p) (line_at 70 c.args.place.s.now l.p) c.in-Line.count c.in-Line.next = let l = c.loop-n in taken child_line l.n (after c.args.place.s.now l.p) (line_at 70 c.args.place.s.now l.p) _ _ (sym c.in-Line.is ∙ c.child_line.ensures.answer l.n) in
@@ -126,12 +101,6 @@ loop-n-preserved c =
       omega arith,
       omega (arith, l.invariant.2, c.child_line.auto.fields),
     )
-
-pub shape_of-fields : goal.shape_of-fields
-shape_of-fields c = c.loop-n.invariant.2
-
-pub shape_of-rows : goal.shape_of-rows
-shape_of-rows c = head_long number_rows _ numbers_made child_line _ _ _ _ _ _ _ _ c.loop-n.invariant.0
 
 pub returns : goal.returns
 returns c = let l = c.loop-n in let h : c.args.children ≤ l.n = c.loop-n-test.false in

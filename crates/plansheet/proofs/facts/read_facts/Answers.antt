@@ -18,15 +18,9 @@ use Rattle.linekinds.specs.declared.line.Read.{Read}
 use Rattle.plansheet.specs.PlanLines.{fact_line}
 use Rattle.plansheet.specs.PlainFacts.{FactLeft}
 use Rattle.plansheet.specs.ReadRows.{number_rows}
-use Rattle.plansheet.proofs.Turns.{Taken, taken, turned, head_first, head_long, head_done, head_refused, head_next, head_more}
+use Rattle.plansheet.proofs.Turns.{Taken, taken, turned, head_long, head_done, head_refused, head_next, head_more}
 use Rattle.plansheet.proofs.FineLines.{numbers_made, one_none, one_again, other_some}
 use Rattle.plansheet.proofs.facts.read_facts.Goals as goal
-
-pub loop-next-init : goal.loop-next-init
-loop-next-init c = (head_first number_rows _ numbers_made fact_line _ _ _ 0 _ c.args.place.within c.args.place.numbered, refl)
-
-pub read_fact-requires : goal.read_fact-requires
-read_fact-requires c = omega (arith, c.requires, c.loop-next.invariant.1)
 
 abbrev back : Refused → Result RowsRead Refused
 back w = Err w
@@ -63,18 +57,6 @@ returns-in-Refused-clause-left c =
     let long : length c.read_fact.new.rows ≡ length c.args.rows.now = c.read_fact.auto.rows ∙ head_long number_rows _ numbers_made fact_line _ _ _ _ _ _ _ _ l.invariant.0 in
     let both = head_refused number_rows _ numbers_made fact_line _ _ _ _ _ _ _ _ l.invariant.0 (other_some fact_line l.n (after s l.p) (line_at 88 s l.p) (λ z. other_wrong c.in-Refused.refusal (sym c.eq.ensures ∙ c.if-eq.false) (q.0 ∙ ap refusal_of z))) _ told c.read_fact.new.rows long in
     both.1
-
-pub overflow_add-n : goal.overflow_add-n
-overflow_add-n c =
-    let took : Taken fact_line c.loop-next.n ((after c.args.place.s.now c.loop-next.p)) ((line_at 88 c.args.place.s.now c.loop-next.p)) c.in-Line.count c.in-Line.next = taken fact_line c.loop-next.n ((after c.args.place.s.now c.loop-next.p)) ((line_at 88 c.args.place.s.now c.loop-next.p)) _ _ (sym c.in-Line.is ∙ c.read_fact.ensures.answer c.loop-next.n) in
-    let next : (c.loop-next.p < c.in-Line.next) × (c.in-Line.next ≤ length c.args.place.s.now) = head_next number_rows _ numbers_made fact_line _ _ _ _ _ _ _ _ c.loop-next.invariant.0 _ _ (took) in
-    omega (arith, next, c.loop-next.invariant.0.few)
-
-pub overflow_add-l : goal.overflow_add-l
-overflow_add-l c =
-    let took : Taken fact_line c.loop-next.n ((after c.args.place.s.now c.loop-next.p)) ((line_at 88 c.args.place.s.now c.loop-next.p)) c.in-Line.count c.in-Line.next = taken fact_line c.loop-next.n ((after c.args.place.s.now c.loop-next.p)) ((line_at 88 c.args.place.s.now c.loop-next.p)) _ _ (sym c.in-Line.is ∙ c.read_fact.ensures.answer c.loop-next.n) in
-    let next : (c.loop-next.p < c.in-Line.next) × (c.in-Line.next ≤ length c.args.place.s.now) = head_next number_rows _ numbers_made fact_line _ _ _ _ _ _ _ _ c.loop-next.invariant.0 _ _ (took) in
-    omega (arith, next, c.loop-next.invariant.0.lines)
 
 pub loop-next-smaller : goal.loop-next-smaller
 loop-next-smaller c =

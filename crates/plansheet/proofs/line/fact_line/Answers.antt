@@ -11,6 +11,3 @@ pub returns-clause-answer : goal.returns-clause-answer
 returns-clause-answer c = let a = c.args in let n : ℕ = after a.s.now a.at in
     let x = line_at 88 a.s.now a.at in
     (λ seen. c.plain_line.ensures.answer seen ∙ ap (λ (m : ℕ). read_by m n x) (sym (coming_number fact_shape seen n x)))
-
-pub returns-clause-stored : goal.returns-clause-stored
-returns-clause-stored c = c.plain_line.ensures.stored

@@ -11,9 +11,6 @@ use Rattle.plansheet.proofs.line.mask_line.Goals as goal
 pub returns-in_default-clause-answer : goal.returns-in_default-clause-answer
 returns-in_default-clause-answer c = (λ seen. masks_wrong c.args.n seen ((after c.args.s.now c.args.at)) ((line_at 89 c.args.s.now c.args.at)) (sym c.in_default.is ∙ c.line_at.ensures.answer))
 
-pub returns-in_default-clause-stored : goal.returns-in_default-clause-stored
-returns-in_default-clause-stored c = c.line_at.ensures.stored
-
 pub returns-in-Err-clause-answer : goal.returns-in-Err-clause-answer
 returns-in-Err-clause-answer c =
     let a = c.args in let f = c.in-Some.f in

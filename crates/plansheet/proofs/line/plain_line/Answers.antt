@@ -22,9 +22,6 @@ use Rattle.plansheet.proofs.line.plain_line.Goals as goal
 pub returns-in_default-clause-answer : goal.returns-in_default-clause-answer
 returns-in_default-clause-answer c = let l = c.line_at in (λ seen. plain_wrong c.args.letter c.args.width c.args.codes.now seen ((after c.args.s.now c.args.at)) ((line_at c.args.letter c.args.s.now c.args.at)) (sym c.in_default.is ∙ l.ensures.answer))
 
-pub returns-in_default-clause-stored : goal.returns-in_default-clause-stored
-returns-in_default-clause-stored c = let l = c.line_at in l.ensures.stored
-
 -- what is known where the counts are right
 module _ (s : List ℕ) (at letter width : ℕ) (codes : List ℕ) (fields fields' : List (List ℕ)) (f : Fields) (so : Some f ≡ line_read (after s at) (line_at letter s at)) (stored : fields' ≡ stored_in fields (line_fields letter (line (drop at s)))) (room : width ≤ length fields) (right : masks_number width f.count f.worst f.largest f.next ≡ 0) where
   read : Opened (after s at) (line_at letter s at) f
@@ -46,12 +43,6 @@ returns-in-Err-clause-answer c =
     let a = c.args in let f = c.in-Some.f in
     let j = judged_err (masks_number a.width f.count f.worst f.largest f.next) c.in-Err.refusal (sym c.in-Err.is ∙ c.judge_masks.ensures) in
     λ seen. ap Refused j.1 ∙ plain_turned a.letter a.width a.codes.now seen (after a.s.now a.at) (line_at a.letter a.s.now a.at) f (opened _ _ f (sym c.in-Some.is ∙ c.line_at.ensures.answer)) _ refl j.0
-
-pub slice_bounds-over_any-end : goal.slice_bounds-over_any-end
-slice_bounds-over_any-end c =
-    let f = c.in-Some.f in let i = c.in_default-judge_masks in
-    let right = judged_ok (masks_number c.args.width f.count f.worst f.largest f.next) i.field-0 (sym i.is ∙ c.judge_masks.ensures) in
-    omega (arith, masks_counted _ _ f.worst f.largest f.next right, c.requires, c.line_at.auto.out)
 
 pub returns-then-over_any-clause-answer : goal.returns-then-over_any-clause-answer
 returns-then-over_any-clause-answer c =

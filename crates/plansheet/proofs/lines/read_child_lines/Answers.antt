@@ -6,7 +6,6 @@ use Rattle.std.specs.Prelude.{Result, Err}
 use Rattle.std.proofs.lemmas.Result.{err_from_is_err_and}
 use Rattle.refusals.specs.declared.Refused.{Refused}
 use Prim.Native.Nat.{ℕ}
-use native.Mathlib.Omega.{arith}
 use Rattle.plansheet.specs.PlanLines.{child_shape, child_line, fact_line}
 use Rattle.plansheet.specs.ReadRows.{number_rows, run_from}
 use Rattle.plansheet.specs.ReadPlans.{facts_by}
@@ -14,9 +13,6 @@ use Rattle.plansheet.proofs.Singles.{opened, turned_run}
 use Rattle.plansheet.proofs.CountedRuns.{counted_long}
 use Rattle.plansheet.proofs.Wholes.{children_back, facts_back, facts_on, children_held, masks_whole, whole_err, whole_not, not_sheet}
 use Rattle.plansheet.proofs.lines.read_child_lines.Goals as goal
-
-pub read_children-requires : goal.read_children-requires
-read_children-requires c = (c.requires.1, omega (arith, c.requires.0, c.requires.2))
 
 abbrev back : Refused → Result ℕ Refused
 back w = Err w
@@ -32,15 +28,6 @@ returns-in_err-f-clause-held c =
     let a = c.args in let e = turned_run (run_from child_line a.children a.place.s.now a.place.line a.place.at) _ (c.in_err-f.ensures.answer) in
     λ b g f. absurd (not_sheet _ _ _ g (children_back a.place.s.now a.children a.place.line a.place.at b _ _ e.is) f)
 
-pub invariant_of-at_facts : goal.invariant_of-at_facts
-invariant_of-at_facts c =
-    let a = c.args in let child = opened number_rows a.place.s.now (run_from child_line a.children a.place.s.now a.place.line a.place.at) a.facts.now _ _ c.in_ok-f.ensures.answer c.in_ok-f.ensures.left in
-    record { within = child.leaves.within; numbered = child.leaves.numbers }
-
-pub read_facts-requires : goal.read_facts-requires
-read_facts-requires c =
-    omega (arith, c.requires.1, c.read_children.auto.fields)
-
 pub returns-in_err-x-clause-answer : goal.returns-in_err-x-clause-answer
 returns-in_err-x-clause-answer c =
     let a = c.args in let child = opened number_rows a.place.s.now (run_from child_line a.children a.place.s.now a.place.line a.place.at) a.facts.now _ _ c.in_ok-f.ensures.answer c.in_ok-f.ensures.left in
@@ -53,15 +40,6 @@ returns-in_err-x-clause-held c =
     let a = c.args in let child = opened number_rows a.place.s.now (run_from child_line a.children a.place.s.now a.place.line a.place.at) a.facts.now _ _ c.in_ok-f.ensures.answer c.in_ok-f.ensures.left in
     let e = turned_run (run_from fact_line 0 a.place.s.now c.in_ok-f.f.line c.in_ok-f.f.next) _ c.in_err-x.ensures.answer in
     λ b g h. absurd (not_sheet _ _ _ g (facts_back a.place.s.now a.children a.place.line a.place.at b _ _ _ _ _ child _ _ e.is) h)
-
-pub invariant_of-at_masks : goal.invariant_of-at_masks
-invariant_of-at_masks c =
-    let a = c.args in let rows = opened number_rows a.place.s.now (run_from fact_line 0 a.place.s.now c.in_ok-f.f.line c.in_ok-f.f.next) a.xs.now _ _ c.in_ok-x.ensures.answer c.in_ok-x.ensures.left in
-    record { within = rows.leaves.within; numbered = rows.leaves.numbers }
-
-pub read_masks-requires : goal.read_masks-requires
-read_masks-requires c =
-    (c.requires.0, omega (arith, c.requires.1, c.read_children.auto.fields, c.read_facts.auto.fields), c.requires.3)
 
 pub returns-in_err-read_masks-clause-answer : goal.returns-in_err-read_masks-clause-answer
 returns-in_err-read_masks-clause-answer c =

@@ -35,19 +35,10 @@ copy_values-requires c =
     let a = c.args in let t = single node_shape a.place.s.now a.place.at _ _ a.lent.now.fields.now _ (sym c.in-Line.is ∙ c.node_line.ensures.answer 0) c.node_line.ensures.stored (omega (arith, a.lent.now.wide)) in
     omega (arith, t.part, a.lent.now.four)
 
-pub overflow_add-after : goal.overflow_add-after
-overflow_add-after c =
-    let a = c.args in let t = single node_shape a.place.s.now a.place.at _ _ a.lent.now.fields.now _ (sym c.in-Line.is ∙ c.node_line.ensures.answer 0) c.node_line.ensures.stored (omega (arith, a.lent.now.wide)) in
-    omega (arith, t.on, t.within, a.place.numbered)
-
 pub invariant_of-after : goal.invariant_of-after
 invariant_of-after c =
     let a = c.args in let t = single node_shape a.place.s.now a.place.at _ _ a.lent.now.fields.now _ (sym c.in-Line.is ∙ c.node_line.ensures.answer 0) c.node_line.ensures.stored (omega (arith, a.lent.now.wide)) in
     record { within = t.within; numbered = omega (arith, t.on, a.place.numbered) }
-
-pub read_child_lines-requires : goal.read_child_lines-requires
-read_child_lines-requires c =
-    let l = c.args.lent.now in (c.requires, omega (arith, l.wide, c.node_line.auto.fields), l.eight, l.masked)
 
 pub returns-in-Line-clause-answer : goal.returns-in-Line-clause-answer
 returns-in-Line-clause-answer c =

@@ -1,6 +1,5 @@
 -- `plansheet::lines::read_masks` meets its contract: the Y line is a run of one (`Singles`), and nothing follows it (`Wholes`).
 use mathlib.Core.Path.{sym, ap, ◌∙◌}
-use Prim.Native.Nat.{ℕ}
 use native.Mathlib.Omega.{arith}
 use lib.ListN.{length-replicate}
 use lib.Seq.{sets}
@@ -45,12 +44,6 @@ copy_values-requires c =
     let a = c.args in let sets_are = length-replicate (two_to a.children) plain in let few = two_small a.children c.requires.0 in
     let t = single (mask_shape a.children) a.place.s.now a.place.at _ _ a.fields.now _ (sym c.in-Line.is ∙ c.mask_line.ensures.answer 0) c.mask_line.ensures.stored (omega (arith, sets_are, few, c.requires.1)) in
     omega (arith, t.part, sets_are, few, c.requires.2)
-
-pub overflow_add-place : goal.overflow_add-place
-overflow_add-place c =
-    let a = c.args in let sets_are = length-replicate (two_to a.children) plain in let few = two_small a.children c.requires.0 in
-    let t = single (mask_shape a.children) a.place.s.now a.place.at _ _ a.fields.now _ (sym c.in-Line.is ∙ c.mask_line.ensures.answer 0) c.mask_line.ensures.stored (omega (arith, sets_are, few, c.requires.1)) in
-    omega (arith, t.on, t.within, a.place.numbered)
 
 pub returns-then-next-place-clause-answer : goal.returns-then-next-place-clause-answer
 returns-then-next-place-clause-answer c =

@@ -47,10 +47,6 @@ invariant_of-place c =
     let a = c.args in let t = single settings_shape a.s.now 0 _ _ a.fields.now _ (sym c.in-Line.is ∙ c.settings_line.ensures.answer 0) c.settings_line.ensures.stored (omega (arith, c.requires.0)) in
     record { within = t.within; numbered = omega (arith, t.on) }
 
-pub read_plan_tree-requires : goal.read_plan_tree-requires
-read_plan_tree-requires c =
-    omega (arith, c.requires.0, c.settings_line.auto.fields)
-
 pub returns-in-Line-clause-answer : goal.returns-in-Line-clause-answer
 returns-in-Line-clause-answer c =
     let a = c.args in let t = single settings_shape a.s.now 0 _ _ a.fields.now _ (sym c.in-Line.is ∙ c.settings_line.ensures.answer 0) c.settings_line.ensures.stored (omega (arith, c.requires.0)) in

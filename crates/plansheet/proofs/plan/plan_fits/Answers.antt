@@ -6,17 +6,13 @@ use lib.Seq.{length-take-le}
 use Rattle.linekinds.specs.KeyLines.{values}
 use Rattle.exchange.specs.FactRows.{node_facts}
 use Rattle.plansheet.proofs.FineLines.{two_small}
-use Rattle.plansheet.proofs.PlanFitted.{worked_rooms, rooms_fit, rooms_crowded, stand_all, fits_room}
+use Rattle.plansheet.proofs.PlanFitted.{worked_rooms, rooms_fit, rooms_crowded, stand_all}
 use Rattle.plansheet.proofs.plan.plan_fits.Goals as goal
 
 pub returns-then-f-clause-answer : goal.returns-then-f-clause-answer
 returns-then-f-clause-answer c =
     let f = c.args.f in
     λ st t g e r. sym (rooms_crowded t g f.rows.now f.facts.now f.xs.now f.masks.now f.worked f.children f.count r f.eight (f.roomy c.if-f.true) c.if-f.true st)
-
-pub returns-then-f-clause-indexed : goal.returns-then-f-clause-indexed
-returns-then-f-clause-indexed c =
-    λ z. absurd (fits_room z)
 
 pub slice_bounds-masks-end : goal.slice_bounds-masks-end
 slice_bounds-masks-end c =
@@ -41,7 +37,3 @@ returns-clause-answer c =
     let w = worked_rooms t f.rows.now r.rest f.worked r.stands r.place in
     c.facts_fit.ensures st w.operator (node_facts (values g.node)) w.below w.rest e (sym w.count ∙ sym r.many ∙ sym part) w.stands
     ∙ rooms_fit t g f.rows.now f.facts.now f.xs.now f.masks.now f.worked f.children f.count r c.if-f.false _ c.sets_of.ensures st
-
-pub returns-clause-indexed : goal.returns-clause-indexed
-returns-clause-indexed c =
-    λ z. (c.if-f.false, c.index_rows.ensures)

@@ -23,12 +23,6 @@ returns-in_err-t-clause-held c =
     let e = tree_turned c.args.s.now _ c.in_err-t.ensures.answer in
     λ x f. absurd {A = PlanHeld x _ _ _ _ _ _} (turned_not _ _ x (sym (plan_turned c.args.s.now _ _ e.is) ∙ f))
 
-pub invariant_of-place : goal.invariant_of-place
-invariant_of-place c =
-    let a = c.args in let l = a.lent.now in let q = c.read_tree_lines in
-    let t = tree_read a.s.now l.head.now _ l.rows.now _ _ l.nine c.requires.0 c.in_ok-t.ensures.answer c.in_ok-t.ensures.left in
-    record { within = t.within; numbered = t.numbers }
-
 pub read_after_tree-requires-clause-tree_stands : goal.read_after_tree-requires-clause-tree_stands
 read_after_tree-requires-clause-tree_stands c =
     let a = c.args in let l = a.lent.now in let q = c.read_tree_lines in

@@ -14,16 +14,10 @@ use Rattle.plansheet.specs.ReadRows.{fields_row}
 use Rattle.plansheet.specs.Described.{shape_by, tree_by}
 use Rattle.plansheet.specs.PlainTrees.{number_at}
 use Rattle.plansheet.proofs.Shaped.{fields_row_lem}
-use Rattle.plansheet.proofs.Turns.{Taken, taken, turned}
+use Rattle.plansheet.proofs.Turns.{Taken, taken}
 use Rattle.plansheet.proofs.FineLines.{fine_long, fine_rows, tree_small}
-use Rattle.plansheet.proofs.PlainTrees.{row_on, row_read, row_refused}
+use Rattle.plansheet.proofs.PlainTrees.{row_on, row_read}
 use Rattle.plansheet.proofs.tree.judged_row.Goals as goal
-
-pub returns-in-Refused-clause-answer : goal.returns-in-Refused-clause-answer
-returns-in-Refused-clause-answer c = row_refused (number_at (tree_by c.args.h) c.args.seen (c.args.s.now) c.args.at) ((after (c.args.s.now) c.args.at)) ((line_at c.args.h.line.letter (c.args.s.now) c.args.at)) _ (sym c.in-Refused.is ∙ c.tree_line.ensures.answer)
-
-pub returns-in-Refused-clause-stored : goal.returns-in-Refused-clause-stored
-returns-in-Refused-clause-stored c = λ z. absurd ((turned (tree_by c.args.h) c.args.seen ((after (c.args.s.now) c.args.at)) ((line_at c.args.h.line.letter (c.args.s.now) c.args.at)) _ (sym c.in-Refused.is ∙ c.tree_line.ensures.answer)).1 z)
 
 pub slice_bounds-operator_row-end : goal.slice_bounds-operator_row-end
 slice_bounds-operator_row-end c =

@@ -60,18 +60,6 @@ module _ (h : TreeShape) (s : List ℕ) (p n : ℕ) where
 pub loop-owed-init : goal.loop-owed-init
 loop-owed-init c = (head_first (operator_rows 1) _ operators_made (tree_by c.args.h) _ _ _ _ _ c.args.place.within c.args.place.numbered, omega arith, omega arith, refl)
 
-pub invariant_of-here : goal.invariant_of-here
-invariant_of-here c = record { within = c.loop-owed.invariant.0.within; numbered = c.loop-owed.invariant.0.lines }
-
-pub tree_row-requires-clause-in_bounds : goal.tree_row-requires-clause-in_bounds
-tree_row-requires-clause-in_bounds c =
-    omega (arith, c.requires, c.loop-owed.invariant.3)
-
-pub tree_row-requires-clause-plain_shape : goal.tree_row-requires-clause-plain_shape
-tree_row-requires-clause-plain_shape c =
-    let rows_long : length c.loop-owed.rows ≡ length c.args.rows.now = head_long (operator_rows 1) _ operators_made (tree_by c.args.h) _ _ _ _ _ _ _ _ c.loop-owed.invariant.0 in
-    let q = c.quick_rows-quick.ensures in (q.0, q.1, omega (arith, q.2, rows_long))
-
 pub returns-in_err-row-clause-answer : goal.returns-in_err-row-clause-answer
 returns-in_err-row-clause-answer c =
     let l = c.loop-owed in let a = c.args in
@@ -97,16 +85,6 @@ overflow_add-owed c =
     let l = c.loop-owed in let t = turn c.args.h c.args.place.s.now l.p l.n _ _ _ _ _ l.invariant.0 c.tree_row.result c.tree_row.ensures.answer c.in_ok-row.row (mapped_ok _ _ _ c.map_err.ensures.cases _ c.in_ok-row.was) in
     omega (arith, t, c.args.h.few, c.args.place, l.invariant.2)
 
-pub overflow_add-n : goal.overflow_add-n
-overflow_add-n c =
-    let l = c.loop-owed in let t = turn c.args.h c.args.place.s.now l.p l.n _ _ _ _ _ l.invariant.0 c.tree_row.result c.tree_row.ensures.answer c.in_ok-row.row (mapped_ok _ _ _ c.map_err.ensures.cases _ c.in_ok-row.was) in
-    omega (arith, t, c.args.h.few, c.args.place)
-
-pub overflow_add-l : goal.overflow_add-l
-overflow_add-l c =
-    let l = c.loop-owed in let t = turn c.args.h c.args.place.s.now l.p l.n _ _ _ _ _ l.invariant.0 c.tree_row.result c.tree_row.ensures.answer c.in_ok-row.row (mapped_ok _ _ _ c.map_err.ensures.cases _ c.in_ok-row.was) in
-    omega (arith, t, l.invariant.0.lines)
-
 pub loop-owed-smaller : goal.loop-owed-smaller
 loop-owed-smaller c =
     let l = c.loop-owed in let t = turn c.args.h c.args.place.s.now l.p l.n _ _ _ _ _ l.invariant.0 c.tree_row.result c.tree_row.ensures.answer c.in_ok-row.row (mapped_ok _ _ _ c.map_err.ensures.cases _ c.in_ok-row.was) in
@@ -124,14 +102,6 @@ loop-owed-preserved c =
       omega (arith, t, l.invariant.2),
       omega (arith, l.invariant.3, c.tree_row.auto.fields),
     )
-
-pub shape_of-fields : goal.shape_of-fields
-shape_of-fields c = c.loop-owed.invariant.3
-
-pub shape_of-rows : goal.shape_of-rows
-shape_of-rows c =
-    let rows_long : length c.loop-owed.rows ≡ length c.args.rows.now = head_long (operator_rows 1) _ operators_made (tree_by c.args.h) _ _ _ _ _ _ _ _ c.loop-owed.invariant.0 in
-    rows_long
 
 pub returns : goal.returns
 returns c = let both = head_done (operator_rows 1) _ operators_made (tree_by c.args.h) _ _ _ _ _ _ _ _ c.loop-owed.invariant.0 (eq-eqb _ _ c.loop-owed-test.false) in record { answer = both.0; left = both.1 }

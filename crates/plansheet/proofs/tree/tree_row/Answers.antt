@@ -3,7 +3,7 @@ use mathlib.Core.Path.{◌≡◌, ap, subst, ◌∙◌}
 use mathlib.Core.List.{List, []}
 use Prim.Native.Nat.{ℕ, ◌<◌}
 use native.Mathlib.Omega.{arith}
-use lib.ListN.{get_or, set, length-set}
+use lib.ListN.{get_or, set}
 use lib.Seq.{get_or-set_same, set-set}
 use Rattle.numberlines.specs.declared.row.Unread.{Unread}
 use Rattle.std.specs.Prelude.{Result}
@@ -11,19 +11,6 @@ use Rattle.plansheet.specs.PlainTrees.{PlainShape, OperatorHeld, OperatorRead}
 use Rattle.plansheet.proofs.PlainTrees.{quick_held, quick_row}
 use Rattle.plansheet.proofs.tree.tree_row.Goals as goal
 use Rattle.plansheet.proofs.tree.tree_row.Goals.{then-seen-quick+in_default, else-seen-quick}
-
-pub operator_read-requires : goal.operator_read-requires
-operator_read-requires c =
-    let shape : let a = c.args in PlainShape a.h.line.letter a.h.line.bounds.now a.h.line.sizes.now a.h.line.codes.now = c.requires.plain_shape.0 (omega (arith, c.if-seen-quick.true)) in
-    let p = shape in (p.other, omega (arith, p.coded.seven), omega (arith, c.if-seen-quick.true, c.args.h.few, c.requires.plain_shape))
-
-pub bounds-rows-seen-in-Ok : goal.bounds-rows-seen-in-Ok
-bounds-rows-seen-in-Ok c = simp length-set (omega (arith, c.if-seen-quick.true, c.requires.plain_shape))
-
-pub overflow_add-result : goal.overflow_add-result
-overflow_add-result c =
-    let held : let a = c.args in OperatorHeld a.h.line.letter a.place.s.now a.place.at a.seen a.h.line.codes.now a.h.rules.now c.in-Ok.end c.operator_read.new.row = let a = c.args in subst (λ (x : Result ℕ Unread). OperatorRead a.h.line.letter a.place.s.now a.place.at a.seen a.h.line.codes.now a.h.rules.now x c.operator_read.new.row) c.in-Ok.is c.operator_read.ensures in
-    omega (arith, (held).line.line.early)
 
 pub returns-in-Ok-clause-answer : goal.returns-in-Ok-clause-answer
 returns-in-Ok-clause-answer c =
