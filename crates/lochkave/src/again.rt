@@ -109,6 +109,7 @@ pub(crate) fn rewrite_plan_sheet(sheet: &[u8], out: &mut [u8]) -> u64
     match read_plan(sheet, &mut lent) {
         Err(refused) => refused.word(),
         Ok(p) => {
+            // Taken apart as in `distribute_in`: a function that answered these parts would be no shorter.
             let SheetRooms {
                 rows,
                 node,
