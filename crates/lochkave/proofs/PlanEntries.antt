@@ -21,7 +21,7 @@ use Rattle.plantheorems.proofs.PlanSizes.{read_sizes}
 use Rattle.plananswer.specs.PlanTexts.{distributed}
 use Rattle.plananswer.specs.PlanDecision.{plan_decision}
 use Rattle.lochkave.specs.Entry.{plan_again}
-use Rattle.lochkave.specs.PlanHeld.{Holds, Held, HeldLong}
+use Rattle.lochkave.specs.PlanHeld.{Holds, Held, HeldLong, four}
 use Rattle.lochkave.proofs.Entries.{WasTurned}
 use Rattle.lochkave.proofs.PlanLent.{lent_text}
 
@@ -79,10 +79,7 @@ module _ (bytes : List ℕ) where
     unfolding room_held
     room_long r m = record { held = room_held r m; long = sym (ap length (plan_written_again bytes w.x w.is)) }
 
--- the four numbers of the B line
-abbrev pub four : List ℕ → List ℕ
-four ns = get_or ns 0 0 ∷ get_or ns 1 0 ∷ get_or ns 2 0 ∷ get_or ns 3 0 ∷ []
-
+-- only the front of that room counts
 pub held_four :
     (x : PlanSheet) (tree : List (List ℕ)) (node : List ℕ) (facts xs : List (List ℕ)) (masks index : List ℕ) →
     PlanHeld x tree node facts xs masks index → PlanHeld x tree (four node) facts xs masks index

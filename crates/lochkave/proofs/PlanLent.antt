@@ -54,9 +54,6 @@ module _ (x : PlanSheet) (s : Settings) (k c n : ℕ) (rows : List (List ℕ)) (
   front : take k rows ≡ flatten x.plan
   front = ap (take k) h.held.stands ∙ take_at (flatten x.plan) h.held.rest k (sym h.lines)
 
-  pub lent_long : length (take k rows) ≡ k
-  lent_long = ap length front ∙ sym h.lines
-
   pub lent_within : k ≤ length rows
   lent_within = omega (arith, h.lines, ap length h.held.stands, length-append (flatten x.plan) h.held.rest)
 

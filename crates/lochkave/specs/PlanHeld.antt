@@ -1,5 +1,5 @@
 -- A D sheet in the rooms that an entry point has for it.
-use Rattle.std.specs.Prelude.{ℕ, ◌≤◌, ◌<◌, ◌≡◌, List, [], length, get_or, take}
+use Rattle.std.specs.Prelude.{ℕ, ◌≤◌, ◌<◌, ◌≡◌, List, [], ◌∷◌, length, get_or, take}
 use Rattle.exchange.specs.declared.settings.Settings.{Settings}
 use Rattle.exchange.specs.FactRows.{child_facts}
 use Rattle.exchange.specs.Found.{index_of}
@@ -39,3 +39,7 @@ pub record Held (s : Settings) (k c n : ℕ) (tree : List (List ℕ)) (node : Li
 pub record HeldLong (s : Settings) (k c n : ℕ) (tree : List (List ℕ)) (node : List ℕ) (facts xs : List (List ℕ)) (masks index : List ℕ) (bytes : ℕ) : Type 0 where
   pub held : Held s k c n tree node facts xs masks index
   pub long : bytes ≡ length (plan_text held.sheet)
+
+-- the numbers of the B line, from the front of the room for them
+abbrev pub four : List ℕ → List ℕ
+four ns = get_or ns 0 0 ∷ get_or ns 1 0 ∷ get_or ns 2 0 ∷ get_or ns 3 0 ∷ []

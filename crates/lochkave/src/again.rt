@@ -8,7 +8,7 @@ ghost use Rattle.plansheet.specs.PlanSheets.{read_plan};
 ghost use Rattle.plananswer.specs.SheetTexts.{sheet_rows_text};
 ghost use Rattle.lochkave.specs.Entry.{key_again, join_again, plan_again, Gives};
 
-use crate::plan::held_facts;
+use crate::plan::{Held, held_sheet};
 use exchange::facts::PlanFacts;
 use exchange::row::Row;
 use exchange::settings::Settings;
@@ -109,18 +109,8 @@ pub(crate) fn rewrite_plan_sheet(sheet: &[u8], out: &mut [u8]) -> u64
     match read_plan(sheet, &mut lent) {
         Err(refused) => refused.word(),
         Ok(p) => {
-            let SheetRooms {
-                rows,
-                node,
-                facts,
-                xs,
-                masks,
-                index,
-                ..
-            } = lent;
-            let node = [node[0], node[1], node[2], node[3]];
-            let f = held_facts(p, node, &*facts, &*xs, &*masks, &*index);
-            put_plan_again(sheet.len(), p.settings, &rows[..p.lines], f, out)
+            let Held { tree, facts } = held_sheet(p, lent);
+            put_plan_again(sheet.len(), p.settings, &*tree, facts, out)
         }
     }
 }

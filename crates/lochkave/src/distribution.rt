@@ -4,7 +4,7 @@ ghost use Rattle.sheet.specs.Outcomes.{answer, after};
 ghost use Rattle.lochkave.specs.Entry.{distribution_outcome};
 ghost use Rattle.lochkave.specs.Rooms.{PlanRooms};
 
-use crate::plan::{answer_plan, held_facts};
+use crate::plan::{Held, answer_plan, held_sheet};
 use exchange::fact::FactRow;
 use exchange::row::Row;
 use plansheet::plan::read_plan;
@@ -58,18 +58,8 @@ pub(crate) fn distribute_in(sheet: &[u8], lent: TreeRooms, out: &mut [u8]) -> u6
     match read_plan(sheet, &mut lent) {
         Err(refused) => return refused.word(),
         Ok(p) => {
-            let SheetRooms {
-                rows,
-                node,
-                facts,
-                xs,
-                masks,
-                index,
-                ..
-            } = lent;
-            let node = [node[0], node[1], node[2], node[3]];
-            let f = held_facts(p, node, &*facts, &*xs, &*masks, &*index);
-            return answer_plan(p.settings, f, &mut rows[..p.lines], mid, dst, out);
+            let Held { tree, facts } = held_sheet(p, lent);
+            return answer_plan(p.settings, facts, tree, mid, dst, out);
         }
     }
 }

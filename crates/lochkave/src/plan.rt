@@ -9,44 +9,57 @@ ghost use Rattle.ensure.specs.Lent.{Sheet};
 ghost use Rattle.plansheet.specs.PlanLines.{two_to};
 ghost use Rattle.plananswer.specs.PlanTexts.{distributed};
 ghost use Rattle.lochkave.specs.Entry.{Gives};
-ghost use Rattle.lochkave.specs.PlanHeld.{FactsIn};
+ghost use Rattle.lochkave.specs.PlanHeld.{FactsIn, four};
 
 use ensure::distribution::ensure_distribution;
-use exchange::fact::{FactRow, FactRows};
+use exchange::fact::FactRows;
 use exchange::facts::PlanFacts;
-use exchange::partitioning::NodeRow;
 use exchange::relationship::Unenforced;
 use exchange::row::Row;
 use exchange::settings::Settings;
-use exchange::status::ChildRow;
 use plananswer::plan::{Head, write_plan};
 use plansheet::line::sets_of;
 use plansheet::plan::Plan as SheetPlan;
+use plansheet::rooms::SheetRooms;
 use refusals::Refusal;
 
-// What the rooms hold of a sheet beside its tree.
-pub(crate) fn held_facts<'a>(
-    p: SheetPlan,
-    node: NodeRow,
-    facts: &'a [ChildRow],
-    xs: &'a [FactRow],
-    masks: &'a [u64],
-    index: &'a [u64],
-) -> PlanFacts<'a>
-    requires { FactsIn p.children p.rows facts.now xs.now masks.now index.now }
-    ensures node { result.node ≡ node }
-    ensures children { result.children.now ≡ take p.children facts.now }
-    ensures rows { result.xs.rows.now ≡ take p.rows xs.now }
-    ensures masks { result.masks.now ≡ take (two_to p.children) masks.now }
+// A sheet that was read: its tree, and what it says beside it.
+#[derive(Drop)]
+pub(crate) struct Held<'a> {
+    pub tree: &'a mut [Row],
+    pub facts: PlanFacts<'a>,
+}
+
+// What the rooms hold of a sheet.
+pub(crate) fn held_sheet<'a>(p: SheetPlan, lent: SheetRooms<'a>) -> Held<'a>
+    requires facts { FactsIn p.children p.rows lent.facts.now lent.xs.now lent.masks.now lent.index.now }
+    requires lines { p.lines ≤ length lent.rows.now }
+    ensures tree { result.tree.now ≡ take p.lines lent.entry.rows.now }
+    ensures node { result.facts.node ≡ four lent.entry.node.now }
+    ensures children { result.facts.children.now ≡ take p.children lent.entry.facts.now }
+    ensures rows { result.facts.xs.rows.now ≡ take p.rows lent.entry.xs.now }
+    ensures masks { result.facts.masks.now ≡ take (two_to p.children) lent.entry.masks.now }
 {
-    PlanFacts {
+    let SheetRooms {
+        rows,
         node,
-        children: &facts[..p.children],
-        xs: FactRows {
-            index,
-            rows: &xs[..p.rows],
+        facts,
+        xs,
+        masks,
+        index,
+        ..
+    } = lent;
+    Held {
+        tree: &mut rows[..p.lines],
+        facts: PlanFacts {
+            node: [node[0], node[1], node[2], node[3]],
+            children: &facts[..p.children],
+            xs: FactRows {
+                index,
+                rows: &xs[..p.rows],
+            },
+            masks: &masks[..sets_of(p.children)],
         },
-        masks: &masks[..sets_of(p.children)],
     }
 }
 

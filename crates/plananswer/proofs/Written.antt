@@ -5,7 +5,7 @@ use mathlib.Core.Path.{◌≡◌, ap, ◌∙◌}
 use mathlib.Core.List.{List}
 use mathlib.Core.Bool.{Bool, true, false, cond}
 use native.Mathlib.Omega.{arith}
-use borrow.Author.Tests.{lt-ltb, le-ltb}
+use borrow.Author.Tests.{le-ltb}
 use lib.Dec.{ltb}
 use lib.ListN.{length}
 use Rattle.std.specs.Prelude.{Ok, Err}
@@ -15,7 +15,7 @@ use Rattle.refusals.specs.declared.Refusal.TheVariants.{OutputTooShort}
 use Rattle.refusals.specs.Refusals.{refused_word}
 use Rattle.sheet.specs.KeyAnswers.{Outcome, refused, wrote}
 use Rattle.sheet.specs.Outcomes.{answer, after, within}
-use Rattle.lines.proofs.Room.{room_written, room_short}
+use Rattle.lines.proofs.Room.{room_written}
 use Rattle.plananswer.specs.Written.{written_by}
 
 module _ (out text : List ℕ) where
@@ -27,9 +27,6 @@ module _ (out text : List ℕ) where
       let z : 0 + length text ≡ length text = omega arith in
       let k : n ≡ length text = w.place ∙ z in
       (rw (le-ltb (length out) (length text) h) (ap Ok k), (room_written out text h n out' w).1)
-
-  pub put_short : length out < length text → (w : Refused) → w ≡ record { refusal = OutputTooShort; line = 0 } → (Err w ≡ written_by T) × (out ≡ after T out)
-  put_short h w e = (rw (lt-ltb (length out) (length text) h) (ap Err e), (room_short out text h).1)
 
 word_at : (t : Bool) (text : List ℕ) → (n : ℕ) → Ok n ≡ written_by (cond t (refused 12 0) (wrote text)) → n ≡ answer (cond t (refused 12 0) (wrote text))
 word_at true text n e = absurd cc

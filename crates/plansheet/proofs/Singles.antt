@@ -16,7 +16,7 @@ use Rattle.text.specs.Bounds.{Bound, bound_row}
 use Rattle.text.specs.Lines.{first_of}
 use Rattle.text.specs.Read.{stored_in}
 use Rattle.text.proofs.Places.{bridge, after_next, after_within, after_lines}
-use Rattle.linekinds.specs.Lines.{Run, read, refused, line_number, at_end}
+use Rattle.linekinds.specs.Lines.{Kind, Run, read, refused, line_number, at_end}
 use Rattle.linekinds.specs.KeyLines.{values}
 use Rattle.linekinds.specs.Reading.{read_by, row_values}
 use Rattle.linekinds.specs.declared.line.Read.TheVariants as L
@@ -58,27 +58,30 @@ module _ (h : Shape) (s : List ℕ) (n p : ℕ) where
         rw (rows_line (fixed_line h) 1 0 n p (parts 10 (drop p s)) (some t.fs) (first_here ∙ t.is) refl, after_next s p, t.zero, ← e, ← t.goes)
         (rw (rows_done (fixed_line h) 0 1 (suc n) next (parts 10 (drop next s)) (first_of h.letter (parts 10 (drop next s))) refl refl))
 
-    pub single_next : (p < next) × (next ≤ length s)
-    single_next = rw t.goes (after_within h.letter s p t.fs t.is)
+-- a line that was read, as it stands in the rows lent
+pub record Single (k : Kind) (seen : ℕ) (s : List ℕ) (p count next : ℕ) (out' : List (List ℕ)) : Type 0 where
+  pub took : Taken k seen (after s p) (line_at k.letter s p) count next
+  pub long : count ≡ length k.heads
+  pub on : p < next
+  pub within : next ≤ length s
+  pub rows : take count out' ≡ map row took.fs
+  pub part : length (take count out') ≡ length k.heads
+  pub vals : row_values (take count out') ≡ values took.fs
+  pub fits : count ≤ length out'
 
-    pub single_long : count ≡ length h.heads
-    single_long =
-        t.counts ∙ fine_long (map bound_row h.heads) (fixed_line h) refl (sym (bounds_again h.heads)) 0 (after s p) t.fs t.zero ∙ length-map h.heads bound_row
-
-    pub single_rows :
-        (out out' : List (List ℕ)) → out' ≡ stored_in out (line_fields h.letter (line (drop p s))) → length h.heads ≤ length out →
-        take count out' ≡ map row t.fs
-    single_rows out out' stored room =
-        fine_rows (map bound_row h.heads) (fixed_line h) refl (sym (bounds_again h.heads)) 0 (after s p) t.fs t.zero h.letter s p t.is out out' stored
-        (rw (length-map h.heads bound_row) room) count t.counts
-
-    pub single_values :
-        (out out' : List (List ℕ)) → out' ≡ stored_in out (line_fields h.letter (line (drop p s))) → length h.heads ≤ length out →
-        row_values (take count out') ≡ values t.fs
-    single_values out out' stored room = ap row_values (single_rows out out' stored room) ∙ row_values_lem t.fs
-
-    pub single_part : (out out' : List (List ℕ)) → out' ≡ stored_in out (line_fields h.letter (line (drop p s))) → length h.heads ≤ length out → length (take count out') ≡ length h.heads
-    single_part out out' stored room = ap length (single_rows out out' stored room) ∙ length-map t.fs row ∙ sym t.counts ∙ single_long
+pub single :
+    (k : Kind) → k.width ≡ 0 → (seen : ℕ) (s : List ℕ) (p count next : ℕ) (out out' : List (List ℕ)) →
+    L.Line count next ≡ read_by (line_number k seen (after s p) (line_at k.letter s p)) (after s p) (line_at k.letter s p) →
+    out' ≡ stored_in out (line_fields k.letter (line (drop p s))) → length k.heads ≤ length out → Single k seen s p count next out'
+single k w seen s p count next out out' e stored room =
+    let t = taken k seen (after s p) (line_at k.letter s p) count next e in
+    let bs : List (List ℕ) = map bound_row k.heads in
+    let o : (p < next) × (next ≤ length s) = rw t.goes (after_within k.letter s p t.fs t.is) in
+    let l : count ≡ length k.heads = t.counts ∙ fine_long bs k w (sym (bounds_again k.heads)) seen (after s p) t.fs t.zero ∙ length-map k.heads bound_row in
+    let r : take count out' ≡ map row t.fs =
+    fine_rows bs k w (sym (bounds_again k.heads)) seen (after s p) t.fs t.zero k.letter s p t.is out out' stored (rw (length-map k.heads bound_row) room) count t.counts in
+    let m : length (take count out') ≡ length k.heads = ap length r ∙ length-map t.fs row ∙ sym t.counts ∙ l in
+    record { took = t; long = l; on = o.0; within = o.1; rows = r; part = m; vals = ap row_values r ∙ row_values_lem t.fs; fits = omega (arith, m, l, length-take count out') }
 
 -- the one line that was read, as it stands in the rows lent
 pub record Single (h : Shape) (s : List ℕ) (p count next : ℕ) (out' : List (List ℕ)) : Type 0 where

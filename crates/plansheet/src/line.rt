@@ -1,4 +1,5 @@
 // The lines of a D sheet, each by its description; their fields go into the rows lent.
+// The room for fields is a slice with its condition at each reader: a struct of one slice would be made anew at each call.
 ghost use Rattle.std.specs.Prelude.{◌≡◌, ℕ, ◌≤◌, length, drop};
 ghost use Rattle.refusals.specs.Refusals.{judged_by};
 ghost use Rattle.text.specs.Text.{line, line_fields, line_at, after};

@@ -164,7 +164,7 @@ fn tree_row(
     judged_row(place.s, place.at, seen, h, fields, rows)
 }
 
-// How many rows were read, the place after them and the number of the line there.
+// How many rows were read, the place after them and the number of the line there. The rows are in the room lent, so that a number says which.
 #[derive(Clone, Copy)]
 pub struct RowsRead {
     pub count: usize,

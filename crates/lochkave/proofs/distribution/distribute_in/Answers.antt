@@ -1,11 +1,11 @@
 -- `distribute_in` meets its contract: a refusal, or the decision on the sheet that is held.
-use Rattle.std.proofs.Common.{arith, [], sym}
+use Rattle.std.proofs.Common.{arith, [], sym, ◌∙◌}
 use Rattle.plansheet.specs.PlanSheets.{read_plan}
 use Rattle.plananswer.specs.PlanDecision.{plan_decision}
 use Rattle.lochkave.proofs.PlanBounded.{plan_turned_few}
 use Rattle.lochkave.proofs.Entries.{leaves_refused, turned_line, turned_word}
 use Rattle.lochkave.proofs.PlanEntries.{held_four, plan_was_turned, plan_was_held, plan_turned, plan_held, room_holds}
-use Rattle.lochkave.proofs.PlanLent.{lent_in, lent_long, lent_sheet, lent_stands, lent_same}
+use Rattle.lochkave.proofs.PlanLent.{lent_in, lent_within, lent_sheet, lent_stands, lent_same}
 use Rattle.lochkave.proofs.distribution.distribute_in.Goals as goal
 
 pub word-requires : goal.word-requires
@@ -17,21 +17,21 @@ returns-in-Err c = let a = c.args in let q = c.read_plan in let t = plan_was_tur
     let both = leaves_refused (plan_decision a.sheet.now) a.out.now _ _ _ (plan_turned a.sheet.now _ _ t.is) (turned_word t (plan_turned_few a.sheet.now _ _ t.is) _ c.word.ensures) in
     record { result = both.0; bytes = both.1 }
 
-pub held_facts-f-requires : goal.held_facts-f-requires
-held_facts-f-requires c =
+pub held_sheet-tree-requires-clause-facts : goal.held_sheet-tree-requires-clause-facts
+held_sheet-tree-requires-clause-facts c =
     let a = c.args in
     let q = c.read_plan in
     let w = plan_was_held (read_plan a.sheet.now) q.result _ q.ensures.answer c.in-Ok.is in
     let h = room_holds a.sheet.now _ _ _ _ w _ _ _ _ _ _ (λ x e. held_four x _ _ _ _ _ _ (q.ensures.held x e)) in
     lent_in _ _ _ _ _ _ _ _ _ _ _ h q.new.lent.eight q.new.lent.masked
 
-pub slice_bounds-answer_plan-end : goal.slice_bounds-answer_plan-end
-slice_bounds-answer_plan-end c =
+pub held_sheet-tree-requires-clause-lines : goal.held_sheet-tree-requires-clause-lines
+held_sheet-tree-requires-clause-lines c =
     let a = c.args in
     let q = c.read_plan in
     let w = plan_was_held (read_plan a.sheet.now) q.result _ q.ensures.answer c.in-Ok.is in
     let h = room_holds a.sheet.now _ _ _ _ w _ _ _ _ _ _ (λ x e. held_four x _ _ _ _ _ _ (q.ensures.held x e)) in
-    sym (lent_long _ _ _ _ _ _ _ _ _ _ _ h)
+    lent_within _ _ _ _ _ _ _ _ _ _ _ h
 
 pub answer_plan-requires-clause-sheet : goal.answer_plan-requires-clause-sheet
 answer_plan-requires-clause-sheet c =
@@ -39,8 +39,8 @@ answer_plan-requires-clause-sheet c =
     let q = c.read_plan in
     let w = plan_was_held (read_plan a.sheet.now) q.result _ q.ensures.answer c.in-Ok.is in
     let h = room_holds a.sheet.now _ _ _ _ w _ _ _ _ _ _ (λ x e. held_four x _ _ _ _ _ _ (q.ensures.held x e)) in
-    let f = c.held_facts-f in
-    rw f.ensures.children (lent_sheet _ _ _ _ _ _ _ _ _ _ _ h q.new.lent.eight)
+    let f = c.held_sheet-tree in
+    rw (f.ensures.tree, f.ensures.children) (lent_sheet _ _ _ _ _ _ _ _ _ _ _ h q.new.lent.eight)
 
 pub returns-in-Ok : goal.returns-in-Ok
 returns-in-Ok c =
@@ -48,9 +48,9 @@ returns-in-Ok c =
     let q = c.read_plan in
     let w = plan_was_held (read_plan a.sheet.now) q.result _ q.ensures.answer c.in-Ok.is in
     let h = room_holds a.sheet.now _ _ _ _ w _ _ _ _ _ _ (λ x e. held_four x _ _ _ _ _ _ (q.ensures.held x e)) in
-    let f = c.held_facts-f in
-    let same = lent_same _ _ _ _ _ _ _ _ _ _ _ h f.result f.ensures.node f.ensures.children f.ensures.rows f.ensures.masks in
-    let given = c.answer_plan.ensures w.x.plan [] (lent_stands _ _ _ _ _ _ _ _ _ _ _ h) in
+    let f = c.held_sheet-tree in
+    let same = lent_same _ _ _ _ _ _ _ _ _ _ _ h f.result.facts f.ensures.node f.ensures.children f.ensures.rows f.ensures.masks in
+    let given = c.answer_plan.ensures w.x.plan [] (f.ensures.tree ∙ lent_stands _ _ _ _ _ _ _ _ _ _ _ h) in
     record {
       result = rw (plan_held a.sheet.now w.x w.is, sym w.settings, sym same) given.0;
       bytes = rw (plan_held a.sheet.now w.x w.is, sym w.settings, sym same) given.1;

@@ -1,5 +1,5 @@
 -- `plansheet::lines::read_fact_lines` meets its contract: the B line is a run of one (`Singles`), and what follows goes on where it ends (`Wholes`).
-use mathlib.Core.Path.{sym, ap, ◌∙◌}
+use mathlib.Core.Path.{refl, sym, ap, ◌∙◌}
 use Prim.Native.Nat.{ℕ}
 use native.Mathlib.Omega.{arith}
 use lib.Seq.{sets}
@@ -7,7 +7,7 @@ use lib.Seq.{length-take-le}
 use Rattle.text.specs.Text.{line_at, after}
 use Rattle.std.specs.Prelude.{Result, Err}
 use Rattle.refusals.specs.declared.Refused.{Refused}
-use Rattle.plansheet.specs.PlanLines.{node_shape, node_line}
+use Rattle.plansheet.specs.PlanLines.{node_line}
 use Rattle.plansheet.specs.ReadPlans.{facts_by}
 use Rattle.plansheet.proofs.Turns.{turned_on}
 use Rattle.plansheet.proofs.Singles.{single}
@@ -27,27 +27,27 @@ returns-in-Refused-clause-held c = let e = sym c.in-Refused.is ∙ c.node_line.e
 
 pub slice_bounds-copy_values-end : goal.slice_bounds-copy_values-end
 slice_bounds-copy_values-end c =
-    let a = c.args in let t = single node_shape a.place.s.now a.place.at _ _ a.lent.now.fields.now _ (sym c.in-Line.is ∙ c.node_line.ensures.answer 0) c.node_line.ensures.stored (omega (arith, a.lent.now.wide)) in
+    let a = c.args in let t = single node_line refl 0 a.place.s.now a.place.at _ _ a.lent.now.fields.now _ (sym c.in-Line.is ∙ c.node_line.ensures.answer 0) c.node_line.ensures.stored (omega (arith, a.lent.now.wide)) in
     sym (length-take-le _ _ t.fits)
 
 pub copy_values-requires : goal.copy_values-requires
 copy_values-requires c =
-    let a = c.args in let t = single node_shape a.place.s.now a.place.at _ _ a.lent.now.fields.now _ (sym c.in-Line.is ∙ c.node_line.ensures.answer 0) c.node_line.ensures.stored (omega (arith, a.lent.now.wide)) in
+    let a = c.args in let t = single node_line refl 0 a.place.s.now a.place.at _ _ a.lent.now.fields.now _ (sym c.in-Line.is ∙ c.node_line.ensures.answer 0) c.node_line.ensures.stored (omega (arith, a.lent.now.wide)) in
     omega (arith, t.part, a.lent.now.four)
 
 pub invariant_of-after : goal.invariant_of-after
 invariant_of-after c =
-    let a = c.args in let t = single node_shape a.place.s.now a.place.at _ _ a.lent.now.fields.now _ (sym c.in-Line.is ∙ c.node_line.ensures.answer 0) c.node_line.ensures.stored (omega (arith, a.lent.now.wide)) in
+    let a = c.args in let t = single node_line refl 0 a.place.s.now a.place.at _ _ a.lent.now.fields.now _ (sym c.in-Line.is ∙ c.node_line.ensures.answer 0) c.node_line.ensures.stored (omega (arith, a.lent.now.wide)) in
     record { within = t.within; numbered = omega (arith, t.on, a.place.numbered) }
 
 pub returns-in-Line-clause-answer : goal.returns-in-Line-clause-answer
 returns-in-Line-clause-answer c =
-    let a = c.args in let t = single node_shape a.place.s.now a.place.at _ _ a.lent.now.fields.now _ (sym c.in-Line.is ∙ c.node_line.ensures.answer 0) c.node_line.ensures.stored (omega (arith, a.lent.now.wide)) in
+    let a = c.args in let t = single node_line refl 0 a.place.s.now a.place.at _ _ a.lent.now.fields.now _ (sym c.in-Line.is ∙ c.node_line.ensures.answer 0) c.node_line.ensures.stored (omega (arith, a.lent.now.wide)) in
     c.read_child_lines.ensures.answer t.took.fs ∙ ap facts_by (sym (node_on a.place.s.now a.children a.place.line a.place.at _ _ t.took))
 
 pub returns-in-Line-clause-held : goal.returns-in-Line-clause-held
 returns-in-Line-clause-held c =
-    let a = c.args in let t = single node_shape a.place.s.now a.place.at _ _ a.lent.now.fields.now _ (sym c.in-Line.is ∙ c.node_line.ensures.answer 0) c.node_line.ensures.stored (omega (arith, a.lent.now.wide)) in
+    let a = c.args in let t = single node_line refl 0 a.place.s.now a.place.at _ _ a.lent.now.fields.now _ (sym c.in-Line.is ∙ c.node_line.ensures.answer 0) c.node_line.ensures.stored (omega (arith, a.lent.now.wide)) in
     λ g f.
     let k = sym (node_on a.place.s.now a.children a.place.line a.place.at _ _ t.took) ∙ f in
     facts_held a.children a.place.s.now t.took.fs _ _ g k a.lent.now.node.now _ _ _ _ _ _ _

@@ -1,5 +1,5 @@
 -- `plansheet::lines::read_tree_lines` meets its contract: the D line is a run of one (`Singles`), and the tree goes on where it ends (`Wholes`).
-use mathlib.Core.Path.{sym, ap, ◌∙◌}
+use mathlib.Core.Path.{refl, sym, ap, ◌∙◌}
 use native.Mathlib.Omega.{arith}
 use lib.ListN.{length}
 use lib.Seq.{sets}
@@ -9,7 +9,7 @@ use Rattle.linekinds.specs.KeyLines.{values}
 use Rattle.std.specs.Prelude.{Result, Err}
 use Rattle.refusals.specs.declared.Refused.{Refused}
 use Rattle.plansheet.specs.declared.tree.RowsRead.{RowsRead}
-use Rattle.plansheet.specs.PlanLines.{settings_shape, settings_line, plan_line}
+use Rattle.plansheet.specs.PlanLines.{settings_line, plan_line}
 use Rattle.plansheet.specs.ReadRows.{run_from, rows_by}
 use Rattle.plansheet.proofs.Turns.{turned_on}
 use Rattle.plansheet.proofs.Singles.{single}
@@ -29,32 +29,32 @@ returns-in-Refused-clause-left c = rw (head_back c.args.s.now _ (sym c.in-Refuse
 
 pub slice_bounds-copy_values-end : goal.slice_bounds-copy_values-end
 slice_bounds-copy_values-end c =
-    let a = c.args in let t = single settings_shape a.s.now 0 _ _ a.fields.now _ (sym c.in-Line.is ∙ c.settings_line.ensures.answer 0) c.settings_line.ensures.stored (omega (arith, c.requires.0)) in
+    let a = c.args in let t = single settings_line refl 0 a.s.now 0 _ _ a.fields.now _ (sym c.in-Line.is ∙ c.settings_line.ensures.answer 0) c.settings_line.ensures.stored (omega (arith, c.requires.0)) in
     t.fits
 
 pub slice_bounds-copy_values-end-in-Line : goal.slice_bounds-copy_values-end-in-Line
 slice_bounds-copy_values-end-in-Line c =
-    let a = c.args in let t = single settings_shape a.s.now 0 _ _ a.fields.now _ (sym c.in-Line.is ∙ c.settings_line.ensures.answer 0) c.settings_line.ensures.stored (omega (arith, c.requires.0)) in
+    let a = c.args in let t = single settings_line refl 0 a.s.now 0 _ _ a.fields.now _ (sym c.in-Line.is ∙ c.settings_line.ensures.answer 0) c.settings_line.ensures.stored (omega (arith, c.requires.0)) in
     sym (length-take-le _ _ t.fits)
 
 pub copy_values-requires : goal.copy_values-requires
 copy_values-requires c =
-    let a = c.args in let t = single settings_shape a.s.now 0 _ _ a.fields.now _ (sym c.in-Line.is ∙ c.settings_line.ensures.answer 0) c.settings_line.ensures.stored (omega (arith, c.requires.0)) in
+    let a = c.args in let t = single settings_line refl 0 a.s.now 0 _ _ a.fields.now _ (sym c.in-Line.is ∙ c.settings_line.ensures.answer 0) c.settings_line.ensures.stored (omega (arith, c.requires.0)) in
     omega (arith, t.part, c.requires.1)
 
 pub invariant_of-place : goal.invariant_of-place
 invariant_of-place c =
-    let a = c.args in let t = single settings_shape a.s.now 0 _ _ a.fields.now _ (sym c.in-Line.is ∙ c.settings_line.ensures.answer 0) c.settings_line.ensures.stored (omega (arith, c.requires.0)) in
+    let a = c.args in let t = single settings_line refl 0 a.s.now 0 _ _ a.fields.now _ (sym c.in-Line.is ∙ c.settings_line.ensures.answer 0) c.settings_line.ensures.stored (omega (arith, c.requires.0)) in
     record { within = t.within; numbered = omega (arith, t.on) }
 
 pub returns-in-Line-clause-answer : goal.returns-in-Line-clause-answer
 returns-in-Line-clause-answer c =
-    let a = c.args in let t = single settings_shape a.s.now 0 _ _ a.fields.now _ (sym c.in-Line.is ∙ c.settings_line.ensures.answer 0) c.settings_line.ensures.stored (omega (arith, c.requires.0)) in
+    let a = c.args in let t = single settings_line refl 0 a.s.now 0 _ _ a.fields.now _ (sym c.in-Line.is ∙ c.settings_line.ensures.answer 0) c.settings_line.ensures.stored (omega (arith, c.requires.0)) in
     rw (head_on a.s.now _ _ t.took) c.read_plan_tree.ensures.answer
 
 pub returns-in-Line-clause-left : goal.returns-in-Line-clause-left
 returns-in-Line-clause-left c =
-    let a = c.args in let t = single settings_shape a.s.now 0 _ _ a.fields.now _ (sym c.in-Line.is ∙ c.settings_line.ensures.answer 0) c.settings_line.ensures.stored (omega (arith, c.requires.0)) in
+    let a = c.args in let t = single settings_line refl 0 a.s.now 0 _ _ a.fields.now _ (sym c.in-Line.is ∙ c.settings_line.ensures.answer 0) c.settings_line.ensures.stored (omega (arith, c.requires.0)) in
     rw (head_on a.s.now _ _ t.took) (tree_left a.s.now (run_from plan_line 1 a.s.now 2 c.in-Line.next) a.head.now _ a.rows.now c.read_plan_tree.new.rows
     (c.copy_values.ensures ∙ ap (sets a.head.now 0) (t.vals ∙ ap values (sym (head_is a.s.now _ _ t.took))))
     (ap length (head_is a.s.now _ _ t.took) ∙ sym t.took.counts ∙ t.long) c.read_plan_tree.ensures.left)
