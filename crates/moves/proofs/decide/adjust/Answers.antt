@@ -1,13 +1,8 @@
 -- The slices are the sheet's lines, and what is decided of them is decided of the sheet (`key_decided`).
 use mathlib.Core.Path.{ap, ◌∙◌}
-use native.Mathlib.Omega.{arith}
-use lib.ListN.{length}
 use Rattle.sheet.specs.Held.{operator_of, pair_rows}
 use Rattle.moves.proofs.HeldKeys.{key_suited, key_decided}
 use Rattle.moves.proofs.decide.adjust.Goals as goal
-
-pub operator-requires : goal.operator-requires
-operator-requires c = omega (arith, ap length c.list.ensures.line, c.args.sheet.bounds.head)
 
 pub invariant_of-adjust_input_keys_ordering : goal.invariant_of-adjust_input_keys_ordering
 invariant_of-adjust_input_keys_ordering c = let x = c.args.sheet in

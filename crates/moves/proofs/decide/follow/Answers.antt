@@ -2,17 +2,10 @@
 use Prim.Native.Nat.{ℕ}
 use mathlib.Core.Path.{ap, ◌∙◌}
 use mathlib.Core.List.{List}
-use native.Mathlib.Omega.{arith}
-use lib.ListN.{length, get_or}
+use lib.ListN.{get_or}
 use Rattle.sheet.specs.Held.{pair_rows}
 use Rattle.moves.proofs.HeldJoins.{join_suited, join_decided}
 use Rattle.moves.proofs.decide.follow.Goals as goal
-
-pub bounds-head-0 : goal.bounds-head-0
-bounds-head-0 c = omega (arith, ap length c.list-head.ensures.line, c.args.sheet.bounds.head)
-
-pub bounds-head-1 : goal.bounds-head-1
-bounds-head-1 c = omega (arith, ap length c.list-head.ensures.line, c.args.sheet.bounds.head)
 
 pub invariant_of-join_keys_to_inputs-3 : goal.invariant_of-join_keys_to_inputs-3
 invariant_of-join_keys_to_inputs-3 c = let x = c.args.sheet in

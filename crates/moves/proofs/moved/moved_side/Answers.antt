@@ -13,9 +13,6 @@ use Rattle.moves.proofs.moved.moved_side.Goals.{After-keys-key-items}
 few : (c : After-keys-key-items) → length c.keys-key-items.result.now ≡ length c.args.at.list.now
 few c = let k = c.moved-moved in rw c.keys-key-items.ensures (length-take-le k.result.count k.result.items (omega (arith, k.result.full, k.result.within)) ∙ k.ensures.count)
 
-pub bounds-out-i : goal.bounds-out-i
-bounds-out-i c = omega (arith, few (goal.at.bounds-out-i c).After-keys-key-items)
-
 pub loop-i-preserved : goal.loop-i-preserved
 loop-i-preserved c = let ks = c.keys-key-items.result.now in let v = c.loop-i.invariant in (
   simp length-set v.0,
