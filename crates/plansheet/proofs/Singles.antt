@@ -83,27 +83,6 @@ single k w seen s p count next out out' e stored room =
     let m : length (take count out') ≡ length k.heads = ap length r ∙ length-map t.fs row ∙ sym t.counts ∙ l in
     record { took = t; long = l; on = o.0; within = o.1; rows = r; part = m; vals = ap row_values r ∙ row_values_lem t.fs; fits = omega (arith, m, l, length-take count out') }
 
--- the one line that was read, as it stands in the rows lent
-pub record Single (h : Shape) (s : List ℕ) (p count next : ℕ) (out' : List (List ℕ)) : Type 0 where
-  pub took : Taken (fixed_line h) 0 (after s p) (line_at h.letter s p) count next
-  pub long : count ≡ length h.heads
-  pub on : p < next
-  pub within : next ≤ length s
-  pub part : length (take count out') ≡ length h.heads
-  pub vals : row_values (take count out') ≡ values took.fs
-  pub fits : count ≤ length out'
-
-pub single :
-    (h : Shape) (s : List ℕ) (p count next : ℕ) (out out' : List (List ℕ)) →
-    L.Line count next ≡ read_by (line_number (fixed_line h) 0 (after s p) (line_at h.letter s p)) (after s p) (line_at h.letter s p) →
-    out' ≡ stored_in out (line_fields h.letter (line (drop p s))) → length h.heads ≤ length out → Single h s p count next out'
-single h s p count next out out' e stored room =
-    let t = taken (fixed_line h) 0 (after s p) (line_at h.letter s p) count next e in
-    let o = single_next h s 0 p count next t in
-    let l = single_long h s 0 p count next t in
-    let k = single_part h s 0 p count next t out out' stored room in
-    record { took = t; long = l; on = o.0; within = o.1; part = k; vals = single_values h s 0 p count next t out out' stored room; fits = omega (arith, k, l, length-take count out') }
-
 -- ---- what follows the last line
 
 rest_at : (ps : List (List ℕ)) (x : ℕ) → at_end (onto x ps) ≡ false

@@ -1,5 +1,5 @@
 -- `rewrite_plan_sheet` meets its contract: a refusal, or the sheet that is held.
-use Rattle.std.proofs.Common.{arith, sym, ap, ◌∙◌, length}
+use Rattle.std.proofs.Common.{arith, ◌≡◌, sym, ap, ◌∙◌, length}
 use Rattle.plansheet.specs.PlanSheets.{read_plan}
 use Rattle.plansheet.specs.PlanTexts.{plan_text}
 use Rattle.plananswer.specs.SheetTexts.{sheet_rows_text}
