@@ -1,2 +1,1 @@
 pub mod AnswerLists
-pub mod Words

@@ -4,20 +4,18 @@ ghost use Rattle.keys.specs.Expressions.{same_expr};
 ghost use Rattle.keys.specs.Inputs.{reorder_join_keys_to_inputs};
 ghost use Rattle.keys.specs.InputValues.{attempt_of};
 ghost use Rattle.sheet.specs.KeyAnswers.{wrote, join_answer_text};
-ghost use Rattle.sheet.specs.Outcomes.{answer, after, within};
+ghost use Rattle.sheet.specs.Outcomes.{within, Writes};
 ghost use Rattle.sheet.specs.Held.{held_join_sheet, JoinHeld};
 ghost use Rattle.lines.specs.AnswerTexts.{join_text_of};
 ghost use Rattle.answers.specs.AnswerLists.{JoinFew};
-ghost use Rattle.answers.specs.Words.{word_of};
 
-use crate::word::word;
 use keys::inputs::Attempt;
 use lines::join_text::{JoinLists, join_lists_length, put_join_lists};
 use moves::chosen::followed_or;
 use moves::decide::follow;
 use moves::held::HeldJoin;
 use moves::moved::{PairRooms, moved_pairs};
-use refusals::Refusal;
+use refusals::{Refusal, Refused};
 use sheet::held::Lists;
 
 // Whether there is room for the lists; `roomy` says that there is for any answer, so that none is measured.
@@ -29,12 +27,12 @@ fn text_fits(roomy: bool, room: usize, x: &JoinLists<'_>) -> bool
 }
 
 // The lists, where there is room for them; else refusal 12.
-fn write_join(roomy: bool, x: &JoinLists<'_>, out: &mut [u8]) -> Result<usize, Refusal>
+fn write_join(roomy: bool, x: &JoinLists<'_>, out: &mut [u8]) -> Result<usize, Refused>
     requires { JoinFew x.now × (roomy ≡ true → length (join_text_of x.now) ≤ length out.old) }
-    ensures { let t = within (length out.old) (wrote (join_text_of x.now)) in (word_of result ≡ answer t) × (out.new ≡ after t out.old) }
+    ensures { Writes (within (length out.old) (wrote (join_text_of x.now))) result out.old out.new }
 {
     if !text_fits(roomy, out.len(), x) {
-        return Err(Refusal::OutputTooShort);
+        return Err(Refusal::OutputTooShort.on_line(0));
     }
     Ok(put_join_lists(out, x))
 }
@@ -65,13 +63,13 @@ pub fn answer_join_sheet(
     w: &mut [[u64; 2]],
     v: &mut [[u64; 2]],
     out: &mut [u8],
-) -> u64
+) -> Result<usize, Refused>
     requires { JoinHeld held.lists.now held.counts.now × (32 ≤ length w.old) × (32 ≤ length v.old) × (roomy ≡ true → length (join_answer_text (reorder_join_keys_to_inputs (held_join_sheet held.lists.now held.counts.now) same_expr)) ≤ length out.old) }
-    ensures { let t = within (length out.old) (wrote (join_answer_text (reorder_join_keys_to_inputs (held_join_sheet held.entry.lists.now held.entry.counts.now) same_expr))) in (result ≡ answer t) × (out.new ≡ after t out.old) }
+    ensures { Writes (within (length out.old) (wrote (join_answer_text (reorder_join_keys_to_inputs (held_join_sheet held.entry.lists.now held.entry.counts.now) same_expr)))) result out.old out.new }
 {
     let sheet = HeldJoin { held };
     let attempt = follow(sheet, w, v);
     let mut rooms = PairRooms::EMPTY;
     let lists = chosen(sheet, &attempt, &mut rooms);
-    word(write_join(roomy, &lists, out))
+    write_join(roomy, &lists, out)
 }

@@ -5,12 +5,10 @@ ghost use Rattle.keys.specs.Expressions.{same_expr};
 ghost use Rattle.keys.specs.Adjust.{adjust_input_keys_ordering};
 ghost use Rattle.keys.specs.Answers.{answer_of};
 ghost use Rattle.sheet.specs.KeyAnswers.{wrote, key_answer_text, adjusted};
-ghost use Rattle.sheet.specs.Outcomes.{answer, after, within, FitsIn};
+ghost use Rattle.sheet.specs.Outcomes.{within, FitsIn, Writes};
 ghost use Rattle.sheet.specs.Held.{held_key_sheet, KeyHeld};
 ghost use Rattle.answers.specs.AnswerLists.{whole_text, KeyFew};
-ghost use Rattle.answers.specs.Words.{word_of};
 
-use crate::word::word;
 use keys::answer::Adjusted;
 use lines::children::{Children, children_length, put_children};
 use lines::key_text::{KeyLists, key_lists_length, put_key_lists};
@@ -19,7 +17,7 @@ use moves::decide::adjust;
 use moves::held::HeldKey;
 use moves::moved::{PairRooms, moved_pairs};
 use moves::projection::projected_by;
-use refusals::Refusal;
+use refusals::{Refusal, Refused};
 use sheet::held::Lists;
 
 // The lists of an answer, and what the sheet's children are handed.
@@ -52,12 +50,12 @@ fn text_fits(roomy: bool, room: usize, a: &KeyAnswer<'_>) -> bool
 }
 
 // The lists and the children's lists, where there is room for them; else refusal 12. Apart from `write_join`: it writes other lists, in another order.
-fn write_key(roomy: bool, a: &KeyAnswer<'_>, out: &mut [u8]) -> Result<usize, Refusal>
+fn write_key(roomy: bool, a: &KeyAnswer<'_>, out: &mut [u8]) -> Result<usize, Refused>
     requires { roomy ≡ true → length (whole_text a.now.lists a.now.children a.now.sheet.held) ≤ length out.old }
-    ensures { let t = within (length out.old) (wrote (whole_text a.now.lists a.now.children a.now.sheet.held)) in (word_of result ≡ answer t) × (out.new ≡ after t out.old) }
+    ensures { Writes (within (length out.old) (wrote (whole_text a.now.lists a.now.children a.now.sheet.held))) result out.old out.new }
 {
     if !text_fits(roomy, out.len(), a) {
-        return Err(Refusal::OutputTooShort);
+        return Err(Refusal::OutputTooShort.on_line(0));
     }
     let n = child_count(a.sheet.list(0));
     let at = put_key_lists(&mut *out, &a.lists);
@@ -106,17 +104,22 @@ fn chosen<'a>(
 }
 
 // The decision on a K sheet and its answer's bytes; `rules` is room for the rewriting, `roomy` says that the answer fits.
-pub fn answer_key_sheet(roomy: bool, held: Lists<'_>, rules: &mut [[u64; 2]], out: &mut [u8]) -> u64
+pub fn answer_key_sheet(
+    roomy: bool,
+    held: Lists<'_>,
+    rules: &mut [[u64; 2]],
+    out: &mut [u8],
+) -> Result<usize, Refused>
     requires { KeyHeld held.lists.now held.counts.now × (32 ≤ length rules.old) × (roomy ≡ true → FitsIn (length out.old) (adjusted (adjust_input_keys_ordering same_expr (held_key_sheet held.lists.now held.counts.now)))) }
-    ensures { let t = within (length out.old) (adjusted (adjust_input_keys_ordering same_expr (held_key_sheet held.entry.lists.now held.entry.counts.now))) in (result ≡ answer t) × (out.new ≡ after t out.old) }
+    ensures { Writes (within (length out.old) (adjusted (adjust_input_keys_ordering same_expr (held_key_sheet held.entry.lists.now held.entry.counts.now)))) result out.old out.new }
 {
     let sheet = HeldKey { held };
     let Some(x) = adjust(sheet, rules) else {
-        return word(Err(Refusal::NameNotFound));
+        return Err(Refusal::NameNotFound.on_line(0));
     };
     let mut pairs = PairRooms::EMPTY;
     let mut shifts = [0; 32];
     let mut names = [0; 128];
     let answer = chosen(sheet, &x, &mut pairs, &mut shifts, &mut names);
-    word(write_key(roomy, &answer, out))
+    write_key(roomy, &answer, out)
 }

@@ -3,4 +3,3 @@
 
 pub mod join;
 pub mod key;
-mod word;

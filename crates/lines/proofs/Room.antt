@@ -1,4 +1,4 @@
--- What is returned of a text, and left in the output lent, by the room for it.
+-- What a writer answers of a text, and leaves in the output lent, by the room for it.
 -- Assumes nothing.
 use Prim.Native.Nat.{ℕ, ◌+◌, ◌≤◌, ◌<◌}
 use mathlib.Core.Path.{◌≡◌, refl, ap, ◌∙◌}
@@ -7,22 +7,25 @@ use native.Mathlib.Omega.{arith}
 use borrow.Author.Tests.{lt-ltb, le-ltb}
 use lib.ListN.{length, drop}
 use lib.Seq.{sets-eq}
+use Rattle.std.specs.Prelude.{Result, Ok, Err}
 use Rattle.text.specs.Write.{Wrote}
+use Rattle.refusals.specs.declared.Refused.{Refused}
+use Rattle.refusals.specs.declared.Refusal.TheVariants.{OutputTooShort}
 use Rattle.sheet.specs.KeyAnswers.{wrote}
-use Rattle.sheet.specs.Outcomes.{answer, after, within}
+use Rattle.sheet.specs.Outcomes.{within, Writes}
 
 module _ (out text : List ℕ) where
   -- the outcome, where there is so much room
-  abbrev Answered : ℕ → List ℕ → Type 0
-  Answered n out' = let t = within (length out) (wrote text) in (n ≡ answer t) × (out' ≡ after t out)
+  abbrev Answered : Result ℕ Refused → List ℕ → Type 0
+  Answered r out' = Writes (within (length out) (wrote text)) r out out'
 
   -- the text is stored from the start on
-  pub room_written : length text ≤ length out → (n : ℕ) (out' : List ℕ) → Wrote out 0 text out' n → Answered n out'
+  pub room_written : length text ≤ length out → (n : ℕ) (out' : List ℕ) → Wrote out 0 text out' n → Answered (Ok n) out'
   room_written h n out' w =
       let z : 0 + length text ≡ length text = omega arith in
       rw (le-ltb (length out) (length text) h)
-      (w.place ∙ z, w.stored ∙ sets-eq text out 0 (omega arith) ∙ ap (λ (k : ℕ). text ++ drop k out) z)
+      (ap Ok (w.place ∙ z), w.stored ∙ sets-eq text out 0 (omega arith) ∙ ap (λ (k : ℕ). text ++ drop k out) z)
 
-  -- 12 × 2^32
-  pub room_short : length out < length text → Answered 51539607552 out
-  room_short h = rw (lt-ltb (length out) (length text) h) (refl, refl)
+  -- refusal 12 of the whole sheet
+  pub room_short : length out < length text → (w : Refused) → w ≡ record { refusal = OutputTooShort; line = 0 } → Answered (Err w) out
+  room_short h w e = rw (lt-ltb (length out) (length text) h) (ap Err e, refl)

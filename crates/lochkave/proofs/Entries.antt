@@ -1,7 +1,7 @@
 -- What an entry point returns and leaves, by what was read of the sheet.
 -- Assumes nothing.
-use Prim.Native.Nat.{ℕ, ◌+◌, ◌*◌, ◌≤◌}
-use mathlib.Core.Path.{◌≡◌, refl, sym, ap, ◌∙◌}
+use Prim.Native.Nat.{ℕ, ◌≤◌}
+use mathlib.Core.Path.{◌≡◌, refl, sym, ap}
 use mathlib.Core.List.{List, []}
 use native.Mathlib.Omega.{arith}
 use lib.ListN.{length, get_or, length-take}
@@ -11,27 +11,17 @@ use Rattle.keys.specs.Inputs.{JoinSheet, reorder_join_keys_to_inputs}
 use Rattle.keys.specs.Expressions.{same_expr}
 use Rattle.sheet.specs.KeySheets.{Reading, sheet, turned, read_key_sheet, read_join_sheet}
 use Rattle.sheet.specs.KeyAnswers.{Outcome, refused, wrote, join_answer_text, adjusted, adjust_decision, inputs_decision}
-use Rattle.sheet.specs.Outcomes.{answer, after, within, FitsIn}
+use Rattle.sheet.specs.Outcomes.{within, FitsIn, Writes}
 use Rattle.sheet.specs.Held.{held_at, child_count}
 use Rattle.sheet.proofs.AnswersFit.{Fits}
 use Rattle.sheet.proofs.KeyAccepted.{key_written_again, join_written_again}
 use Rattle.lochkave.specs.Entry.{key_again, join_again}
 use Rattle.sheet.specs.ListFits.{sheet_by}
 use Rattle.sheet.specs.SheetLines.{refused_on}
-use Rattle.sheet.proofs.Bounded.{Numbered}
-use Rattle.refusals.proofs.Judging.{number_again}
 use Rattle.refusals.specs.declared.Refused.{Refused}
-use Rattle.refusals.specs.Refusals.{refused_word}
 use Rattle.std.specs.Prelude.{Result, Ok, Err}
 
 -- ---- what reading answered
-
--- a number that is a refusal's, and a line that any sheet may have
-abbrev pub Worded : ℕ → ℕ → Type 0
-Worded n l = (n ≤ 8) × (l ≤ 65537) × (n ≡ 0 → ⊥)
-
-pub worded : (n l : ℕ) → Numbered n l → Worded n l
-worded n l h = (omega (arith, h.0), omega (arith, h.1), h.2)
 
 module _ {A : Type 0} where
   -- the refusal that was answered, by its number and line
@@ -45,13 +35,6 @@ module _ {A : Type 0} where
   was_turned (sheet x) q f e g = let z : ◌≡◌ {A = ℕ} 0 1 = cc in absurd (omega arith)
   was_turned (turned n l) q f e g = record { number = n; line = l; is = refl; same = cc }
 
-  module _ {r : Reading A} {f : Refused} (t : WasTurned r f) (few : Worded t.number t.line) where
-    pub turned_line : f.line ≤ 65537
-    turned_line = omega (arith, ap (λ (g : Refused). g.line) t.same, few.1)
-
-    pub turned_word : (n : ℕ) → n ≡ refused_word f → n ≡ t.number * 4294967296 + t.line
-    turned_word n e = e ∙ ap refused_word t.same ∙ ap (λ (m : ℕ). m * 4294967296 + t.line) (number_again t.number few.2 (omega (arith, few.0)))
-
   pub record Was (r : Reading A) : Type 0 where
     pub x : A
     pub is : r ≡ sheet x
@@ -62,12 +45,8 @@ module _ {A : Type 0} where
 
 -- ---- an outcome, and what it gives
 
--- returned and left, of an outcome and the output at entry
-abbrev pub Leaves : Outcome → List ℕ → ℕ → List ℕ → Type 0
-Leaves o out n out' = (n ≡ answer (within (length out) o)) × (out' ≡ after (within (length out) o) out)
-
-pub leaves_refused : (o : Outcome) (out : List ℕ) (n l r : ℕ) → o ≡ refused n l → r ≡ n * 4294967296 + l → Leaves o out r out
-leaves_refused o out n l r e f = rw e (f, refl)
+pub leaves_refused : (o : Outcome) (out : List ℕ) (n l : ℕ) (f : Refused) → o ≡ refused n l → f ≡ refused_on n l → Writes (within (length out) o) (Err f) out out
+leaves_refused o out n l f e g = rw e (ap Err g, refl)
 
 -- ---- K and I sheets
 

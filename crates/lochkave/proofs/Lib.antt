@@ -1,4 +1,5 @@
 pub mod Entries
+pub mod Worded
 pub mod PlanAnswered
 pub mod Marked
 pub mod PlanBounded

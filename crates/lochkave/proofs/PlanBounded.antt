@@ -76,7 +76,7 @@ run_within k owed seen line at (l ∷ ls) h a =
 
 -- ---- one run after the other
 
-abbrev Few : {A : Type 0} → Reading A → Type 0
+abbrev pub Few : {A : Type 0} → Reading A → Type 0
 Few (turned n l) = (n ≤ 8) × (l ≤ 65537) × (n ≡ 0 → ⊥)
 Few (sheet x) = Unit {0}
 

@@ -1,6 +1,6 @@
 -- What the entry points decide on a sheet's bytes, and with so much room for the output.
 -- Renders document 01, "The Rust harness calls the decisions on byte slices", refusal 12, and demand 2, "Sheets written from a read sheet have the same bytes".
-use Rattle.std.specs.Prelude.{ℕ, ◌≡◌, List, cond, eqb, get_or}
+use Rattle.std.specs.Prelude.{ℕ, List, cond, eqb, get_or}
 use Rattle.keys.specs.Adjust.{KeySheet}
 use Rattle.keys.specs.Inputs.{JoinSheet}
 use Rattle.sheet.specs.KeySheets.{Reading, sheet, turned, read_key_sheet, read_join_sheet}
@@ -10,7 +10,7 @@ use Rattle.plansheet.specs.PlanTexts.{plan_text}
 use Rattle.plananswer.specs.PlanDecision.{plan_decision}
 use Rattle.lochkave.specs.Decision.{decision}
 use Rattle.sheet.specs.KeyTexts.{key_sheet_text, join_sheet_text}
-use Rattle.sheet.specs.Outcomes.{answer, after, within}
+use Rattle.sheet.specs.Outcomes.{within}
 
 -- a sheet that was read, written again
 abbrev pub key_again : Reading KeySheet → Outcome
@@ -47,7 +47,3 @@ distribution_outcome s room = within room (plan_decision s)
 -- `lochkave_rewrite`
 abbrev pub rewrite_outcome : List ℕ → ℕ → Outcome
 rewrite_outcome s room = within room (rewriting s)
-
--- that number is returned, and those bytes are left
-abbrev pub Gives : Outcome → ℕ → List ℕ → List ℕ → Type 0
-Gives o r before left = (r ≡ answer o) × (left ≡ after o before)

@@ -3,10 +3,10 @@ ghost use Rattle.std.specs.Prelude.{◌≡◌, ℕ, ◌≤◌, ◌<◌, length, 
 ghost use Rattle.sheet.specs.KeySheets.{read_key_sheet, read_join_sheet};
 ghost use Rattle.sheet.specs.Held.{held_text};
 ghost use Rattle.sheet.specs.KeyAnswers.{wrote};
-ghost use Rattle.sheet.specs.Outcomes.{answer, after, within};
+ghost use Rattle.sheet.specs.Outcomes.{within, Writes};
 ghost use Rattle.plansheet.specs.PlanSheets.{read_plan};
 ghost use Rattle.plananswer.specs.SheetTexts.{sheet_rows_text};
-ghost use Rattle.lochkave.specs.Entry.{key_again, join_again, plan_again, Gives};
+ghost use Rattle.lochkave.specs.Entry.{key_again, join_again, plan_again};
 
 use crate::plan::{Held, held_sheet};
 use exchange::facts::PlanFacts;
@@ -17,76 +17,77 @@ use lines::sheet_text::put_sheet;
 use plananswer::sheet_text::put_plan_sheet;
 use plansheet::plan::read_plan;
 use plansheet::rooms::SheetRooms;
-use refusals::Refusal;
+use refusals::{Refusal, Refused};
 use sheet::held::Lists;
 use sheet::sheets::read_sheet;
 
 // The sheet that is held, at the front of the output, where there is room for its bytes.
-fn put_again(bytes: usize, kind: SheetKind, n: usize, held: Lists, out: &mut [u8]) -> u64
+fn put_again(
+    bytes: usize,
+    kind: SheetKind,
+    n: usize,
+    held: Lists,
+    out: &mut [u8],
+) -> Result<usize, Refused>
     requires lines { (n ≤ length held.lists.now) × (n ≤ length held.counts.now) }
     requires counts { (i : ℕ) → i < n → get_or held.counts.now i 0 ≤ 64 }
     requires bytes { bytes ≡ length (held_text kind held.lists.now held.counts.now 0 n) }
-    ensures { Gives (within (length out.old) (wrote (held_text kind held.entry.lists.now held.entry.counts.now 0 n))) result out.old out.new }
+    ensures { Writes (within (length out.old) (wrote (held_text kind held.entry.lists.now held.entry.counts.now 0 n))) result out.old out.new }
 {
     if out.len() < bytes {
-        return Refusal::OutputTooShort.on_line(0).word();
+        return Err(Refusal::OutputTooShort.on_line(0));
     }
-    put_sheet(out, kind, n, held) as u64
+    Ok(put_sheet(out, kind, n, held))
 }
 
-pub(crate) fn rewrite_key_sheet(sheet: &[u8], out: &mut [u8]) -> u64
-    ensures result { result ≡ answer (within (length out.old) (key_again (read_key_sheet sheet.now))) }
-    ensures bytes { out.new ≡ after (within (length out.old) (key_again (read_key_sheet sheet.now))) out.old }
+pub(crate) fn rewrite_key_sheet(sheet: &[u8], out: &mut [u8]) -> Result<usize, Refused>
+    ensures { Writes (within (length out.old) (key_again (read_key_sheet sheet.now))) result out.old out.new }
 {
     let mut rows = [[0u64; 2]; 192];
     let mut lists = [[0u64; 64]; 17];
     let mut counts = [0usize; 17];
-    match read_sheet(sheet, SheetKind::Key, &mut rows, &mut lists, &mut counts) {
-        Err(refused) => refused.word(),
-        Ok(()) => {
-            let n = 9 + lists[0][6] as usize;
-            let held = Lists {
-                lists: &lists,
-                counts: &counts,
-            };
-            put_again(sheet.len(), SheetKind::Key, n, held, out)
-        }
-    }
+    read_sheet(sheet, SheetKind::Key, &mut rows, &mut lists, &mut counts)?;
+    let n = 9 + lists[0][6] as usize;
+    let held = Lists {
+        lists: &lists,
+        counts: &counts,
+    };
+    put_again(sheet.len(), SheetKind::Key, n, held, out)
 }
 
-pub(crate) fn rewrite_join_sheet(sheet: &[u8], out: &mut [u8]) -> u64
-    ensures result { result ≡ answer (within (length out.old) (join_again (read_join_sheet sheet.now))) }
-    ensures bytes { out.new ≡ after (within (length out.old) (join_again (read_join_sheet sheet.now))) out.old }
+pub(crate) fn rewrite_join_sheet(sheet: &[u8], out: &mut [u8]) -> Result<usize, Refused>
+    ensures { Writes (within (length out.old) (join_again (read_join_sheet sheet.now))) result out.old out.new }
 {
     let mut rows = [[0u64; 2]; 192];
     let mut lists = [[0u64; 64]; 8];
     let mut counts = [0usize; 8];
-    match read_sheet(sheet, SheetKind::Join, &mut rows, &mut lists, &mut counts) {
-        Err(refused) => refused.word(),
-        Ok(()) => {
-            let held = Lists {
-                lists: &lists,
-                counts: &counts,
-            };
-            put_again(sheet.len(), SheetKind::Join, 8, held, out)
-        }
-    }
+    read_sheet(sheet, SheetKind::Join, &mut rows, &mut lists, &mut counts)?;
+    let held = Lists {
+        lists: &lists,
+        counts: &counts,
+    };
+    put_again(sheet.len(), SheetKind::Join, 8, held, out)
 }
 
 // The same of a D sheet.
-fn put_plan_again(bytes: usize, s: Settings, tree: &[Row], f: PlanFacts, out: &mut [u8]) -> u64
+fn put_plan_again(
+    bytes: usize,
+    s: Settings,
+    tree: &[Row],
+    f: PlanFacts,
+    out: &mut [u8],
+) -> Result<usize, Refused>
     requires { bytes ≡ length (sheet_rows_text s tree.now f.node f.children.now f.xs.rows.now f.masks.now) }
-    ensures { Gives (within (length out.old) (wrote (sheet_rows_text s tree.now f.entry.node f.entry.children.now f.entry.xs.rows.now f.entry.masks.now))) result out.old out.new }
+    ensures { Writes (within (length out.old) (wrote (sheet_rows_text s tree.now f.entry.node f.entry.children.now f.entry.xs.rows.now f.entry.masks.now))) result out.old out.new }
 {
     if out.len() < bytes {
-        return Refusal::OutputTooShort.on_line(0).word();
+        return Err(Refusal::OutputTooShort.on_line(0));
     }
-    put_plan_sheet(out, 0, s, tree, f) as u64
+    Ok(put_plan_sheet(out, 0, s, tree, f))
 }
 
-pub(crate) fn rewrite_plan_sheet(sheet: &[u8], out: &mut [u8]) -> u64
-    ensures result { result ≡ answer (within (length out.old) (plan_again (read_plan sheet.now))) }
-    ensures bytes { out.new ≡ after (within (length out.old) (plan_again (read_plan sheet.now))) out.old }
+pub(crate) fn rewrite_plan_sheet(sheet: &[u8], out: &mut [u8]) -> Result<usize, Refused>
+    ensures { Writes (within (length out.old) (plan_again (read_plan sheet.now))) result out.old out.new }
 {
     let mut fields = [[0u64; 2]; 256];
     let mut head = [0u64; 9];
@@ -106,11 +107,7 @@ pub(crate) fn rewrite_plan_sheet(sheet: &[u8], out: &mut [u8]) -> u64
         masks: &mut masks,
         index: &mut index,
     };
-    match read_plan(sheet, &mut lent) {
-        Err(refused) => refused.word(),
-        Ok(p) => {
-            let Held { tree, facts } = held_sheet(p, lent);
-            put_plan_again(sheet.len(), p.settings, &*tree, facts, out)
-        }
-    }
+    let p = read_plan(sheet, &mut lent)?;
+    let Held { tree, facts } = held_sheet(p, lent);
+    put_plan_again(sheet.len(), p.settings, &*tree, facts, out)
 }

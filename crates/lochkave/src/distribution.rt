@@ -1,6 +1,6 @@
 // Decides a D sheet, with rooms by its length: what is cleared on every call is less for a short one.
 ghost use Rattle.std.specs.Prelude.{◌≡◌, ◌≤◌, length};
-ghost use Rattle.sheet.specs.Outcomes.{answer, after};
+ghost use Rattle.sheet.specs.Outcomes.{Writes};
 ghost use Rattle.lochkave.specs.Entry.{distribution_outcome};
 ghost use Rattle.lochkave.specs.Rooms.{PlanRooms};
 
@@ -9,6 +9,7 @@ use exchange::fact::FactRow;
 use exchange::row::Row;
 use plansheet::plan::read_plan;
 use plansheet::rooms::SheetRooms;
+use refusals::Refused;
 
 // A sheet of fewer bytes has at most 64 T lines and 39 X rows: a T line takes 17 bytes at least, an X row 28.
 const SHORT: usize = 1088;
@@ -28,10 +29,9 @@ pub(crate) struct TreeRooms<'a> {
 }
 
 // A sheet, in the rooms lent.
-pub(crate) fn distribute_in(sheet: &[u8], lent: TreeRooms, out: &mut [u8]) -> u64
+pub(crate) fn distribute_in(sheet: &[u8], lent: TreeRooms, out: &mut [u8]) -> Result<usize, Refused>
     requires { PlanRooms (length sheet.now) (length lent.fields.now) (length lent.rows.now) (length lent.xs.now) (length lent.mid.now) (length lent.dst.now) (length lent.masks.now) (length lent.index.now) }
-    ensures result { result ≡ answer (distribution_outcome sheet.now (length out.old)) }
-    ensures bytes { out.new ≡ after (distribution_outcome sheet.now (length out.old)) out.old }
+    ensures { Writes (distribution_outcome sheet.now (length out.old)) result out.old out.new }
 {
     let TreeRooms {
         fields,
@@ -56,7 +56,8 @@ pub(crate) fn distribute_in(sheet: &[u8], lent: TreeRooms, out: &mut [u8]) -> u6
         index,
     };
     match read_plan(sheet, &mut lent) {
-        Err(refused) => return refused.word(),
+        // Not by `?`: the checker says then that a room moved out of `lent` has to come back.
+        Err(refused) => return Err(refused),
         Ok(p) => {
             let Held { tree, facts } = held_sheet(p, lent);
             return answer_plan(p.settings, facts, tree, mid, dst, out);
@@ -68,11 +69,10 @@ pub(crate) fn distribute_in(sheet: &[u8], lent: TreeRooms, out: &mut [u8]) -> u6
 fn distribute_sized<const ROWS: usize, const XS: usize, const MID: usize, const DST: usize>(
     sheet: &[u8],
     out: &mut [u8],
-) -> u64
+) -> Result<usize, Refused>
     requires rooms { PlanRooms (length sheet.now) 256 ROWS XS MID DST 256 129 }
     requires few { (XS ≤ 128) × (MID ≤ 258) }
-    ensures result { result ≡ answer (distribution_outcome sheet.now (length out.old)) }
-    ensures bytes { out.new ≡ after (distribution_outcome sheet.now (length out.old)) out.old }
+    ensures { Writes (distribution_outcome sheet.now (length out.old)) result out.old out.new }
 {
     let mut fields = [[0u64; 2]; 256];
     let mut rows = [[0u64; 11]; ROWS];
@@ -94,9 +94,8 @@ fn distribute_sized<const ROWS: usize, const XS: usize, const MID: usize, const 
 }
 
 // Any sheet, in rooms of its own.
-pub(crate) fn distribute(sheet: &[u8], out: &mut [u8]) -> u64
-    ensures result { result ≡ answer (distribution_outcome sheet.now (length out.old)) }
-    ensures bytes { out.new ≡ after (distribution_outcome sheet.now (length out.old)) out.old }
+pub(crate) fn distribute(sheet: &[u8], out: &mut [u8]) -> Result<usize, Refused>
+    ensures { Writes (distribution_outcome sheet.now (length out.old)) result out.old out.new }
 {
     if sheet.len() < SHORT {
         return distribute_sized::<64, 39, 66, 152>(sheet, out);

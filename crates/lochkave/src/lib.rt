@@ -16,6 +16,7 @@ use crate::again::{rewrite_join_sheet, rewrite_key_sheet, rewrite_plan_sheet};
 use crate::distribution::{TreeRooms, distribute, distribute_in};
 use crate::kinds::{adjust_in, follow_in};
 use crate::rooms::{keys_fit, trees_fit};
+use refusals::word;
 
 // Decides a K sheet.
 #[unsafe(no_mangle)]
@@ -25,7 +26,7 @@ pub extern "C" fn lochkave_adjust_input_keys_ordering(sheet: &[u8], out: &mut [u
 {
     let mut fields = [[0u64; 2]; 192];
     let mut lists = [[0u64; 64]; 17];
-    adjust_in(sheet, &mut fields, &mut lists, out)
+    word(adjust_in(sheet, &mut fields, &mut lists, out))
 }
 
 // Decides an I sheet.
@@ -37,7 +38,7 @@ pub extern "C" fn lochkave_reorder_join_keys_to_inputs(sheet: &[u8], out: &mut [
     let mut fields = [[0u64; 2]; 192];
     let mut rules = [[0u64; 2]; 32];
     let mut lists = [[0u64; 64]; 8];
-    follow_in(sheet, &mut fields, &mut rules, &mut lists, out)
+    word(follow_in(sheet, &mut fields, &mut rules, &mut lists, out))
 }
 
 // Decides a D sheet.
@@ -46,7 +47,7 @@ pub extern "C" fn lochkave_ensure_distribution(sheet: &[u8], out: &mut [u8]) -> 
     ensures result { result ≡ answer (distribution_outcome sheet.now (length out.old)) }
     ensures bytes { out.new ≡ after (distribution_outcome sheet.now (length out.old)) out.old }
 {
-    distribute(sheet, out)
+    word(distribute(sheet, out))
 }
 
 // The byte that says a sheet's kind; 0 where there is none.
@@ -105,7 +106,7 @@ pub extern "C" fn lochkave_decide_in(
     ) {
         return lochkave_decide(sheet, out);
     }
-    match first_byte(sheet) {
+    word(match first_byte(sheet) {
         b'K' => adjust_in(sheet, fields, lists, out),
         b'I' => follow_in(sheet, fields, rules, lists, out),
         _ => {
@@ -120,7 +121,7 @@ pub extern "C" fn lochkave_decide_in(
             };
             distribute_in(sheet, lent, out)
         }
-    }
+    })
 }
 
 // Reads a sheet and writes it again from what was read.
@@ -130,9 +131,9 @@ pub extern "C" fn lochkave_rewrite(sheet: &[u8], out: &mut [u8]) -> u64
     ensures result { result ≡ answer (rewrite_outcome sheet.now (length out.old)) }
     ensures bytes { out.new ≡ after (rewrite_outcome sheet.now (length out.old)) out.old }
 {
-    match first_byte(sheet) {
+    word(match first_byte(sheet) {
         b'K' => rewrite_key_sheet(sheet, out),
         b'I' => rewrite_join_sheet(sheet, out),
         _ => rewrite_plan_sheet(sheet, out),
-    }
+    })
 }

@@ -1,14 +1,14 @@
 // A D sheet that was read: decided, and its answer written.
-ghost use Rattle.std.specs.Prelude.{◌≡◌, List, ◌++◌, ℕ, ◌+◌, ◌*◌, ◌≤◌, length, take};
-ghost use Rattle.sheet.specs.Outcomes.{within};
+ghost use Rattle.std.specs.Prelude.{◌≡◌, Err, List, ◌++◌, ℕ, ◌+◌, ◌*◌, ◌≤◌, length, take};
+ghost use Rattle.sheet.specs.SheetLines.{refused_on};
+ghost use Rattle.sheet.specs.Outcomes.{within, Writes};
 ghost use Rattle.exchange.specs.Trees.{Plan};
 ghost use Rattle.exchange.specs.Rows.{flatten};
 ghost use Rattle.exchange.specs.Ensure.{ensured};
-ghost use Rattle.ensure.specs.Outcomes.{facts_of};
+ghost use Rattle.ensure.specs.Outcomes.{facts_of, refusal};
 ghost use Rattle.ensure.specs.Lent.{Sheet};
 ghost use Rattle.plansheet.specs.PlanLines.{two_to};
 ghost use Rattle.plananswer.specs.PlanTexts.{distributed};
-ghost use Rattle.lochkave.specs.Entry.{Gives};
 ghost use Rattle.lochkave.specs.PlanHeld.{FactsIn, four};
 
 use ensure::distribution::ensure_distribution;
@@ -21,7 +21,7 @@ use plananswer::plan::{Head, write_plan};
 use plansheet::line::sets_of;
 use plansheet::plan::Plan as SheetPlan;
 use plansheet::rooms::SheetRooms;
-use refusals::Refusal;
+use refusals::{Refusal, Refused};
 
 // A sheet that was read: its tree, and what it says beside it.
 #[derive(Drop)]
@@ -63,6 +63,16 @@ pub(crate) fn held_sheet<'a>(p: SheetPlan, lent: SheetRooms<'a>) -> Held<'a>
     }
 }
 
+// What is turned back where a distribution cannot be enforced.
+fn refused_by(why: Unenforced) -> Refused
+    ensures { result ≡ refused_on (refusal (Err why)) 0 }
+{
+    match why {
+        Unenforced::Missing => Refusal::MissingRow.on_line(0),
+        Unenforced::Stuck => Refusal::Unenforceable.on_line(0),
+    }
+}
+
 // Decides on the tree at the front of `src`, by what the sheet says beside it, and writes the answer.
 pub(crate) fn answer_plan(
     s: Settings,
@@ -71,26 +81,17 @@ pub(crate) fn answer_plan(
     mid: &mut [Row],
     dst: &mut [Row],
     out: &mut [u8],
-) -> u64
+) -> Result<usize, Refused>
     requires roomy { (length src.old + 2 ≤ length mid.old) × (2 * length src.old + 24 ≤ length dst.old) × (length dst.old ≤ 65536) }
     requires sheet { Sheet src.old (length f.children.now) }
-    ensures { (t : Plan) (rest : List (List ℕ)) → src.old ≡ flatten t ++ rest → Gives (within (length out.old) (distributed (ensured s (facts_of f.entry) t))) result out.old out.new }
+    ensures { (t : Plan) (rest : List (List ℕ)) → src.old ≡ flatten t ++ rest → Writes (within (length out.old) (distributed (ensured s (facts_of f.entry) t))) result out.old out.new }
 {
-    match ensure_distribution(s, f, src, mid, &mut *dst) {
-        Err(Unenforced::Missing) => Refusal::MissingRow.on_line(0).word(),
-        Err(Unenforced::Stuck) => Refusal::Unenforceable.on_line(0).word(),
-        Ok(done) => {
-            let head = Head {
-                changed: done.changed,
-                window: done.window,
-                interleave: done.interleave,
-                tracked: done.tracked,
-            };
-            match write_plan(head, &dst[..done.lines], out) {
-                // No From goes from usize to u64.
-                Ok(bytes) => bytes as u64,
-                Err(refused) => refused.word(),
-            }
-        }
-    }
+    let done = ensure_distribution(s, f, src, mid, &mut *dst).map_err(refused_by)?;
+    let head = Head {
+        changed: done.changed,
+        window: done.window,
+        interleave: done.interleave,
+        tracked: done.tracked,
+    };
+    write_plan(head, &dst[..done.lines], out)
 }

@@ -5,4 +5,3 @@ pub mod SizedPlans
 pub mod SizedAnswers
 pub mod PlanAnswersFit
 pub mod Examples
-pub mod Written

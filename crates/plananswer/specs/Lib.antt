@@ -3,4 +3,3 @@ pub mod RowTexts
 pub mod SheetTexts
 pub mod Sizes
 pub mod PlanDecision
-pub mod Written

@@ -2,8 +2,7 @@
 ghost use Rattle.std.specs.Prelude.{◌≡◌, ◌+◌, ◌≤◌, length};
 ghost use Rattle.text.specs.Write.{Wrote};
 ghost use Rattle.sheet.specs.KeyAnswers.{wrote};
-ghost use Rattle.sheet.specs.Outcomes.{after, within};
-ghost use Rattle.plananswer.specs.Written.{written_by};
+ghost use Rattle.sheet.specs.Outcomes.{within, Writes};
 ghost use Rattle.plananswer.specs.RowTexts.{lines_of, row_line, head_line, rows_text};
 
 use crate::line::{AnswerLine, operator_length};
@@ -79,7 +78,7 @@ pub fn put_plan(out: &mut [u8], at: usize, head: Head, rows: &[Row]) -> usize
 // The answer, where there is room for it; else refusal 12.
 pub fn write_plan(head: Head, rows: &[Row], out: &mut [u8]) -> Result<usize, Refused>
     requires { length rows.now ≤ 65536 }
-    ensures { let t = within (length out.old) (wrote (rows_text head.changed head.window head.interleave head.tracked rows.now)) in (result ≡ written_by t) × (out.new ≡ after t out.old) }
+    ensures { Writes (within (length out.old) (wrote (rows_text head.changed head.window head.interleave head.tracked rows.now))) result out.old out.new }
 {
     if out.len() < plan_text_length(head, rows) {
         return Err(Refusal::OutputTooShort.on_line(0));

@@ -27,6 +27,11 @@ refusal_of n = cond (eqb n 1) WrongLine (cond (eqb n 2) MalformedField (cond (eq
 abbrev pub judged_by : ℕ → Result (Unit {0}) Refusal
 judged_by n = cond (eqb n 0) (Ok tt) (Err (refusal_of n))
 
--- the word that an entry point answers
+-- a refusal as the word that an entry point answers
 abbrev pub refused_word : Refused → ℕ
 refused_word r = refusal_number r.refusal * 4294967296 + r.line
+
+-- how many bytes were written, or the word of a refusal
+abbrev pub written_word : Result ℕ Refused → ℕ
+written_word (Ok n) = n
+written_word (Err r) = refused_word r

@@ -1,8 +1,8 @@
 // Why a sheet is turned back, and on which line.
 #![tactic(auto)]
 
-ghost use Rattle.std.specs.Prelude.{◌≡◌, ◌+◌, ◌*◌, ◌^◌, ◌<◌};
-ghost use Rattle.refusals.specs.Refusals.{refusal_number, refused_word};
+ghost use Rattle.std.specs.Prelude.{◌≡◌, ◌+◌, ◌*◌, ◌^◌, ◌<◌, IfErr};
+ghost use Rattle.refusals.specs.Refusals.{refusal_number, refused_word, written_word};
 
 // By the numbers 1 to 12, in this order.
 #[derive(Clone, Copy, Debug, PartialEq, Eq)]
@@ -66,5 +66,17 @@ impl Refused {
         ensures { result ≡ refused_word self }
     {
         self.refusal.number() * 0x1_0000_0000 + self.line
+    }
+}
+
+// What an entry point answers: how many bytes were written, or the refusal's word.
+pub fn word(written: Result<usize, Refused>) -> u64
+    requires { IfErr written (λ refused. refused.line < 2 ^ 32) }
+    ensures { result ≡ written_word written }
+{
+    match written {
+        // No From goes from usize to u64.
+        Ok(bytes) => bytes as u64,
+        Err(refused) => refused.word(),
     }
 }

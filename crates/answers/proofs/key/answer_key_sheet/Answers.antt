@@ -1,6 +1,7 @@
 -- Whether a name was not found (`key_refused`) or an answer is written (`key_written`).
-use mathlib.Core.Path.{refl, subst, ◌∙◌}
+use mathlib.Core.Path.{refl, ap, subst}
 use lib.ListN.{length}
+use Rattle.std.specs.Prelude.{Err}
 use Rattle.sheet.specs.KeyAnswers as A
 use Rattle.sheet.specs.Held.{held_key_sheet}
 use Rattle.sheet.specs.Outcomes.{FitsIn}
@@ -8,7 +9,7 @@ use Rattle.answers.proofs.KeyLists.{key_refused, key_written}
 use Rattle.answers.proofs.key.answer_key_sheet.Goals as goal
 
 pub returns-in_default : goal.returns-in_default
-returns-in_default c = let d = c.adjust in rw (key_refused (held_key_sheet c.args.held.lists.now c.args.held.counts.now) d.result d.ensures c.in_default.is) (c.word.ensures, refl)
+returns-in_default c = let d = c.adjust in rw (key_refused (held_key_sheet c.args.held.lists.now c.args.held.counts.now) d.result d.ensures c.in_default.is) (ap Err c.on_line.ensures, refl)
 
 pub write_key-requires : goal.write_key-requires
 write_key-requires c = let d = c.adjust in
@@ -17,4 +18,4 @@ write_key-requires c = let d = c.adjust in
 
 pub returns : goal.returns
 returns c = let d = c.adjust in let w = c.write_key.ensures in
-    rw (key_written (held_key_sheet c.args.held.lists.now c.args.held.counts.now) d.result c.in-Some.x d.ensures c.in-Some.is, ← c.chosen-answer.ensures) (c.word-2.ensures ∙ w.0, w.1)
+    rw (key_written (held_key_sheet c.args.held.lists.now c.args.held.counts.now) d.result c.in-Some.x d.ensures c.in-Some.is, ← c.chosen-answer.ensures) w

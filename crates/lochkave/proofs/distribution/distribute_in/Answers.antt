@@ -1,21 +1,15 @@
 -- `distribute_in` meets its contract: a refusal, or the decision on the sheet that is held.
-use Rattle.std.proofs.Common.{arith, [], sym, ◌∙◌}
+use Rattle.std.proofs.Common.{[], sym, ◌∙◌}
 use Rattle.plansheet.specs.PlanSheets.{read_plan}
 use Rattle.plananswer.specs.PlanDecision.{plan_decision}
-use Rattle.lochkave.proofs.PlanBounded.{plan_turned_few}
-use Rattle.lochkave.proofs.Entries.{leaves_refused, turned_line, turned_word}
+use Rattle.lochkave.proofs.Entries.{leaves_refused}
 use Rattle.lochkave.proofs.PlanEntries.{held_four, plan_was_turned, plan_was_held, plan_turned, plan_held, room_holds}
 use Rattle.lochkave.proofs.PlanLent.{lent_in, lent_within, lent_sheet, lent_stands, lent_same}
 use Rattle.lochkave.proofs.distribution.distribute_in.Goals as goal
 
-pub word-requires : goal.word-requires
-word-requires c = let a = c.args in let q = c.read_plan in let t = plan_was_turned (read_plan a.sheet.now) q.result _ q.ensures.answer c.in-Err.is in
-    omega (arith, turned_line t (plan_turned_few a.sheet.now _ _ t.is))
-
 pub returns-in-Err : goal.returns-in-Err
 returns-in-Err c = let a = c.args in let q = c.read_plan in let t = plan_was_turned (read_plan a.sheet.now) q.result _ q.ensures.answer c.in-Err.is in
-    let both = leaves_refused (plan_decision a.sheet.now) a.out.now _ _ _ (plan_turned a.sheet.now _ _ t.is) (turned_word t (plan_turned_few a.sheet.now _ _ t.is) _ c.word.ensures) in
-    record { result = both.0; bytes = both.1 }
+    leaves_refused (plan_decision a.sheet.now) a.out.now _ _ _ (plan_turned a.sheet.now _ _ t.is) t.same
 
 pub held_sheet-tree-requires-clause-facts : goal.held_sheet-tree-requires-clause-facts
 held_sheet-tree-requires-clause-facts c =
@@ -51,7 +45,4 @@ returns-in-Ok c =
     let f = c.held_sheet-tree in
     let same = lent_same _ _ _ _ _ _ _ _ _ _ _ h f.result.facts f.ensures.node f.ensures.children f.ensures.rows f.ensures.masks in
     let given = c.answer_plan.ensures w.x.plan [] (f.ensures.tree ∙ lent_stands _ _ _ _ _ _ _ _ _ _ _ h) in
-    record {
-      result = rw (plan_held a.sheet.now w.x w.is, sym w.settings, sym same) given.0;
-      bytes = rw (plan_held a.sheet.now w.x w.is, sym w.settings, sym same) given.1;
-    }
+    rw (plan_held a.sheet.now w.x w.is, sym w.settings, sym same) given
