@@ -40,7 +40,7 @@ put_plan_again-requires c =
     let h = room_holds a.sheet.now _ _ _ _ w _ _ _ _ _ _ (λ x e. held_four x _ _ _ _ _ _ (q.ensures.held x e)) in
     let f = c.held_sheet-tree in
     let r = f.result.facts in
-    let text : sheet_rows_text c.in_ok-p.x.settings f.result.tree.now r.node r.children.now r.xs.rows.now r.masks.now ≡ plan_text w.x =
+    let text : sheet_rows_text c.in_ok-p.p.settings f.result.tree.now r.node r.children.now r.xs.rows.now r.masks.now ≡ plan_text w.x =
     rw f.ensures.tree (lent_written _ _ _ _ _ _ _ _ _ _ _ h r f.ensures.node f.ensures.children f.ensures.rows f.ensures.masks) in
     sym (ap length (text ∙ plan_written_again a.sheet.now w.x w.is))
 
@@ -52,7 +52,7 @@ returns c =
     let h = room_holds a.sheet.now _ _ _ _ w _ _ _ _ _ _ (λ x e. held_four x _ _ _ _ _ _ (q.ensures.held x e)) in
     let f = c.held_sheet-tree in
     let r = f.result.facts in
-    let text : sheet_rows_text c.in_ok-p.x.settings f.result.tree.now r.node r.children.now r.xs.rows.now r.masks.now ≡ plan_text w.x =
+    let text : sheet_rows_text c.in_ok-p.p.settings f.result.tree.now r.node r.children.now r.xs.rows.now r.masks.now ≡ plan_text w.x =
     rw f.ensures.tree (lent_written _ _ _ _ _ _ _ _ _ _ _ h r f.ensures.node f.ensures.children f.ensures.rows f.ensures.masks) in
     let left = rw text at c.put_plan_again.ensures in
     rw (again_held a.sheet.now w.x w.is) left
