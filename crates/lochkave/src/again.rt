@@ -69,7 +69,7 @@ pub(crate) fn rewrite_join_sheet(sheet: &[u8], out: &mut [u8]) -> Result<usize, 
     put_again(sheet.len(), SheetKind::Join, 8, held, out)
 }
 
-// The same of a D sheet.
+// The same of a D sheet. `put_again`, this one and `write_plan` each put other lines: over a closure that puts them the promise would be longer than both.
 fn put_plan_again(
     bytes: usize,
     s: Settings,

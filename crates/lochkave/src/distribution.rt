@@ -1,5 +1,5 @@
 // Decides a D sheet, with rooms by its length: what is cleared on every call is less for a short one.
-ghost use Rattle.std.specs.Prelude.{◌≡◌, ◌≤◌, length};
+ghost use Rattle.std.specs.Prelude.{◌≤◌, length};
 ghost use Rattle.sheet.specs.Outcomes.{Writes};
 ghost use Rattle.lochkave.specs.Entry.{distribution_outcome};
 ghost use Rattle.lochkave.specs.Rooms.{PlanRooms};
@@ -59,6 +59,7 @@ pub(crate) fn distribute_in(sheet: &[u8], lent: TreeRooms, out: &mut [u8]) -> Re
         // Not by `?`: the checker says then that a room moved out of `lent` has to come back.
         Err(refused) => return Err(refused),
         Ok(p) => {
+            // Taken apart as in `rewrite_plan_sheet`: a function that answered these parts would be no shorter.
             let SheetRooms {
                 rows,
                 node,
