@@ -9,7 +9,7 @@ use mathlib.Core.List.{List, [], ◌∷◌, ◌++◌}
 use lib.Dec.{eqb}
 use lib.ListN.{length}
 use borrow.Author.Tests.{eqb-true}
-use Rattle.std.proofs.lemmas.Bool.{and_parts as both}
+use Rattle.std.proofs.lemmas.Bool.{and_parts}
 use Rattle.keys.specs.Reorder.{Rule}
 use Rattle.keys.specs.Expressions.{Expression, same_expr, placeholder}
 use Rattle.keys.specs.Arrange.{Lacks}
@@ -57,7 +57,7 @@ pub key_even : (s : List ℕ) (x : KeySheet) → read_key_sheet s ≡ sheet x �
 unfolding key_lists_fit
 key_even s x e =
     let f : key_lists_fit x ≡ true = (key_read_legal s x e).fit in
-    eqb-true (length x.left) (length x.right) (both (eqb (length x.left) (length x.right)) _ f).0
+    eqb-true (length x.left) (length x.right) (and_parts (eqb (length x.left) (length x.right)) _ f).0
 
 pub keys_guaranteed : (s a : List ℕ) → adjust_decision s ≡ wrote a → NoPlaceholder s → Guaranteed s a
 unfolding adjust_decision

@@ -4,7 +4,7 @@ use mathlib.Core.Path.{◌≡◌, refl}
 use mathlib.Core.Bool.{Bool, true, false, cond}
 use mathlib.Core.List.{List, [], ◌∷◌}
 use lib.ListN.{length}
-use Rattle.keys.proofs.Truths.{and_both}
+use Rattle.std.proofs.lemmas.Bool.{and_from}
 use Rattle.exchange.specs.Trees.{node, none, ◌∷ᶠ◌, root, Operator, Plan}
 use Rattle.exchange.specs.Operators.{track}
 use Rattle.exchange.specs.Children.{is_leaf, update_each, update_children, is_removed, remove_dist_changing_operators}
@@ -31,7 +31,7 @@ module _ (x : PlanSheet) (w : Operator) (m n : ℕ) (marked : w ≡ track m (roo
   each_had cs ks (d ∷ ds) marks.over h f = absurd h
   each_had cs ks [] (marks.beside s r) h f = absurd h
   each_had cs ks (d ∷ ds) (marks.beside {c = c} {d = k} {cs = cs'} {ds = ks'} s r) h f =
-      and_both (need_had x c _) _ (need_had_lem x w m n marked c k s d f.0 h.0) (each_had cs' ks' ds r h.1 f.1)
+      and_from (need_had x c _) _ (need_had_lem x w m n marked c k s d f.0 h.0) (each_had cs' ks' ds r h.1 f.1)
 
 -- an only line has no children
 only_had : (x : PlanSheet) → is_leaf (below x.plan) ≡ true → PartitioningHad x (update_children x.plan)

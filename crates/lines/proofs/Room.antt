@@ -1,16 +1,15 @@
 -- What a writer answers of a text, and leaves in the output lent, by the room for it.
 -- Assumes nothing.
-use Prim.Native.Nat.{ℕ, ◌+◌, ◌≤◌, ◌<◌}
-use mathlib.Core.Path.{◌≡◌, refl, ap, ◌∙◌}
+use Prim.Native.Nat.{ℕ, ◌+◌, ◌≤◌}
+use mathlib.Core.Path.{◌≡◌, ap, ◌∙◌}
 use mathlib.Core.List.{List, ◌++◌}
 use native.Mathlib.Omega.{arith}
-use borrow.Author.Tests.{lt-ltb, le-ltb}
+use borrow.Author.Tests.{le-ltb}
 use lib.ListN.{length, drop}
 use lib.Seq.{sets-eq}
-use Rattle.std.specs.Prelude.{Result, Ok, Err}
+use Rattle.std.specs.Prelude.{Result, Ok}
 use Rattle.text.specs.Write.{Wrote}
 use Rattle.refusals.specs.declared.Refused.{Refused}
-use Rattle.refusals.specs.declared.Refusal.TheVariants.{OutputTooShort}
 use Rattle.sheet.specs.KeyAnswers.{wrote}
 use Rattle.sheet.specs.Outcomes.{within, Writes}
 
@@ -25,7 +24,3 @@ module _ (out text : List ℕ) where
       let z : 0 + length text ≡ length text = omega arith in
       rw (le-ltb (length out) (length text) h)
       (ap Ok (w.place ∙ z), w.stored ∙ sets-eq text out 0 (omega arith) ∙ ap (λ (k : ℕ). text ++ drop k out) z)
-
-  -- refusal 12 of the whole sheet
-  pub room_short : length out < length text → (w : Refused) → w ≡ record { refusal = OutputTooShort; line = 0 } → Answered (Err w) out
-  room_short h w e = rw (lt-ltb (length out) (length text) h) (ap Err e, refl)

@@ -1,7 +1,7 @@
--- A refusal of a D sheet has a number from 1 to 8 and a line of at most 65,537, so its word is made of both.
+-- A refusal of a D sheet has a number from 1 to 8 and a line of at most 65,537.
 -- Assumes nothing.
 use Prim.Native.Nat.{ℕ, suc, ◌+◌, ◌≤◌}
-use mathlib.Core.Path.{◌≡◌, refl, subst}
+use mathlib.Core.Path.{◌≡◌, refl}
 use mathlib.Core.Bool.{Bool, true, false, cond, ◌||◌}
 use mathlib.Core.Option.{Option, none, some}
 use mathlib.Core.List.{List, [], ◌∷◌}
@@ -122,6 +122,3 @@ plan_few s =
     then_few (rows_of settings_line 1 0 1 0 (parts 10 s)) _ (run_within settings_line 1 0 1 0 (parts 10 s) (omega arith) (omega arith)) (λ ds l p ls i j.
     then_few (rows_of plan_line 1 0 l p ls) _ (run_within plan_line 1 0 l p ls i j) (λ ts l' p' ls' i' j'.
     with_few (settings_of (values (head_of ds))) (plan_of ts) (read_facts (child_count (plan_of ts)) l' p' ls') (facts_few (child_count (plan_of ts)) l' p' ls' i' j')))
-
-pub plan_turned_few : (s : List ℕ) (n l : ℕ) → read_plan s ≡ turned n l → (n ≤ 8) × (l ≤ 65537) × (n ≡ 0 → ⊥)
-plan_turned_few s n l e = subst Few e (plan_few s)

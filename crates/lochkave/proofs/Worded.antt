@@ -8,7 +8,7 @@ use native.Mathlib.Omega.{arith}
 use borrow.Author.Tests.{ne_eqb}
 use lib.Dec.{eqb, ltb}
 use lib.ListN.{length, get_or}
-use Rattle.std.specs.Prelude.{Result, Ok, Err, IfErr}
+use Rattle.std.specs.Prelude.{Result, IfErr}
 use Rattle.keys.specs.Inputs.{JoinSheet}
 use Rattle.keys.specs.Adjust.{KeySheet, Adjustment, answered, name_not_found, adjust_input_keys_ordering}
 use Rattle.keys.specs.Expressions.{same_expr}

@@ -47,6 +47,7 @@ pub(crate) fn rewrite_key_sheet(sheet: &[u8], out: &mut [u8]) -> Result<usize, R
     let mut lists = [[0u64; 64]; 17];
     let mut counts = [0usize; 17];
     read_sheet(sheet, SheetKind::Key, &mut rows, &mut lists, &mut counts)?;
+    // No From goes from u64 to usize.
     let n = 9 + lists[0][6] as usize;
     let held = Lists {
         lists: &lists,
@@ -69,7 +70,7 @@ pub(crate) fn rewrite_join_sheet(sheet: &[u8], out: &mut [u8]) -> Result<usize, 
     put_again(sheet.len(), SheetKind::Join, 8, held, out)
 }
 
-// The same of a D sheet.
+// The same of a D sheet. `put_again`, this one and `write_plan` each put other lines: over a closure that puts them the promise would be longer than both.
 fn put_plan_again(
     bytes: usize,
     s: Settings,

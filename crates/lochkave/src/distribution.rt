@@ -1,5 +1,5 @@
 // Decides a D sheet, with rooms by its length: what is cleared on every call is less for a short one.
-ghost use Rattle.std.specs.Prelude.{◌≡◌, ◌≤◌, length};
+ghost use Rattle.std.specs.Prelude.{◌≤◌, length};
 ghost use Rattle.sheet.specs.Outcomes.{Writes};
 ghost use Rattle.lochkave.specs.Entry.{distribution_outcome};
 ghost use Rattle.lochkave.specs.Rooms.{PlanRooms};

@@ -1,5 +1,5 @@
 // Decides a K or an I sheet, in the rooms lent.
-ghost use Rattle.std.specs.Prelude.{◌≡◌, ◌≤◌, length};
+ghost use Rattle.std.specs.Prelude.{◌≤◌, length};
 ghost use Rattle.sheet.specs.Outcomes.{Writes};
 ghost use Rattle.lochkave.specs.Entry.{adjust_outcome, inputs_outcome};
 
@@ -39,7 +39,7 @@ pub(crate) fn adjust_in(
     answer_key_sheet(roomy, held, fields, out)
 }
 
-// An I sheet.
+// An I sheet. As `adjust_in`, but for the kind, the rooms and the answer: a function that reads for both would have to promise of the lists all that `read_sheet` does.
 pub(crate) fn follow_in(
     sheet: &[u8],
     fields: &mut [[u64; 2]],

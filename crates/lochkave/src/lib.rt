@@ -67,6 +67,7 @@ pub extern "C" fn lochkave_decide(sheet: &[u8], out: &mut [u8]) -> u64
     ensures result { result ≡ answer (outcome sheet.now (length out.old)) }
     ensures bytes { out.new ≡ after (outcome sheet.now (length out.old)) out.old }
 {
+    // As in `lochkave_rewrite`, on other functions: both are exported for C, and each names its own three.
     match first_byte(sheet) {
         b'K' => lochkave_adjust_input_keys_ordering(sheet, out),
         b'I' => lochkave_reorder_join_keys_to_inputs(sheet, out),

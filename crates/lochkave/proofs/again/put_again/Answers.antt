@@ -1,12 +1,8 @@
 -- `put_again` meets its contract, by the room for the sheet's bytes.
 use Rattle.std.proofs.Common.{arith}
-use Rattle.lines.proofs.Room.{room_written, room_short}
+use Rattle.lines.proofs.Room.{room_written}
 use Rattle.sheet.specs.Held.{held_text}
 use Rattle.lochkave.proofs.again.put_again.Goals as goal
-
-pub returns-then-out-bytes : goal.returns-then-out-bytes
-returns-then-out-bytes c = let a = c.args in
-    room_short a.out.now (held_text a.kind a.held.lists.now a.held.counts.now 0 a.n) (omega (arith, c.if-out-bytes.true, c.requires.bytes)) _ c.on_line.ensures
 
 pub put_sheet-requires : goal.put_sheet-requires
 put_sheet-requires c = let q = c.requires in (q.lines.0, q.lines.1, q.counts, omega (arith, q.bytes, c.if-out-bytes.false))

@@ -1,12 +1,8 @@
 -- `put_plan_again` meets its contract, by the room for the sheet's bytes.
 use Rattle.std.proofs.Common.{arith}
-use Rattle.lines.proofs.Room.{room_written, room_short}
+use Rattle.lines.proofs.Room.{room_written}
 use Rattle.plananswer.specs.SheetTexts.{sheet_rows_text}
 use Rattle.lochkave.proofs.again.put_plan_again.Goals as goal
-
-pub returns-then-out-bytes : goal.returns-then-out-bytes
-returns-then-out-bytes c = let a = c.args in
-    room_short a.out.now (sheet_rows_text a.s a.tree.now a.f.node a.f.children.now a.f.xs.rows.now a.f.masks.now) (omega (arith, c.if-out-bytes.true, c.requires)) _ c.on_line.ensures
 
 pub put_plan_sheet-requires : goal.put_plan_sheet-requires
 put_plan_sheet-requires c = omega (arith, c.requires, c.if-out-bytes.false)

@@ -1,12 +1,8 @@
 -- `write_plan` meets its contract, by the room for the answer's text.
 use Rattle.std.proofs.Common.{arith}
 use Rattle.plananswer.specs.RowTexts.{rows_text}
-use Rattle.lines.proofs.Room.{room_written, room_short}
+use Rattle.lines.proofs.Room.{room_written}
 use Rattle.plananswer.proofs.plan.write_plan.Goals as goal
-
-pub returns-then-out-plan_text_length : goal.returns-then-out-plan_text_length
-returns-then-out-plan_text_length c = let a = c.args in
-    room_short a.out.now (rows_text a.head.changed a.head.window a.head.interleave a.head.tracked a.rows.now) (omega (arith, c.if-out-plan_text_length.true, c.plan_text_length.ensures)) _ c.on_line.ensures
 
 pub returns : goal.returns
 returns c = let a = c.args in
