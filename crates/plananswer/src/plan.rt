@@ -29,7 +29,7 @@ fn head_length(head: Head) -> usize
     6 + a + number_length(head.interleave) + number_length(head.tracked)
 }
 
-// The length of the rows' t lines.
+// The length of the rows' t lines. How many rows there are at most stays a condition: a struct for one slice would be no plainer.
 fn lines_length(rows: &[Row]) -> usize
     requires { length rows.now ≤ 65536 }
     ensures exact { result ≡ length (lines_of row_line rows.now) }

@@ -57,6 +57,7 @@ fn judge_tree(h: TreeShape, seen: usize, next: usize, fields: &[[u64; 2]]) -> Re
 }
 
 // The tree line at a place, before which there are `seen`; its fields go into the rows lent.
+// That there is room for its fields stays a condition: a struct of description and room would be taken apart in each function.
 fn tree_line(s: &[u8], at: usize, seen: usize, h: TreeShape, fields: &mut [[u64; 2]]) -> Read
     requires { length h.line.bounds.now ≤ length fields.old }
     ensures answer { result ≡ read_by (line_number (tree_by h.entry) seen (after s.now at) (line_at h.entry.line.letter s.now at)) (after s.now at) (line_at h.entry.line.letter s.now at) }
