@@ -89,6 +89,7 @@ fn judge_plan(head: &[u64], f: LinesRead, index: &mut [u64]) -> Result<Plan, Ref
 // What follows the tree, which stands in the rows and has so many lines: the facts, and the sheet judged.
 fn read_after_tree(place: Place, lines: usize, lent: &mut SheetRooms) -> Result<Plan, Refused>
     requires room { RoomFor 128 28 (length place.s.now) (length lent.old.xs.now) }
+    requires whole { (9 ≤ length lent.old.head.now) × (length lent.old.index.now ≡ 129) }
     requires tree_stands { TreeStands lent.old.rows.now }
     ensures answer { (t : PlanTree) (rest : List (List ℕ)) → lent.old.rows.now ≡ flatten t ++ rest → lines ≡ length (flatten t) → result ≡ plan_by (with_facts (settings_of lent.old.head.now) t (read_facts (child_count t) place.entry.line place.entry.at (parts 10 (drop place.entry.at place.entry.s.now)))) }
     ensures held { (t : PlanTree) (rest : List (List ℕ)) (x : PlanSheet) → lent.old.rows.now ≡ flatten t ++ rest → lines ≡ length (flatten t) → with_facts (settings_of lent.old.head.now) t (read_facts (child_count t) place.entry.line place.entry.at (parts 10 (drop place.entry.at place.entry.s.now))) ≡ sheet x → PlanHeld x lent.new.rows.now lent.new.node.now lent.new.facts.now lent.new.xs.now lent.new.masks.now lent.new.index.now }
@@ -120,7 +121,7 @@ fn read_after_tree(place: Place, lines: usize, lent: &mut SheetRooms) -> Result<
 
 // A D sheet, in the rooms lent.
 pub fn read_plan(s: &[u8], lent: &mut SheetRooms) -> Result<Plan, Refused>
-    requires { RoomFor 256 17 (length s.now) (length lent.old.rows.now) × RoomFor 128 28 (length s.now) (length lent.old.xs.now) }
+    requires { RoomFor 256 17 (length s.now) (length lent.old.rows.now) × RoomFor 128 28 (length s.now) (length lent.old.xs.now) × (9 ≤ length lent.old.head.now) × (length lent.old.index.now ≡ 129) }
     ensures answer { result ≡ plan_by (read_plan s.now) }
     ensures held { (x : PlanSheet) → read_plan s.now ≡ sheet x → PlanHeld x lent.new.rows.now lent.new.node.now lent.new.facts.now lent.new.xs.now lent.new.masks.now lent.new.index.now }
     ensures sizes { SameSizes lent.old lent.new }

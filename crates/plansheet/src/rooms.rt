@@ -18,11 +18,9 @@ pub struct SheetRooms<'a> {
     pub masks: &'a mut [u64],
     pub index: &'a mut [u64],
     pub ghost wide: { 256 ≤ length fields.now },
-    pub ghost nine: { 9 ≤ length head.now },
     pub ghost four: { 4 ≤ length node.now },
     pub ghost eight: { 8 ≤ length facts.now },
     pub ghost masked: { 256 ≤ length masks.now },
-    pub ghost indexed: { length index.now ≡ 129 },
 }
 
 // The tree's rows in front and how many there are, the worked node's place, its children, and the F rows, X rows and masks in front; of the X rows, which may be more than there is room for, how many there are.
