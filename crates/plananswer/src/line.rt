@@ -6,7 +6,9 @@ ghost use Rattle.plananswer.specs.PlanTexts.{limit_field};
 ghost use Rattle.plananswer.specs.RowTexts.{row_fields, row_line};
 
 use crate::rows::RowLine;
-use exchange::row::{CHILDREN, COUNT, ID, KEEPS, KIND, LIMIT, LIMITED, MASK, ORDER, Row, TRACKED};
+use exchange::row::{
+    CHILDREN, COUNT, ID, KEEPS, KIND, LIMIT, LIMITED, MASK, NO_LIMIT, ORDER, Row, TRACKED,
+};
 use text::field::Field;
 use text::write::{field_length, number_length, put_line};
 
@@ -14,7 +16,7 @@ use text::write::{field_length, number_length, put_line};
 pub(crate) fn limit_field(x: Row) -> Field
     ensures { result ≡ limit_field (limit_of (get_or x 4 0) (get_or x 5 0)) }
 {
-    if x[LIMITED] == 0 {
+    if x[LIMITED] == NO_LIMIT {
         return Field::Empty;
     }
     Field::Number(x[LIMIT])
@@ -58,6 +60,6 @@ impl RowLine<Row> for AnswerLine {
 
     #[tactic(auto, unfolding(crate::specs::RowTexts::row_line))]
     fn put(out: &mut [u8], at: usize, row: &Row) -> usize {
-        put_line(out, at, 116, &operator_fields(*row))
+        put_line(out, at, b't', &operator_fields(*row))
     }
 }

@@ -63,7 +63,7 @@ fn put_head(out: &mut [u8], at: usize, head: Head) -> usize
         [0, head.interleave],
         [0, head.tracked],
     ];
-    put_line(out, at, 100, &fields)
+    put_line(out, at, b'd', &fields)
 }
 
 // The answer.

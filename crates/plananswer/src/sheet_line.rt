@@ -30,7 +30,7 @@ pub(crate) fn put_settings(out: &mut [u8], at: usize, s: Settings) -> usize
         s.sort,
         s.union,
     ];
-    put_numbers(out, at, 68, &list)
+    put_numbers(out, at, b'D', &list)
 }
 
 // The fields of a row's T line, a state and a value each.
@@ -58,7 +58,7 @@ impl RowLine<Row> for TreeLine {
 
     #[tactic(auto, unfolding(crate::specs::SheetTexts::tree_row_line))]
     fn put(out: &mut [u8], at: usize, row: &Row) -> usize {
-        put_line(out, at, 84, &tree_fields(*row))
+        put_line(out, at, b'T', &tree_fields(*row))
     }
 }
 
@@ -69,7 +69,7 @@ impl RowLine<ChildRow> for ChildLine {
     ghost text = { child_row_line };
 
     fn put(out: &mut [u8], at: usize, row: &ChildRow) -> usize {
-        put_numbers(out, at, 70, row)
+        put_numbers(out, at, b'F', row)
     }
 }
 
@@ -80,6 +80,6 @@ impl RowLine<FactRow> for FactLine {
     ghost text = { fact_row_line };
 
     fn put(out: &mut [u8], at: usize, row: &FactRow) -> usize {
-        put_numbers(out, at, 88, row)
+        put_numbers(out, at, b'X', row)
     }
 }

@@ -25,41 +25,41 @@ all_parts out at s tree b children facts masks room = due_all out at (sheet_part
 pub put_settings-at_tree-requires : goal.put_settings-at_tree-requires
 put_settings-at_tree-requires c =
     let a = c.args in
-    let start = all_parts a.out.now a.at a.s a.tree.now a.f.node a.f.children.now a.f.xs.rows.now a.f.masks.now c.requires in
+    let start = all_parts a.out.now a.at a.sheet.settings a.sheet.tree.now a.sheet.node a.sheet.children.now a.sheet.facts.now a.sheet.masks.now c.requires in
     due_room start
 
 pub put_rows-at_node-requires : goal.put_rows-at_node-requires
 put_rows-at_node-requires c =
     let a = c.args in
-    let start = all_parts a.out.now a.at a.s a.tree.now a.f.node a.f.children.now a.f.xs.rows.now a.f.masks.now c.requires in
+    let start = all_parts a.out.now a.at a.sheet.settings a.sheet.tree.now a.sheet.node a.sheet.children.now a.sheet.facts.now a.sheet.masks.now c.requires in
     due_room (due_then start c.put_settings-at_tree.ensures)
 
 pub put_node_facts-at_children-requires : goal.put_node_facts-at_children-requires
 put_node_facts-at_children-requires c =
     let a = c.args in
-    let start = all_parts a.out.now a.at a.s a.tree.now a.f.node a.f.children.now a.f.xs.rows.now a.f.masks.now c.requires in
+    let start = all_parts a.out.now a.at a.sheet.settings a.sheet.tree.now a.sheet.node a.sheet.children.now a.sheet.facts.now a.sheet.masks.now c.requires in
     due_room (due_then (due_then start c.put_settings-at_tree.ensures) c.put_rows-at_node.ensures)
 
 pub put_rows-at_facts-requires : goal.put_rows-at_facts-requires
 put_rows-at_facts-requires c =
     let a = c.args in
-    let start = all_parts a.out.now a.at a.s a.tree.now a.f.node a.f.children.now a.f.xs.rows.now a.f.masks.now c.requires in
+    let start = all_parts a.out.now a.at a.sheet.settings a.sheet.tree.now a.sheet.node a.sheet.children.now a.sheet.facts.now a.sheet.masks.now c.requires in
     due_room (due_then (due_then (due_then start c.put_settings-at_tree.ensures) c.put_rows-at_node.ensures) c.put_node_facts-at_children.ensures)
 
 pub put_rows-at_masks-requires : goal.put_rows-at_masks-requires
 put_rows-at_masks-requires c =
     let a = c.args in
-    let start = all_parts a.out.now a.at a.s a.tree.now a.f.node a.f.children.now a.f.xs.rows.now a.f.masks.now c.requires in
+    let start = all_parts a.out.now a.at a.sheet.settings a.sheet.tree.now a.sheet.node a.sheet.children.now a.sheet.facts.now a.sheet.masks.now c.requires in
     due_room (due_then (due_then (due_then (due_then start c.put_settings-at_tree.ensures) c.put_rows-at_node.ensures) c.put_node_facts-at_children.ensures) c.put_rows-at_facts.ensures)
 
 pub put_numbers-requires : goal.put_numbers-requires
 put_numbers-requires c =
     let a = c.args in
-    let start = all_parts a.out.now a.at a.s a.tree.now a.f.node a.f.children.now a.f.xs.rows.now a.f.masks.now c.requires in
+    let start = all_parts a.out.now a.at a.sheet.settings a.sheet.tree.now a.sheet.node a.sheet.children.now a.sheet.facts.now a.sheet.masks.now c.requires in
     due_room (due_then (due_then (due_then (due_then (due_then start c.put_settings-at_tree.ensures) c.put_rows-at_node.ensures) c.put_node_facts-at_children.ensures) c.put_rows-at_facts.ensures) c.put_rows-at_masks.ensures)
 
 pub returns : goal.returns
 returns c =
     let a = c.args in
-    let start = all_parts a.out.now a.at a.s a.tree.now a.f.node a.f.children.now a.f.xs.rows.now a.f.masks.now c.requires in
+    let start = all_parts a.out.now a.at a.sheet.settings a.sheet.tree.now a.sheet.node a.sheet.children.now a.sheet.facts.now a.sheet.masks.now c.requires in
     due_none (due_then (due_then (due_then (due_then (due_then (due_then start c.put_settings-at_tree.ensures) c.put_rows-at_node.ensures) c.put_node_facts-at_children.ensures) c.put_rows-at_facts.ensures) c.put_rows-at_masks.ensures) c.put_numbers.ensures)
