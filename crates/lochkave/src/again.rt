@@ -9,12 +9,9 @@ ghost use Rattle.plananswer.specs.SheetTexts.{sheet_rows_text};
 ghost use Rattle.lochkave.specs.Entry.{key_again, join_again, plan_again};
 
 use crate::plan::{Held, held_sheet};
-use exchange::facts::PlanFacts;
-use exchange::row::Row;
-use exchange::settings::Settings;
 use linekinds::lists::SheetKind;
 use lines::sheet_text::put_sheet;
-use plananswer::sheet_text::put_plan_sheet;
+use plananswer::sheet_text::{SheetRows, put_plan_sheet};
 use plansheet::plan::read_plan;
 use plansheet::rooms::SheetRooms;
 use refusals::{Refusal, Refused};
@@ -45,6 +42,7 @@ pub(crate) fn rewrite_key_sheet(sheet: &[u8], out: &mut [u8]) -> Result<usize, R
 {
     let mut rows = [[0u64; 2]; 192];
     let mut lists = [[0u64; 64]; 17];
+    // Beside rooms of 64 numbers, how many of each are the line's: see `Lists`.
     let mut counts = [0usize; 17];
     read_sheet(sheet, SheetKind::Key, &mut rows, &mut lists, &mut counts)?;
     // No From goes from u64 to usize.
@@ -61,6 +59,7 @@ pub(crate) fn rewrite_join_sheet(sheet: &[u8], out: &mut [u8]) -> Result<usize, 
 {
     let mut rows = [[0u64; 2]; 192];
     let mut lists = [[0u64; 64]; 8];
+    // As in `rewrite_key_sheet`.
     let mut counts = [0usize; 8];
     read_sheet(sheet, SheetKind::Join, &mut rows, &mut lists, &mut counts)?;
     let held = Lists {
@@ -71,20 +70,14 @@ pub(crate) fn rewrite_join_sheet(sheet: &[u8], out: &mut [u8]) -> Result<usize, 
 }
 
 // The same of a D sheet. `put_again`, this one and `write_plan` each put other lines: over a closure that puts them the promise would be longer than both.
-fn put_plan_again(
-    bytes: usize,
-    s: Settings,
-    tree: &[Row],
-    f: PlanFacts,
-    out: &mut [u8],
-) -> Result<usize, Refused>
-    requires { bytes ≡ length (sheet_rows_text s tree.now f.node f.children.now f.xs.rows.now f.masks.now) }
-    ensures { Writes (within (length out.old) (wrote (sheet_rows_text s tree.now f.entry.node f.entry.children.now f.entry.xs.rows.now f.entry.masks.now))) result out.old out.new }
+fn put_plan_again(bytes: usize, held: SheetRows, out: &mut [u8]) -> Result<usize, Refused>
+    requires { bytes ≡ length (sheet_rows_text held.settings held.tree.now held.node held.children.now held.facts.now held.masks.now) }
+    ensures { Writes (within (length out.old) (wrote (sheet_rows_text held.entry.settings held.entry.tree.now held.entry.node held.entry.children.now held.entry.facts.now held.entry.masks.now))) result out.old out.new }
 {
     if out.len() < bytes {
         return Err(Refusal::OutputTooShort.on_line(0));
     }
-    Ok(put_plan_sheet(out, 0, s, tree, f))
+    Ok(put_plan_sheet(out, 0, held))
 }
 
 pub(crate) fn rewrite_plan_sheet(sheet: &[u8], out: &mut [u8]) -> Result<usize, Refused>
@@ -110,5 +103,13 @@ pub(crate) fn rewrite_plan_sheet(sheet: &[u8], out: &mut [u8]) -> Result<usize, 
     };
     let p = read_plan(sheet, &mut lent)?;
     let Held { tree, facts } = held_sheet(p, lent);
-    put_plan_again(sheet.len(), p.settings, &*tree, facts, out)
+    let held = SheetRows {
+        settings: p.settings,
+        tree: &*tree,
+        node: facts.node,
+        children: facts.children,
+        facts: facts.xs.rows,
+        masks: facts.masks,
+    };
+    put_plan_again(sheet.len(), held, out)
 }

@@ -13,7 +13,7 @@ use sheet::sheets::read_sheet;
 // So many bytes of output suffice for every answer.
 const ANSWER_MOST: usize = 65536;
 
-// A K sheet.
+// A K sheet. C lends the rooms, of any length, so that conditions say what they hold, here and in `follow_in`.
 pub(crate) fn adjust_in(
     sheet: &[u8],
     fields: &mut [[u64; 2]],
@@ -23,6 +23,7 @@ pub(crate) fn adjust_in(
     requires { (192 ≤ length fields.old) × (17 ≤ length lists.old) }
     ensures { Writes (adjust_outcome sheet.now (length out.old)) result out.old out.new }
 {
+    // Beside rooms of 64 numbers, how many of each are the line's: see `Lists`.
     let mut counts = [0usize; 17];
     read_sheet(
         sheet,
@@ -50,6 +51,7 @@ pub(crate) fn follow_in(
     requires { (192 ≤ length fields.old) × (32 ≤ length rules.old) × (8 ≤ length lists.old) }
     ensures { Writes (inputs_outcome sheet.now (length out.old)) result out.old out.new }
 {
+    // As in `adjust_in`.
     let mut counts = [0usize; 8];
     read_sheet(
         sheet,

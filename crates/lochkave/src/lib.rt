@@ -54,10 +54,7 @@ pub extern "C" fn lochkave_ensure_distribution(sheet: &[u8], out: &mut [u8]) -> 
 fn first_byte(sheet: &[u8]) -> u8
     ensures { result ≡ get_or sheet.now 0 0 }
 {
-    match sheet.first() {
-        Some(kind) => *kind,
-        None => 0,
-    }
+    sheet.first().copied().unwrap_or(0)
 }
 
 // Decides a sheet, whose first byte says its kind.

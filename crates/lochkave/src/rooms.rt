@@ -1,4 +1,4 @@
-// Whether rooms that are lent suffice for every sheet.
+// Whether rooms that are lent suffice for every sheet. Lengths alone are asked: nine slices of five types would be no plainer.
 ghost use Rattle.lochkave.specs.Rooms.{Decides, KeyRooms, TreeRooms};
 
 // The fields of a line, and the rules and lists of K and I sheets.

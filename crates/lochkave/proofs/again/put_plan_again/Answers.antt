@@ -9,4 +9,4 @@ put_plan_sheet-requires c = omega (arith, c.requires, c.if-out-bytes.false)
 
 pub returns : goal.returns
 returns c = let a = c.args in
-    room_written a.out.now (sheet_rows_text a.s a.tree.now a.f.node a.f.children.now a.f.xs.rows.now a.f.masks.now) (omega (arith, c.if-out-bytes.false, c.requires)) _ _ c.put_plan_sheet.ensures
+    room_written a.out.now (sheet_rows_text a.held.settings a.held.tree.now a.held.node a.held.children.now a.held.facts.now a.held.masks.now) (omega (arith, c.if-out-bytes.false, c.requires)) _ _ c.put_plan_sheet.ensures
