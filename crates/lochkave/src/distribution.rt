@@ -56,7 +56,8 @@ pub(crate) fn distribute_in(sheet: &[u8], lent: TreeRooms, out: &mut [u8]) -> Re
         index,
     };
     match read_plan(sheet, &mut lent) {
-        // Not by `?`: the checker says then that a room moved out of `lent` has to come back.
+        // Not by `?`: tried with the rooms moved out of `lent` (the checker says that they have to come back) and with them reborrowed (it
+        // does not cover the function then).
         Err(refused) => return Err(refused),
         Ok(p) => {
             let Held { tree, facts } = held_sheet(p, lent);
