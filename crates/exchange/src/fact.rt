@@ -86,8 +86,8 @@ pub fn index_rows(rows: &[FactRow], index: &mut [u64])
     ensures { index.new ≡ index_of rows.now }
 {
     index.fill(0);
-    for i in (0..rows.len()).rev() {
-        let at = slot(rows[i][CHILD], rows[i][FORM]);
+    for (i, row) in rows.iter().enumerate().rev() {
+        let at = slot(row[CHILD], row[FORM]);
         // No From goes from usize to u64.
         index[at] = i as u64 + 1;
     }

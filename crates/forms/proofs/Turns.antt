@@ -2,7 +2,7 @@
 -- Assumes nothing.
 use mathlib.Core.Path.{◌≡◌, refl, sym, ap, ◌∙◌}
 use mathlib.Core.Option.{Option, none, some}
-use mathlib.Core.List.{List, [], ◌∷◌, ◌++◌, map, append_assoc, append-nil}
+use mathlib.Core.List.{List, [], ◌∷◌, ◌++◌, map}
 use Prim.Native.Nat.{ℕ, zero, suc, ◌+◌, ◌*◌, ◌/◌, ◌%◌, ◌≤◌, ◌<◌}
 use mathlib.Core.Bool.{Bool, true, false, cond}
 use lib.Dec.{eqb}
@@ -18,7 +18,7 @@ use Rattle.exchange.specs.Facts.{Row, row_of}
 use Rattle.exchange.specs.Found.{row_for}
 use Rattle.std.specs.Prelude.{Option as Answer, Some}
 use Rattle.std.specs.List.{push}
-use Rattle.std.proofs.Math.Seq.{drop-append_seam}
+use Rattle.exchange.proofs.FromEnd.{none_taken, one_taken}
 use Rattle.exchange.specs.States.{ChildState}
 use Rattle.exchange.specs.Step.{keyed_on}
 use Rattle.exchange.specs.declared.status.Asked.{Asked}
@@ -96,26 +96,15 @@ set_below (f ∷ fs) (suc k) h s =
     omega arith
 
 -- none is taken yet
-pub none_taken : (left fs : List ℕ) → left ≡ fs → (left ++ drop (length left) fs ≡ fs) × (0 ≡ set_of (drop (length left) fs))
+pub set_begins : (left fs : List ℕ) → left ≡ fs → 0 ≡ set_of (drop (length left) fs)
 unfolding set_of
-none_taken left fs e =
-    let rest : drop (length left) fs ≡ [] = drop_of_length-le fs {i = length left} (omega (arith, ap length e)) in
-    rw rest (append-nil left ∙ e, refl)
+set_begins left fs e = rw ((none_taken left fs e).0) refl
 
 -- the last of those that are left is taken
 module _ (fs left later : List ℕ) (f : ℕ) (whole : left ++ drop (length left) fs ≡ fs) (taken : left ≡ push later f) where
-  before : fs ≡ later ++ (f ∷ drop (length left) fs)
-  before = sym whole ∙ ap (λ (l : List ℕ). l ++ drop (length left) fs) taken ∙ append_assoc later (f ∷ []) (drop (length left) fs)
-
-  one_more : drop (length later) fs ≡ f ∷ drop (length left) fs
-  one_more = ap (drop (length later)) before ∙ drop-append_seam later (f ∷ drop (length left) fs)
-
-  pub whole_again : later ++ drop (length later) fs ≡ fs
-  whole_again = ap (λ (l : List ℕ). later ++ l) one_more ∙ sym before
-
   pub set_turn : set_of (drop (length later) fs) ≡ f / 8 + 2 * set_of (drop (length left) fs)
   unfolding set_of
-  set_turn = ap set_of one_more
+  set_turn = ap set_of (one_taken fs left later f whole taken)
 
   pub set_small : length fs ≤ 8 → ((j : ℕ) → j < length fs → get_or fs j 0 ≤ 15) → f / 8 + 2 * set_of (drop (length left) fs) < 256
   set_small few small =
