@@ -15,7 +15,7 @@ use Rattle.exchange.specs.declared.row.Step.{Step}
 use Rattle.exchange.specs.Trees.{node, none, ◌∷ᶠ◌, trees, root, Operator, Plan, Plans}
 use Rattle.exchange.specs.Settings.{is_set}
 use Rattle.exchange.specs.Facts.{ChildFacts, Facts, Row, row_of as fact_of}
-use Rattle.exchange.specs.FactRows.{node_facts, fact_row}
+use Rattle.exchange.specs.FactRows.{node_facts, child_facts, fact_row}
 use Rattle.exchange.specs.States.{ChildState, need_of, children_from}
 use Rattle.exchange.specs.Standings.{form_numbers}
 use Rattle.exchange.specs.Relationships.{enforced}
@@ -184,13 +184,16 @@ module _ (s : Settings) (b : List ℕ) (facts rows : List (List ℕ)) (masks : L
           fits = omega (arith, plan_long, p.fits);
         }
 
-    pub came_each : (mid : ℕ) → length src + 2 ≤ mid → EachFinished forms (length facts) 1 (children_at src at) (length src) mid
-    came_each mid roomy =
+    pub came_each : (mid : ℕ) → length src + 2 ≤ mid → length facts ≤ 8 → ((k : ℕ) → k < length facts → (child_facts (get_or facts k [])).entries ≤ 8)
+        → EachFinished forms facts 1 (children_at src at) (length src) mid
+    came_each mid roomy most few =
         record {
           first = omega arith;
           last = omega (arith, came_shape.long);
+          most = omega (arith, came_shape.long, came_counted);
           small = came_shape.small;
           told = omega (arith, came_shape.long, came_counted);
+          few = few;
           roomy = roomy;
         }
 

@@ -64,18 +64,20 @@ pub fn finish_worked(
     put_worked(&mut *dst, worked, k, i);
     let w = Finishing {
         settings: s,
-        facts: f,
+        node: f.node,
+        xs: f.xs,
         worked,
         children: k,
     };
     let all = Unfinished {
         forms,
+        facts: f.children,
         child: 1,
         left: k,
     };
     let at = src.at + 1;
     let below = Place { at, ..src };
-    let m = finish_children(w, all, below, mid, &mut *dst, 1);
+    let m = finish_children(&w, all, below, mid, &mut *dst, 1);
     Answered {
         changed: 1,
         window: window_mark(node.kind, f.node),

@@ -50,7 +50,7 @@ fn can_interleave(xs: FactRows, forms: Forms) -> bool
     layout != 0 && all_layouts(layout, xs, forms)
 }
 
-// A union becomes an interleave unless the settings keep it.
+// A union becomes an interleave unless the settings keep it. Every number but 0 keeps it, and `is_set` would read 1 alone so.
 pub fn becomes_interleave(s: Settings, kind: u64, xs: FactRows, forms: Forms) -> bool
     ensures { result ≡ (eqb kind 9 && (eqb s.union 0 && hashed_alike (layouts_by (map fact_row xs.entry.rows.now) 1 forms.entry.list.now))) }
 {

@@ -21,13 +21,14 @@ fn any_unspecified(rows: &[Row], at: usize, left: u64) -> bool
     requires { StandAll rows.now at left }
     ensures { SaysAll any_unspecified rows.now at left result }
 {
-    if left == 0 {
-        return false;
+    let mut child = at;
+    for _ in 0..left {
+        if unspecified(row::node_at(rows, child)) {
+            return true;
+        }
+        child = row::past_tree(rows, child);
     }
-    if unspecified(row::node_at(rows, at)) {
-        return true;
-    }
-    any_unspecified(rows, row::past_tree(rows, at), left - 1)
+    false
 }
 
 // What the `left` children from `at` on say of their parent's mark.
@@ -67,13 +68,13 @@ fn mark_children(rows: &mut [Row], at: usize, left: u64)
     requires { StandAll rows.old at left }
     ensures { BecomeAll update_each rows.old at left rows.new }
 {
-    if left == 0 {
-        return;
+    let mut child = at;
+    for _ in 0..left {
+        let next = row::past_tree(&*rows, child);
+        let m = u64::from(marks_child(&*rows, child));
+        row::set_mark(&mut *rows, child, m);
+        child = next;
     }
-    let next = row::past_tree(&*rows, at);
-    let m = u64::from(marks_child(&*rows, at));
-    row::set_mark(&mut *rows, at, m);
-    mark_children(&mut *rows, next, left - 1);
 }
 
 // The marks of the root and its children.

@@ -38,7 +38,7 @@ fn worked_forms(s: Settings, f: PlanFacts, src: Place, forms: &mut [u64]) -> Res
     let mut room = [no_child; 8];
     let asks = &mut room[..f.children.len()];
     asked_children(src.rows, src.at + 1, f.children, &mut *asks);
-    child_forms(s, w, f, Asks { list: &*asks }, forms)
+    child_forms(s, w, f.masks, Asks { list: &*asks }, f.xs, forms)
 }
 
 // Decides on the worked node that stands there, which has as many children as there are facts.

@@ -3,15 +3,17 @@
 use mathlib.Core.Path.{◌≡◌, refl, sym, ap, ◌∙◌}
 use mathlib.Core.Bool.{Bool, true, false, cond, ◌&&◌}
 use mathlib.Core.Option.{Option, none, some}
-use mathlib.Core.List.{List, [], ◌∷◌}
+use mathlib.Core.List.{List, [], ◌∷◌, ◌++◌}
 use Prim.Native.Nat.{ℕ, suc, ◌+◌, ◌*◌, ◌-◌, ◌≤◌, ◌<◌}
 use native.Mathlib.Nat.{add-zero}
 use native.Mathlib.Numerals.{add-one}
 use native.Mathlib.Omega.{arith}
 use lib.Dec.{eqb, leb}
 use borrow.Author.Tests.{le-leb, leb-true, eqb-true, eqb-false}
-use lib.ListN.{length, drop, get_or, set, replicate, length-set, length-replicate, get_or-replicate, drop_of_length-le}
-use lib.Seq.{drop-cons, get_or-set_same, get_or-set_other}
+use lib.ListN.{length, drop, get_or, set, replicate, length-set, length-replicate, get_or-replicate}
+use lib.Seq.{get_or-set_same, get_or-set_other}
+use Rattle.std.specs.List.{push}
+use Rattle.exchange.proofs.FromEnd.{none_taken, one_taken, one_less}
 use Rattle.exchange.specs.Found.{child_of, form_number, later, row_for, slot, index_from}
 
 -- ---- places
@@ -57,17 +59,15 @@ unfolding index_from
 index_none i = refl
 
 -- one row further to the front
-pub index_again : (rows : List (List ℕ)) (i : ℕ) (k : List ℕ) (s : ℕ) → 0 < i → i ≤ length rows → k ≡ index_from i (drop i rows)
-    → s ≡ slot (child_of (get_or rows (i - 1) [])) (form_number (get_or rows (i - 1) [])) → set k s (i - 1 + 1) ≡ index_from (i - 1) (drop (i - 1) rows)
+pub index_again : (rows left later : List (List ℕ)) (x : List ℕ) (i : ℕ) (k : List ℕ) (s : ℕ) → left ++ drop (length left) rows ≡ rows → left ≡ push later x → i ≡ length later
+    → k ≡ index_from (length left) (drop (length left) rows) → s ≡ slot (child_of x) (form_number x) → set k s (i + 1) ≡ index_from (length later) (drop (length later) rows)
 unfolding index_from
-index_again rows i k s more fits e at =
-    let here : i - 1 < length rows = omega arith in
-    let back : i ≡ suc (i - 1) = omega arith in
-    rw (e ∙ ap (λ (m : ℕ). index_from m (drop m rows)) back, at, add-one (i - 1), drop-cons rows (i - 1) [] here)
+index_again rows left later x i k s whole taken is e at =
+    rw (one_taken rows left later x whole taken, e ∙ ap (λ (n : ℕ). index_from n (drop (length left) rows)) (one_less rows left later x whole taken), at, is, add-one (length later))
 
 -- of no rows
-pub index_begins : (rows : List (List ℕ)) (i : ℕ) → length rows ≤ i → replicate 129 0 ≡ index_from i (drop i rows)
-index_begins rows i h = rw (drop_of_length-le rows {i = i} h) (sym (index_none i))
+pub index_begins : (rows left : List (List ℕ)) → left ≡ rows → replicate 129 0 ≡ index_from (length left) (drop (length left) rows)
+index_begins rows left e = rw ((none_taken left rows e).0) (sym (index_none (length left)))
 
 -- the place of a row and one more, and 0 of none
 abbrev pub marked : ℕ → Option ℕ → ℕ

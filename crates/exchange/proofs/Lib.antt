@@ -3,6 +3,7 @@ pub mod TreeRows
 pub mod Grown
 pub mod Copied
 pub mod Forms
+pub mod FromEnd
 pub mod Indexed
 pub mod Replaced
 pub mod Replacing

@@ -18,7 +18,6 @@ use Rattle.exchange.specs.FactRows.{child_facts, asked_by}
 use Rattle.exchange.specs.Standings.{SameChildren, done, also, no_child}
 use Rattle.exchange.specs.Runs.{Stands}
 use Rattle.exchange.specs.Places.{places_of, needs_of, counts_of}
-use Rattle.exchange.proofs.Stored.{past}
 use Rattle.exchange.proofs.Marking.{root_read, head_stands, tail_stands, PastTree}
 
 -- ---- the places, one after the other

@@ -45,11 +45,13 @@ module _ (rows : List Row) (forms : List ℕ) (facts : List (List ℕ)) (s : Set
       finished_child rows child (form_of (get_or forms (child - 1) 0)) (root t).need (child_facts (get_or facts (child - 1) [])) s b worked children t
       ∷ᶠ finished_each (child + 1) ts
 
--- what finishing children asks of their forms and of a room: children from a number on, each with an F row, forms within their bounds, and a room for the
--- largest of the children
-pub record EachFinished (forms : List ℕ) (count child left src mid : ℕ) : Type 0 where
+-- what finishing children asks of their forms and F rows and of a room: children from a number on, at most 8, each with an F row, forms and entries within
+-- their bounds, and a room for the largest of the children
+pub record EachFinished (forms : List ℕ) (facts : List (List ℕ)) (child left src mid : ℕ) : Type 0 where
   pub first : 1 ≤ child
   pub last : child + left ≤ length forms + 1
+  pub most : length forms ≤ 8
   pub small : (k : ℕ) → k < length forms → get_or forms k 0 ≤ 15
-  pub told : length forms ≤ count
+  pub told : length forms ≤ length facts
+  pub few : (k : ℕ) → k < length facts → (child_facts (get_or facts k [])).entries ≤ 8
   pub roomy : src + 2 ≤ mid

@@ -22,10 +22,10 @@ node_for w = node_facts w.facts
 abbrev pub state_for : Asked → Standing → ChildState
 state_for a c =
     record {
-      number = c.at.child;
+      number = a.number;
       facts = child_facts a.facts;
       need = a.need;
-      form = form_of c.at.form;
+      form = form_of c.form;
       row = fact_row c.row;
       plan = node (operator_by 0 c.count a.need) none;
     }

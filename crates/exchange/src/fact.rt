@@ -41,6 +41,7 @@ const FORMS: u64 = 16;
 // A place for each child and form, and one for rows of neither.
 pub const PLACES: usize = 129;
 
+// Rows of neither are written too, as the index's definition has it (`slot` of specs/Found), so this is no Option.
 const NOWHERE: usize = 128;
 
 // A child of the worked node, by its number from 1, in a form.
@@ -79,14 +80,14 @@ fn slot(child: u64, form: u64) -> usize
 }
 
 // The index of the rows, filled from the last of them to the first, so that the first of a child and form counts.
-// The index is lent as a slice, so its length is a clause.
+// Its length is a clause: the index is lent as a slice, and an array's reference would ask more of who lends it.
 pub fn index_rows(rows: &[FactRow], index: &mut [u64])
     requires { length index.old ≡ 129 }
     ensures { index.new ≡ index_of rows.now }
 {
     index.fill(0);
-    for i in (0..rows.len()).rev() {
-        let at = slot(rows[i][CHILD], rows[i][FORM]);
+    for (i, row) in rows.iter().enumerate().rev() {
+        let at = slot(row[CHILD], row[FORM]);
         // No From goes from usize to u64.
         index[at] = i as u64 + 1;
     }

@@ -19,26 +19,30 @@ pub struct PlanFacts<'a> {
     pub ghost ordered: { (k : ℕ) → k < length children.now → (child_facts (get_or children.now k [])).entries ≤ 8 },
 }
 
-// The worked node, with as many children.
+// The worked node with its B row, how many children it has, and the X rows of these.
 #[derive(Clone, Copy)]
 pub struct Finishing<'a> {
     pub settings: Settings,
-    pub facts: PlanFacts<'a>,
+    pub node: NodeRow,
+    pub xs: FactRows<'a>,
     pub worked: Settled,
     pub children: u64,
 }
 
-// A child of the worked node in its form, with its need.
+// A child of the worked node in its form, with its need and its F row.
 #[derive(Clone, Copy)]
 pub struct Needing {
     pub at: ChildForm,
     pub need: u64,
+    pub facts: ChildRow,
+    pub ghost ordered: { (child_facts facts).entries ≤ 8 },
 }
 
-// The children still to be finished: `left` of them, from number `child` on, with the forms of all.
+// The children still to be finished: `left` of them, from number `child` on, with the forms and the F rows of all.
 #[derive(Clone, Copy)]
 pub struct Unfinished<'a> {
     pub forms: &'a [u64],
+    pub facts: &'a [ChildRow],
     pub child: u64,
     pub left: u64,
 }

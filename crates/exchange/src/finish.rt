@@ -1,5 +1,5 @@
 // A child's tree in its last form, after order handling.
-ghost use Rattle.std.specs.Prelude.{◌≡◌, [], map, ◌-◌, ◌≤◌, length, get_or};
+ghost use Rattle.std.specs.Prelude.{◌≡◌, map, length};
 ghost use Rattle.exchange.specs.FactRows.{node_facts, child_facts, fact_row};
 ghost use Rattle.exchange.specs.Forms.{form_of};
 ghost use Rattle.exchange.specs.Rows.{operator_of};
@@ -15,20 +15,20 @@ use crate::order::{Known, handle_order};
 use crate::ordered::put_handled;
 use crate::row::{self, NO_LIMIT, Node, Place, Row, Step};
 use crate::settled::Settled;
-use crate::status::{self, ChildRow};
-use crate::{kind, partitioning};
+use crate::{kind, partitioning, status};
 
-// What is known of a child with that need, mark and F row, in the form of that X row.
-fn known(w: Finishing, need: u64, tracked: u64, f: ChildRow, x: FactRow) -> Known
-    ensures { result ≡ known_by w.entry.settings (node_facts w.entry.facts.node) w.entry.worked.node.kind w.entry.children need tracked (child_facts f) (fact_row x) }
+// What is known of a child by its need and F row, the mark on top of it and its X row.
+fn known(w: &Finishing<'_>, c: Needing, tracked: u64, x: FactRow) -> Known
+    ensures { result ≡ known_by w.now.settings (node_facts w.now.node) w.now.worked.node.kind w.now.children c.need tracked (child_facts c.facts) (fact_row x) }
 {
-    let b = w.facts.node;
+    let b = w.node;
+    let f = c.facts;
     Known {
         sort: w.settings.sort,
         friendly: b[partitioning::FRIENDLY],
         kind: w.worked.node.kind,
         children: w.children,
-        need,
+        need: c.need,
         tracked,
         maintains: f[status::MAINTAINS],
         entries: f[status::ENTRIES],
@@ -58,24 +58,21 @@ fn output_fetch(worked: Settled) -> Settled
 
 // Writes the child that stands there as its form and its order handling have it. Its tree is built at the front of `mid` first.
 pub fn finish_child(
-    w: Finishing,
+    w: &Finishing<'_>,
     c: Needing,
     src: Place,
     mid: &mut [Row],
     dst: &mut [Row],
     to: usize,
 ) -> Step
-    requires told { c.at.child ≤ length w.facts.children.now }
-    requires ready { Ready (built (map fact_row w.facts.xs.rows.now) c.at.child (form_of c.at.form)) src.rows.now src.at (length mid.old) 0 }
-    requires ready_2 { Ready (finished_child (map fact_row w.facts.xs.rows.now) c.at.child (form_of c.at.form) c.need (child_facts (get_or w.facts.children.now (c.at.child - 1) [])) w.settings (node_facts w.facts.node) (operator_of w.worked.node) w.children) src.rows.now src.at (length dst.old) to }
-    ensures { Maps (finished_child (map fact_row w.entry.facts.xs.rows.now) c.at.child (form_of c.at.form) c.need (child_facts (get_or w.entry.facts.children.now (c.at.child - 1) [])) w.entry.settings (node_facts w.entry.facts.node) (operator_of w.entry.worked.node) w.entry.children) src.entry.rows.now src.entry.at dst.old to dst.new result }
+    requires ready { Ready (built (map fact_row w.now.xs.rows.now) c.at.child (form_of c.at.form)) src.rows.now src.at (length mid.old) 0 }
+    requires ready_2 { Ready (finished_child (map fact_row w.now.xs.rows.now) c.at.child (form_of c.at.form) c.need (child_facts c.facts) w.now.settings (node_facts w.now.node) (operator_of w.now.worked.node) w.now.children) src.rows.now src.at (length dst.old) to }
+    ensures { Maps (finished_child (map fact_row w.now.xs.rows.now) c.at.child (form_of c.at.form) c.need (child_facts c.facts) w.now.settings (node_facts w.now.node) (operator_of w.now.worked.node) w.now.children) src.entry.rows.now src.entry.at dst.old to dst.new result }
 {
-    let read = build_child(w.facts.xs, c.at, src.rows, src.at, &mut *mid, 0);
-    let x = row_in(w.facts.xs, c.at);
-    // No From goes from u64 to usize.
-    let f = w.facts.children[(c.at.child - 1) as usize];
+    let read = build_child(w.xs, c.at, src.rows, src.at, &mut *mid, 0);
+    let x = row_in(w.xs, c.at);
     let top = row::node_at(&*mid, 0);
-    let h = handle_order(known(w, c.need, top.tracked, f, x));
+    let h = handle_order(known(w, c, top.tracked, x));
     let built = Place { rows: &*mid, at: 0 };
     let put = put_handled(h, output_fetch(w.worked), built, &mut *dst, to);
     Step {
@@ -86,34 +83,31 @@ pub fn finish_child(
 
 // The same of the children that are left, one after the other from the place on.
 pub fn finish_children(
-    w: Finishing,
+    w: &Finishing<'_>,
     k: Unfinished,
     src: Place,
     mid: &mut [Row],
     dst: &mut [Row],
     to: usize,
 ) -> Step
-    requires each_finished { EachFinished k.forms.now (length w.facts.children.now) k.child k.left (length src.rows.now) (length mid.old) }
-    requires readys { Readys (finished_each (map fact_row w.facts.xs.rows.now) k.forms.now w.facts.children.now w.settings (node_facts w.facts.node) (operator_of w.worked.node) w.children k.child) src.rows.now src.at k.left (length dst.old) to }
-    ensures { MapsAll (finished_each (map fact_row w.entry.facts.xs.rows.now) k.entry.forms.now w.entry.facts.children.now w.entry.settings (node_facts w.entry.facts.node) (operator_of w.entry.worked.node) w.entry.children k.entry.child) src.entry.rows.now src.entry.at k.entry.left dst.old to dst.new result }
+    requires each_finished { EachFinished k.forms.now k.facts.now k.child k.left (length src.rows.now) (length mid.old) }
+    requires readys { Readys (finished_each (map fact_row w.now.xs.rows.now) k.forms.now k.facts.now w.now.settings (node_facts w.now.node) (operator_of w.now.worked.node) w.now.children k.child) src.rows.now src.at k.left (length dst.old) to }
+    ensures { MapsAll (finished_each (map fact_row w.now.xs.rows.now) k.entry.forms.now k.entry.facts.now w.now.settings (node_facts w.now.node) (operator_of w.now.worked.node) w.now.children k.entry.child) src.entry.rows.now src.entry.at k.entry.left dst.old to dst.new result }
 {
-    if k.left == 0 {
-        return Step { at: src.at, to };
+    let mut s = Step { at: src.at, to };
+    for child in k.child..k.child + k.left {
+        // No From goes from u64 to usize.
+        let i = (child - 1) as usize;
+        let c = Needing {
+            at: ChildForm {
+                child,
+                form: k.forms[i],
+            },
+            need: row::node_at(src.rows, s.at).need,
+            facts: k.facts[i],
+        };
+        let next = Place { at: s.at, ..src };
+        s = finish_child(w, c, next, &mut *mid, &mut *dst, s.to);
     }
-    let c = Needing {
-        at: ChildForm {
-            child: k.child,
-            // No From goes from u64 to usize.
-            form: k.forms[(k.child - 1) as usize],
-        },
-        need: row::node_at(src.rows, src.at).need,
-    };
-    let m = finish_child(w, c, src, &mut *mid, &mut *dst, to);
-    let later = Unfinished {
-        child: k.child + 1,
-        left: k.left - 1,
-        ..k
-    };
-    let next = Place { at: m.at, ..src };
-    finish_children(w, later, next, mid, dst, m.to)
+    s
 }

@@ -7,7 +7,8 @@ ghost use Rattle.exchange.specs.Handling.{enables_streaming, required_replaced, 
 use crate::mark::is_set;
 use crate::{kind, need};
 
-// Whether order-preserving operators give way, the entries of the sort above (0: none), and whether the child's mark is cleared.
+// Whether order-preserving operators give way, the entries of the sort above as a mask, and whether the child's mark is cleared.
+// A mask of no entries is no sort, and every entry may be dropped from one: an Option would say none in two ways.
 #[derive(Clone, Copy)]
 pub struct Handling {
     pub replaced: bool,
@@ -15,7 +16,8 @@ pub struct Handling {
     pub cleared: bool,
 }
 
-// The entries of a required order that are not constant: bit n for entry n+1.
+// The entries of a required order that are not constant: bit n for entry n+1. That n is at most 8 stays a clause: a type that says it
+// would be made anew at each entry.
 fn kept_entries(n: u64, constants: u64) -> u64
     requires { n ≤ 8 }
     ensures { result ≡ kept_entries n constants }
@@ -70,7 +72,8 @@ fn free_replaced(need: u64, maintains: bool, streaming: bool, output: bool) -> b
     !maintains || output
 }
 
-// What is known of a child, and of the worked node over it.
+// What is known of a child, and of the worked node over it. All are numbers of lent rows and settings, which hold any bits.
+// That the entries are at most 8 stays a clause below: the definitions of specs/ make a `Known` of any child.
 #[derive(Clone, Copy)]
 pub struct Known {
     pub sort: u64,

@@ -1,5 +1,5 @@
 // The worked node with its B row, and a child as it stands after its split.
-use crate::fact::{ChildForm, FactRow};
+use crate::fact::FactRow;
 
 // The places of a B row.
 pub const FRIENDLY: usize = 0;
@@ -22,7 +22,7 @@ pub struct Worked {
 // A child as it stands after its split: its form, its count, and the X row of that form.
 #[derive(Clone, Copy)]
 pub struct Standing {
-    pub at: ChildForm,
+    pub form: u64,
     pub count: u64,
     pub row: FactRow,
 }

@@ -2,8 +2,8 @@
 -- Assumes nothing.
 use mathlib.Core.Path.{◌≡◌, refl, sym, ap, ◌∙◌}
 use mathlib.Core.Option.{Option, none, some}
-use mathlib.Core.List.{List, [], ◌∷◌, map}
-use Prim.Native.Nat.{ℕ, zero, suc, ◌+◌, ◌*◌, ◌-◌, ◌/◌, ◌%◌, ◌≤◌, ◌<◌}
+use mathlib.Core.List.{List, [], ◌∷◌, ◌++◌, map}
+use Prim.Native.Nat.{ℕ, zero, suc, ◌+◌, ◌*◌, ◌/◌, ◌%◌, ◌≤◌, ◌<◌}
 use mathlib.Core.Bool.{Bool, true, false, cond}
 use lib.Dec.{eqb}
 use borrow.Author.Tests.{eqb-true, eqb-false}
@@ -17,6 +17,8 @@ use Rattle.exchange.specs.Forms.{Form, form_number, form_of, plain_form, with_re
 use Rattle.exchange.specs.Facts.{Row, row_of}
 use Rattle.exchange.specs.Found.{row_for}
 use Rattle.std.specs.Prelude.{Option as Answer, Some}
+use Rattle.std.specs.List.{push}
+use Rattle.exchange.proofs.FromEnd.{none_taken, one_taken}
 use Rattle.exchange.specs.States.{ChildState}
 use Rattle.exchange.specs.Step.{keyed_on}
 use Rattle.exchange.specs.declared.status.Asked.{Asked}
@@ -93,15 +95,18 @@ set_below (f ∷ fs) (suc k) h s =
     let b : f ≤ 15 = s 0 (omega arith) in
     omega arith
 
-module _ (fs : List ℕ) (few : length fs ≤ 8) (small : (j : ℕ) → j < length fs → get_or fs j 0 ≤ 15) (i : ℕ) (more : 0 < i) (in-range : i ≤ length fs) where
-  back : i ≡ suc (i - 1)
-  back = omega arith
+-- none is taken yet
+pub set_begins : (left fs : List ℕ) → left ≡ fs → 0 ≡ set_of (drop (length left) fs)
+unfolding set_of
+set_begins left fs e = rw ((none_taken left fs e).0) refl
 
-  pub set_turn : set_of (drop (i - 1) fs) ≡ get_or fs (i - 1) 0 / 8 + 2 * set_of (drop i fs)
+-- the last of those that are left is taken
+module _ (fs left later : List ℕ) (f : ℕ) (whole : left ++ drop (length left) fs ≡ fs) (taken : left ≡ push later f) where
+  pub set_turn : set_of (drop (length later) fs) ≡ f / 8 + 2 * set_of (drop (length left) fs)
   unfolding set_of
-  set_turn = ap set_of (drop-cons fs (i - 1) 0 (omega arith)) ∙ ap (λ (k : ℕ). get_or fs (i - 1) 0 / 8 + 2 * set_of (drop k fs)) (sym back)
+  set_turn = ap set_of (one_taken fs left later f whole taken)
 
-  pub set_small : get_or fs (i - 1) 0 / 8 + 2 * set_of (drop i fs) < 256
-  set_small =
+  pub set_small : length fs ≤ 8 → ((j : ℕ) → j < length fs → get_or fs j 0 ≤ 15) → f / 8 + 2 * set_of (drop (length left) fs) < 256
+  set_small few small =
       rw (sym set_turn)
-      (set_below (drop (i - 1) fs) 8 (simp length-drop (omega arith)) (λ j b. rw get_or-drop (small (i - 1 + j) (omega (arith, simp length-drop at b)))))
+      (set_below (drop (length later) fs) 8 (simp length-drop (omega arith)) (λ j b. rw get_or-drop (small (length later + j) (omega (arith, simp length-drop at b)))))

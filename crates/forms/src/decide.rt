@@ -12,7 +12,7 @@ ghost use Rattle.exchange.specs.Turns.{answer, told};
 
 use crate::relationship::enforce_distribution_relationships;
 use crate::step::ensure_children;
-use exchange::facts::PlanFacts;
+use exchange::fact::FactRows;
 use exchange::lists::Asks;
 use exchange::partitioning::Worked;
 use exchange::relationship::Unenforced;
@@ -22,13 +22,14 @@ use exchange::settings::Settings;
 pub fn child_forms(
     s: Settings,
     w: Worked,
-    f: PlanFacts,
+    masks: &[u64],
     asks: Asks,
+    xs: FactRows,
     forms: &mut [u64],
 ) -> Result<(), Unenforced>
     requires { length forms.old ≡ length asks.list.now }
-    ensures { (o : Operator) (b : NodeFacts) (ks : List Child) → SameNode w o b → SameChildren asks.entry.list.now ks → answer result forms.new ≡ told (relate s (record { node = b; children = []; rows = map fact_row f.entry.xs.rows.now; masks = f.entry.masks.now }) (ensure_children s o b (map fact_row f.entry.xs.rows.now) (get_repartition_requirement_status s ks))) }
+    ensures { (o : Operator) (b : NodeFacts) (ks : List Child) → SameNode w o b → SameChildren asks.entry.list.now ks → answer result forms.new ≡ told (relate s (record { node = b; children = []; rows = map fact_row xs.entry.rows.now; masks = masks.now }) (ensure_children s o b (map fact_row xs.entry.rows.now) (get_repartition_requirement_status s ks))) }
 {
-    ensure_children(s, w, asks, f.xs, &mut *forms).ok_or(Unenforced::Missing)?;
-    enforce_distribution_relationships(f.masks, asks, forms, f.xs)
+    ensure_children(s, w, asks, xs, &mut *forms).ok_or(Unenforced::Missing)?;
+    enforce_distribution_relationships(masks, asks, forms, xs)
 }

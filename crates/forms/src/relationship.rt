@@ -127,13 +127,13 @@ fn given_set(forms: Forms) -> u64
     ensures { result ≡ set_of forms.entry.list.now }
 {
     let mut set: u64 = 0;
-    for i in (0..forms.list.len()).rev() {
-        set = relationship_of(forms.list[i]) + 2 * set;
+    for form in forms.list.iter().rev() {
+        set = relationship_of(*form) + 2 * set;
     }
     set
 }
 
-// The rounds, until no child is unsatisfied; each gives a child its exchange, and none has two.
+// The rounds, until no child is unsatisfied; each gives a child its exchange, and none has two, so there are at most as many as children.
 // That there are as many forms as asks stays a clause, as `Asks` says.
 pub fn enforce_distribution_relationships(
     masks: &[u64],
@@ -145,19 +145,18 @@ pub fn enforce_distribution_relationships(
     requires small { (k : ℕ) → k < length forms.old → get_or forms.old k 0 ≤ 15 }
     ensures { (cs : List ChildState) → Stand (map fact_row xs.entry.rows.now) 1 (asked_needs asks.entry.list.now) forms.old cs → answer result forms.new ≡ told (enforce_distribution_relationships (map fact_row xs.entry.rows.now) masks.now cs) }
 {
-    let mut left = asks.list.len();
-    let mut mask = unsatisfied_at(masks, given_set(Forms { list: &*forms }));
-    // No `for`: the mask decides when it ends.
-    while mask != 0 {
-        if left == 0 {
-            return Err(Unenforced::Stuck);
+    for _ in 0..asks.list.len() {
+        let mask = unsatisfied_at(masks, given_set(Forms { list: &*forms }));
+        if mask == 0 {
+            return Ok(());
         }
         if !any_givable(mask, asks, Forms { list: &*forms }, xs) {
             return Err(Unenforced::Stuck);
         }
         round(mask, asks, &mut *forms, xs).ok_or(Unenforced::Missing)?;
-        left -= 1;
-        mask = unsatisfied_at(masks, given_set(Forms { list: &*forms }));
+    }
+    if unsatisfied_at(masks, given_set(Forms { list: &*forms })) != 0 {
+        return Err(Unenforced::Stuck);
     }
     Ok(())
 }

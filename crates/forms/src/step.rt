@@ -1,5 +1,5 @@
 // The step of one child: split at its source, then what its need asks: a merge, a keyed exchange or a round robin on top.
-ghost use Rattle.std.specs.Prelude.{◌≡◌, Bool, cond, ◌&&◌, List, map, ◌≤◌, length};
+ghost use Rattle.std.specs.Prelude.{◌≡◌, Bool, cond, ◌&&◌, List, map, ◌≤◌, length, take};
 ghost use Rattle.std.proofs.Math.Option.{some};
 ghost use Rattle.exchange.specs.Trees.{Operator};
 ghost use Rattle.exchange.specs.Settings.{is_set as is_set_mark};
@@ -24,15 +24,24 @@ use exchange::status::{Asked, SPLITS};
 use needs::partitioning::{add_roundrobin, needs_hash_repartition};
 use needs::status::{get_repartition_requirement_status, needs_alignment, rows_gain};
 
-// Another top on a form.
-fn with_top(c: ChildForm, top: u64) -> ChildForm
+// A child on its way: what is asked of it, and how it stands.
+#[derive(Clone, Copy)]
+struct ChildState {
+    asked: Asked,
+    standing: Standing,
+    ghost within: { (1 ≤ asked.number) × (asked.number ≤ 8) × (standing.form ≤ 15) },
+}
+
+// Its form with another top.
+fn with_top(c: ChildState, top: u64) -> ChildForm
     requires { top ≤ 3 }
-    ensures child { result.child ≡ c.child }
-    ensures form { result.form ≡ form_number (with_top top (form_of c.form)) }
+    ensures child { result.child ≡ c.asked.number }
+    ensures form { result.form ≡ form_number (with_top top (form_of c.standing.form)) }
 {
+    let form = c.standing.form;
     ChildForm {
-        child: c.child,
-        form: form_of(split_of(c.form), top, relationship_of(c.form)),
+        child: c.asked.number,
+        form: form_of(split_of(form), top, relationship_of(form)),
     }
 }
 
@@ -47,30 +56,30 @@ pub fn pass(xs: FactRows, c: ChildForm) -> Option<u64>
 }
 
 // A merge where there is more than one partition.
-fn add_merge_on_top(a: Asked, c: Standing, xs: FactRows) -> Option<u64>
-    ensures { result ≡ formed (add_merge_on_top (map fact_row xs.entry.rows.now) (state_for a c)) }
+fn add_merge_on_top(c: ChildState, xs: FactRows) -> Option<u64>
+    ensures { result ≡ formed (add_merge_on_top (map fact_row xs.entry.rows.now) (state_for c.asked c.standing)) }
 {
-    if c.count <= 1 {
-        return Some(c.at.form);
+    if c.standing.count <= 1 {
+        return Some(c.standing.form);
     }
-    pass(xs, with_top(c.at, TOP_MERGE))
+    pass(xs, with_top(c, TOP_MERGE))
 }
 
 // A keyed exchange.
-fn add_hash_on_top(a: Asked, c: Standing, xs: FactRows) -> Option<u64>
-    ensures { result ≡ formed (add_hash_on_top (map fact_row xs.entry.rows.now) (state_for a c)) }
+fn add_hash_on_top(c: ChildState, xs: FactRows) -> Option<u64>
+    ensures { result ≡ formed (add_hash_on_top (map fact_row xs.entry.rows.now) (state_for c.asked c.standing)) }
 {
-    pass(xs, with_top(c.at, TOP_KEYED))
+    pass(xs, with_top(c, TOP_KEYED))
 }
 
 // A round robin where there are fewer partitions than the target.
-fn add_roundrobin_on_top(target: u64, a: Asked, c: Standing, xs: FactRows) -> Option<u64>
-    ensures { result ≡ formed (add_roundrobin_on_top (map fact_row xs.entry.rows.now) target (state_for a c)) }
+fn add_roundrobin_on_top(target: u64, c: ChildState, xs: FactRows) -> Option<u64>
+    ensures { result ≡ formed (add_roundrobin_on_top (map fact_row xs.entry.rows.now) target (state_for c.asked c.standing)) }
 {
-    if target <= c.count {
-        return Some(c.at.form);
+    if target <= c.standing.count {
+        return Some(c.standing.form);
     }
-    pass(xs, with_top(c.at, TOP_ROUND_ROBIN))
+    pass(xs, with_top(c, TOP_ROUND_ROBIN))
 }
 
 // By the need: single, keyed, unspecified.
@@ -78,35 +87,32 @@ fn satisfy_distribution(
     s: Settings,
     w: Worked,
     aligned: bool,
-    a: Asked,
-    c: Standing,
+    c: ChildState,
     xs: FactRows,
 ) -> Option<u64>
-    ensures { result ≡ formed (satisfy_distribution s (worked_for w) (node_for w) (map fact_row xs.entry.rows.now) (status_of s aligned (child_for a)) (state_for a c)) }
+    ensures { result ≡ formed (satisfy_distribution s (worked_for w) (node_for w) (map fact_row xs.entry.rows.now) (status_of s aligned (child_for c.asked)) (state_for c.asked c.standing)) }
 {
+    let a = c.asked;
     if a.need == need::SINGLE {
-        return add_merge_on_top(a, c, xs);
+        return add_merge_on_top(c, xs);
     }
     if a.need != need::KEYED {
-        return satisfy_unspecified(s, w, a, c, xs);
+        return satisfy_unspecified(s, w, c, xs);
     }
     let t = get_repartition_requirement_status(s, aligned, a.need, a.count, a.facts);
-    if !t.necessary {
-        return Some(c.at.form);
+    if !t.necessary || !needs_hash_repartition(s, w, a, c.standing) {
+        return Some(c.standing.form);
     }
-    if !needs_hash_repartition(s, w, a, c) {
-        return Some(c.at.form);
-    }
-    add_hash_on_top(a, c, xs)
+    add_hash_on_top(c, xs)
 }
 
-fn satisfy_unspecified(s: Settings, w: Worked, a: Asked, c: Standing, xs: FactRows) -> Option<u64>
-    ensures { (aligned : Bool) → result ≡ formed (cond (add_roundrobin s (worked_for w) (node_for w) (status_of s aligned (child_for a))) (add_roundrobin_on_top (map fact_row xs.entry.rows.now) s.target (state_for a c)) (some (state_for a c))) }
+fn satisfy_unspecified(s: Settings, w: Worked, c: ChildState, xs: FactRows) -> Option<u64>
+    ensures { (aligned : Bool) → result ≡ formed (cond (add_roundrobin s (worked_for w) (node_for w) (status_of s aligned (child_for c.asked))) (add_roundrobin_on_top (map fact_row xs.entry.rows.now) s.target (state_for c.asked c.standing)) (some (state_for c.asked c.standing))) }
 {
-    if add_roundrobin(s, w, a) {
-        return add_roundrobin_on_top(s.target, a, c, xs);
+    if add_roundrobin(s, w, c.asked) {
+        return add_roundrobin_on_top(s.target, c, xs);
     }
-    Some(c.at.form)
+    Some(c.standing.form)
 }
 
 fn splits_at_source(s: Settings, a: Asked) -> bool
@@ -128,12 +134,13 @@ fn ensure_split(s: Settings, w: Worked, aligned: bool, a: Asked, xs: FactRows) -
         return None;
     };
     let x = xs.rows[place];
-    let c = Standing {
-        at,
+    let standing = Standing {
+        form: SPLIT,
         count: x[COUNT],
         row: x,
     };
-    satisfy_distribution(s, w, aligned, a, c, xs)
+    let c = ChildState { asked: a, standing };
+    satisfy_distribution(s, w, aligned, c, xs)
 }
 
 // The form of the child after its step.
@@ -151,12 +158,13 @@ pub fn ensure_child(s: Settings, w: Worked, aligned: bool, a: Asked, xs: FactRow
     if splits_at_source(s, a) {
         return ensure_split(s, w, aligned, a, xs);
     }
-    let c = Standing {
-        at,
+    let standing = Standing {
+        form: PLAIN,
         count: a.count,
         row: xs.rows[place],
     };
-    satisfy_distribution(s, w, aligned, a, c, xs)
+    let c = ChildState { asked: a, standing };
+    satisfy_distribution(s, w, aligned, c, xs)
 }
 
 // The forms of the children after their steps, one after the other.
@@ -178,8 +186,8 @@ fn ensure_each(
     Some(())
 }
 
-// The forms of the children after their steps.
-// That there are as many forms as asks stays a clause, as `Asks` says.
+// The forms of the children after their steps, a place for each or more.
+// That there are as many places as asks stays a clause, as `Asks` says.
 pub fn ensure_children(
     s: Settings,
     w: Worked,
@@ -187,9 +195,10 @@ pub fn ensure_children(
     xs: FactRows,
     forms: &mut [u64],
 ) -> Option<()>
-    requires { length forms.old ≡ length asks.list.now }
-    ensures { (o : Operator) (b : NodeFacts) (ks : List Child) → SameNode w o b → SameChildren asks.entry.list.now ks → resulting result forms.new ≡ form_list (ensure_children s o b (map fact_row xs.entry.rows.now) (get_repartition_requirement_status s ks)) }
+    requires { length asks.list.now ≤ length forms.old }
+    ensures { (o : Operator) (b : NodeFacts) (ks : List Child) → SameNode w o b → SameChildren asks.entry.list.now ks → resulting result (take (length asks.entry.list.now) forms.new) ≡ form_list (ensure_children s o b (map fact_row xs.entry.rows.now) (get_repartition_requirement_status s ks)) }
 {
     let aligned = needs_alignment(s, asks.list);
+    let forms = &mut forms[..asks.list.len()];
     ensure_each(s, w, aligned, asks, xs, forms)
 }

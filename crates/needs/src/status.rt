@@ -58,7 +58,7 @@ pub fn get_repartition_requirement_status(
     let stats = rows_gain(s, a);
     let necessary = hash_necessary(need, count, aligned);
     RepartitionRequirementStatus {
-        beneficial: facts[GAINS] == 1,
+        beneficial: is_set(facts[GAINS]),
         stats,
         necessary,
     }

@@ -27,7 +27,7 @@ pub put_worked-requires : goal.put_worked-requires
 put_worked-requires c = let a = c.args in let p = c.requires.came in came_room _ a.f.node _ _ _ _ _ _ _ p
 
 pub finish_children-m-requires-clause-each_finished : goal.finish_children-m-requires-clause-each_finished
-finish_children-m-requires-clause-each_finished c = let a = c.args in let p = c.requires.came in rw c.children_at-k.ensures (came_each _ a.f.node _ _ _ _ _ _ _ p (length a.mid.now) c.requires.roomy)
+finish_children-m-requires-clause-each_finished c = let a = c.args in let p = c.requires.came in rw c.children_at-k.ensures (came_each _ a.f.node _ _ _ _ _ _ _ p (length a.mid.now) c.requires.roomy a.f.few a.f.ordered)
 
 pub finish_children-m-requires-clause-readys : goal.finish_children-m-requires-clause-readys
 finish_children-m-requires-clause-readys c = let a = c.args in let p = c.requires.came in rw (c.node_at-node.ensures, c.children_at-k.ensures) (rw c.put_worked.auto.rows (came_readys _ a.f.node _ _ _ _ _ _ _ p))

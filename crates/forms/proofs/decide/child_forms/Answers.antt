@@ -1,7 +1,9 @@
 -- `forms::decide::child_forms` meets its contract: the steps leave states that stand by their forms, and the rounds go on from them.
 use mathlib.Core.Path.{refl, sym, ◌∙◌}
 use mathlib.Core.List.{[], map}
-use lib.ListN.{length-map}
+use native.Mathlib.Omega.{arith}
+use lib.ListN.{length, length-map}
+use lib.Seq.{take_all}
 use Rattle.exchange.specs.Status.{needs_alignment, get_repartition_requirement_status}
 use Rattle.exchange.specs.Step.{ensure_children}
 use Rattle.exchange.specs.FactRows.{fact_row, child_for}
@@ -16,22 +18,23 @@ pub returns-in_err-ok_or : goal.returns-in_err-ok_or
 returns-in_err-ok_or c = let a = c.args in λ o b ks sn sc.
     let p = err_from_is_err_and c.from_residual.result c.from_residual.ensures.1 in
     let q = ok_or_missing _ _ _ (sym c.ok_or.ensures.value ∙ c.in_err-ok_or.was) in
-    rw (p.1, p.2, q.1) (steps_lacking a.s (record { node = b; children = []; rows = map fact_row a.f.xs.rows.now; masks = a.f.masks.now }) (ensure_children a.s o b (map fact_row a.f.xs.rows.now) (get_repartition_requirement_status a.s ks)) (round_lacking _ _ _ q.0 (c.ensure_children.ensures o b ks sn sc)))
+    rw (p.1, p.2, q.1) (steps_lacking a.s (record { node = b; children = []; rows = map fact_row a.xs.rows.now; masks = a.masks.now }) (ensure_children a.s o b (map fact_row a.xs.rows.now) (get_repartition_requirement_status a.s ks)) (round_lacking _ _ _ q.0 (c.ensure_children.ensures o b ks sn sc)))
 
 pub enforce_distribution_relationships-requires : goal.enforce_distribution_relationships-requires
-enforce_distribution_relationships-requires c = let a = c.args in let q = c.requires in let ks = map child_for a.asks.list.now in let long = c.ensure_children.auto.forms ∙ c.requires in
+enforce_distribution_relationships-requires c = let a = c.args in let ks = map child_for a.asks.list.now in let long = c.ensure_children.auto.forms ∙ c.requires in let whole = take_all (length a.asks.list.now) c.ensure_children.new.forms (omega (arith, long)) in
     record {
       forms_len = long;
       small =
-          steps_small a.s (record { node = node_for a.w; children = []; rows = map fact_row a.f.xs.rows.now; masks = a.f.masks.now }) (asked_needs a.asks.list.now) _
-          (ensure_children a.s (worked_for a.w) (node_for a.w) (map fact_row a.f.xs.rows.now) (get_repartition_requirement_status a.s ks))
-          (round_done _ _ _ _ (ok_or_done _ _ _ (sym c.ok_or.ensures.value ∙ c.in_ok-ok_or.was)) (c.ensure_children.ensures (worked_for a.w) (node_for a.w) ks (record { kind = refl; facts = refl }) (same_by a.asks.list.now)))
-          (λ cs e. children_stand a.s (worked_for a.w) (node_for a.w) (map fact_row a.f.xs.rows.now) (needs_alignment a.s ks) 1 a.asks.list.now a.asks.numbered ks (same_by a.asks.list.now) cs e)
+          steps_small a.s (record { node = node_for a.w; children = []; rows = map fact_row a.xs.rows.now; masks = a.masks.now }) (asked_needs a.asks.list.now) _
+          (ensure_children a.s (worked_for a.w) (node_for a.w) (map fact_row a.xs.rows.now) (get_repartition_requirement_status a.s ks))
+          (round_done _ _ _ _ (ok_or_done _ _ _ (sym c.ok_or.ensures.value ∙ c.in_ok-ok_or.was)) (rw whole at (c.ensure_children.ensures (worked_for a.w) (node_for a.w) ks (record { kind = refl; facts = refl }) (same_by a.asks.list.now))))
+          (λ cs e. children_stand a.s (worked_for a.w) (node_for a.w) (map fact_row a.xs.rows.now) (needs_alignment a.s ks) 1 a.asks.list.now a.asks.numbered ks (same_by a.asks.list.now) cs e)
           (long ∙ sym (length-map a.asks.list.now _));
     }
 
 pub returns : goal.returns
-returns c = let a = c.args in let q = c.requires in λ o b ks sn sc.
-    steps_go_on a.s (record { node = b; children = []; rows = map fact_row a.f.xs.rows.now; masks = a.f.masks.now }) (asked_needs a.asks.list.now) _ _ (ensure_children a.s o b (map fact_row a.f.xs.rows.now) (get_repartition_requirement_status a.s ks))
-    (round_done _ _ _ _ (ok_or_done _ _ _ (sym c.ok_or.ensures.value ∙ c.in_ok-ok_or.was)) (c.ensure_children.ensures o b ks sn sc))
-    (λ cs e. children_stand a.s o b (map fact_row a.f.xs.rows.now) (needs_alignment a.s ks) 1 a.asks.list.now a.asks.numbered ks sc cs e) c.enforce_distribution_relationships.ensures
+returns c = let a = c.args in λ o b ks sn sc.
+    let whole = take_all (length a.asks.list.now) c.ensure_children.new.forms (omega (arith, c.ensure_children.auto.forms, c.requires)) in
+    steps_go_on a.s (record { node = b; children = []; rows = map fact_row a.xs.rows.now; masks = a.masks.now }) (asked_needs a.asks.list.now) _ _ (ensure_children a.s o b (map fact_row a.xs.rows.now) (get_repartition_requirement_status a.s ks))
+    (round_done _ _ _ _ (ok_or_done _ _ _ (sym c.ok_or.ensures.value ∙ c.in_ok-ok_or.was)) (rw whole at (c.ensure_children.ensures o b ks sn sc)))
+    (λ cs e. children_stand a.s o b (map fact_row a.xs.rows.now) (needs_alignment a.s ks) 1 a.asks.list.now a.asks.numbered ks sc cs e) c.enforce_distribution_relationships.ensures

@@ -7,4 +7,4 @@ pub returns-then-add_roundrobin : goal.returns-then-add_roundrobin
 returns-then-add_roundrobin c = λ aligned. formed_taken _ _ _ _ (sym (c.add_roundrobin.ensures aligned) ∙ c.if-add_roundrobin.true) c.add_roundrobin_on_top.ensures
 
 pub returns : goal.returns
-returns c = λ aligned. formed_left _ _ _ _ (sym (c.add_roundrobin.ensures aligned) ∙ c.if-add_roundrobin.false) (formed_kept _ c.args.c.at.within.2)
+returns c = λ aligned. formed_left _ _ _ _ (sym (c.add_roundrobin.ensures aligned) ∙ c.if-add_roundrobin.false) (formed_kept _ c.args.c.within.2)
