@@ -55,7 +55,7 @@ fn marked(row: &FactRow) -> bool
 fn fact_at(s: &[u8], at: usize, row: &mut FactRow) -> Result<usize, Unread>
     ensures { FactFound s.now at row.old result row.new }
 {
-    let end = row_at(s, at, 88, &mut *row)?;
+    let end = row_at(s, at, b'X', &mut *row)?;
     if !marked(&*row) {
         return Err(Unread::Unusual);
     }

@@ -12,6 +12,7 @@ ghost use Rattle.plansheet.specs.FitRows.{count_fits_by, child_fits_by, row_fits
 
 use exchange::fact::{CHILD, CONST, COUNT, ChildForm, FORM, Fact, FactRow, FactRows, ORDER};
 use exchange::form::{TOP_KEYED, TOP_MERGE, relationship_of, split_of, top_of};
+use exchange::mark::is_set;
 use exchange::places::child_places;
 use exchange::row::{Row, node_at};
 use exchange::status::{ChildRow, ENTRIES};
@@ -20,17 +21,7 @@ use exchange::status::{ChildRow, ENTRIES};
 fn within_bits(n: u64, mask: u64) -> bool
     ensures { result ≡ within_bits n mask }
 {
-    let mut k = n;
-    let mut m = mask;
-    // No `for`: the mask decides when it ends, and n is as large as the sheet says.
-    while k != 0 {
-        if m == 0 {
-            return true;
-        }
-        m = m / 2;
-        k -= 1;
-    }
-    m == 0
+    n >= u64::from(u64::BITS) || mask >> n == 0
 }
 
 // The same of every mask.
@@ -50,13 +41,13 @@ fn count_fits(target: u64, form: u64, count: u64, order: u64, own: u64, sorted: 
     ensures { result ≡ count_fits_by target form count order own sorted }
 {
     let top = top_of(form);
-    if relationship_of(form) == 1 || TOP_KEYED <= top {
+    if is_set(relationship_of(form)) || TOP_KEYED <= top {
         return count == target;
     }
     if top == TOP_MERGE {
         return count == 1;
     }
-    split_of(form) == 1 || count == own && order == sorted
+    is_set(split_of(form)) || count == own && order == sorted
 }
 
 // A row of the child whose tree stands at a place and whose F row is f.
