@@ -17,6 +17,8 @@ use exchange::places::child_places;
 use exchange::row::{Row, node_at};
 use exchange::status::{ChildRow, ENTRIES};
 
+const LAST_FORM: u64 = 15;
+
 // No bit of the mask beyond the first n.
 fn within_bits(n: u64, mask: u64) -> bool
     ensures { result ≡ within_bits n mask }
@@ -71,7 +73,7 @@ fn row_fits(target: u64, rows: &[Row], places: &[usize], facts: &[ChildRow], x: 
     requires { (length facts.now ≡ length places.now) × Placed rows.now places.now }
     ensures { result ≡ row_fits_by target rows.now places.now facts.now x }
 {
-    if 15 < x[FORM] || x[CHILD] < 1 {
+    if LAST_FORM < x[FORM] || x[CHILD] < 1 {
         return false;
     }
     // No From goes from u64 to usize.

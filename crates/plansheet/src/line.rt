@@ -1,5 +1,6 @@
 // The lines of a D sheet, each by its description; their fields go into the rows lent.
-// The room for fields is a slice with its condition at each reader: a struct of one slice would be made anew at each call.
+// The room for fields is a slice with its condition at each reader: a slice lent by `&mut` stays as long as it is, and of a struct that
+// holds it each reader here, in `facts` and in `lines` would have to promise that, as `SameSizes` does where all rooms are lent together.
 ghost use Rattle.std.specs.Prelude.{◌≡◌, ℕ, ◌≤◌, length, drop};
 ghost use Rattle.refusals.specs.Refusals.{judged_by};
 ghost use Rattle.text.specs.Text.{line, line_fields, line_at, after};
@@ -14,7 +15,7 @@ use crate::description::LineShape;
 use crate::shape::{over_any, shaped_line};
 use exchange::status::{ROWS, WIDTH};
 use linekinds::line::Read;
-use linekinds::plain::PLAIN;
+use linekinds::plain::{MOST_BYTES, PLAIN};
 use numberlines::child::LONG;
 use refusals::Refusal;
 use text::line::{Fields, line_at};
@@ -22,7 +23,8 @@ use text::line::{Fields, line_at};
 // No code and no size is asked: no number is larger.
 pub const ANY: u64 = LONG;
 
-// How many sets n children have.
+// How many sets n children have. That there are at most eight stays a condition, here and below: a struct for one number would be no
+// plainer.
 pub fn sets_of(n: usize) -> usize
     requires { n ≤ 8 }
     ensures { result ≡ two_to n }
@@ -37,7 +39,7 @@ fn judge_masks(sets: usize, f: Fields) -> Result<(), Refusal>
     if f.count != sets || f.worst > 0 || f.largest > PLAIN {
         return Err(Refusal::MalformedField);
     }
-    if f.next > 65536 {
+    if f.next > MOST_BYTES {
         return Err(Refusal::BeyondSize);
     }
     Ok(())

@@ -23,6 +23,12 @@ use linekinds::plain::PLAIN;
 use numberlines::child::LONG;
 use refusals::{Refusal, Refused};
 
+// The place of the limit on a T line.
+const LIMIT: usize = 3;
+
+// The most T lines.
+const MOST_LINES: usize = 256;
+
 // The T lines from a place on.
 pub fn read_plan_tree(
     place: Place,
@@ -34,7 +40,7 @@ pub fn read_plan_tree(
     ensures left { Left (operator_rows 1) place.entry.s.now (run_from plan_line 1 place.entry.s.now place.entry.line place.entry.at) rows.old rows.new }
 {
     let mut bounds = [[0, PLAIN]; 8];
-    bounds[3] = [1, LONG];
+    bounds[LIMIT] = [1, LONG];
     let codes = [ANY, ANY, 1, ANY, ANY, 1, 2];
     let rules = [
         [0, 8],
@@ -58,7 +64,7 @@ pub fn read_plan_tree(
             codes: &codes,
         },
         rules: &rules,
-        most: 256,
+        most: MOST_LINES,
     };
     read_tree(place, shape, fields, rows)
 }

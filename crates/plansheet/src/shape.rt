@@ -11,6 +11,7 @@ ghost use Rattle.plansheet.specs.ReadRows.{Bounded, misfit_number, shape_number}
 
 use crate::description::LineShape;
 use linekinds::line::Read;
+use linekinds::plain::MOST_BYTES;
 use refusals::Refusal;
 use text::bounds::{Misfit, fixed_at};
 
@@ -35,7 +36,7 @@ pub fn judge_shape(
 ) -> Result<(), Refusal>
     ensures { result ≡ judged_by (shape_number sizes.now codes.now next (row_values fields.now)) }
 {
-    if next > 65536 || over_any(sizes, fields) {
+    if next > MOST_BYTES || over_any(sizes, fields) {
         return Err(Refusal::BeyondSize);
     }
     if over_any(codes, fields) {
