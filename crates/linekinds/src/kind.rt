@@ -5,11 +5,13 @@ ghost use Rattle.linekinds.specs.KeyLines.{defined_expr, undefined_exprs, over, 
 ghost use Rattle.linekinds.specs.Reading.{head_count, entry_width, row_values, undefined_by, undefined_key, undefined_join, undefined_input, fields_number, size_number, counts_number, codes_number, Whole};
 ghost use Rattle.linekinds.specs.Lines.{whole_entries};
 
-use crate::plain::PLAIN;
+use crate::plain::{LAST_DIRECTION, MARK, MOST_BYTES, MOST_ENTRIES, PLAIN};
 use keys::codes::{AggregateMode, HashMode, Join, Op};
 use keys::expr::{COLUMN, OTHER, PLACEHOLDER};
 use refusals::Refusal;
 use text::line::Fields;
+
+const MOST_CHILDREN: u64 = 8;
 
 // What is asked of a line's fields: the K line, the I line, expressions, rules, a mark and expressions, directions, names.
 #[derive(Clone, Copy, PartialEq, Eq, Debug)]
@@ -116,8 +118,8 @@ fn undefined_key(rows: &[[u64; 2]]) -> bool
     op >= Op::CODES
         || !defined_mode(op, rows[1][1])
         || !defined_join(op, rows[2][1])
-        || rows[4][1] > 1
-        || rows[5][1] > 1
+        || rows[4][1] > MARK
+        || rows[5][1] > MARK
 }
 
 fn undefined_join(rows: &[[u64; 2]]) -> bool
@@ -131,7 +133,7 @@ fn undefined_input(rows: &[[u64; 2]]) -> bool
     requires { 1 ≤ length rows.now }
     ensures { result ≡ undefined_input (row_values rows.now) }
 {
-    rows[0][1] > 1 || undefined_exprs(&rows[1..])
+    rows[0][1] > MARK || undefined_exprs(&rows[1..])
 }
 
 // Whether a line whose fields are as many as its kind has holds a code that is not defined.
@@ -144,7 +146,7 @@ fn undefined(c: Codes, rows: &[[u64; 2]]) -> bool
         Codes::Join => undefined_join(rows),
         Codes::Exprs | Codes::Rules => undefined_exprs(rows),
         Codes::Input => undefined_input(rows),
-        Codes::Directions => over(rows, 3),
+        Codes::Directions => over(rows, LAST_DIRECTION),
         Codes::Names => false,
     }
 }
@@ -173,10 +175,10 @@ fn judge_fields(c: Codes, f: Fields) -> Result<(), Refusal>
 fn judge_size(c: Codes, f: Fields) -> Result<(), Refusal>
     ensures { result ≡ judged_by (size_number c f.count f.next) }
 {
-    if f.next > 65536 {
+    if f.next > MOST_BYTES {
         return Err(Refusal::BeyondSize);
     }
-    if f.count.saturating_sub(c.heads()) > 32 * c.width() {
+    if f.count.saturating_sub(c.heads()) > MOST_ENTRIES * c.width() {
         return Err(Refusal::BeyondSize);
     }
     Ok(())
@@ -194,7 +196,7 @@ fn judge_key(rows: &[[u64; 2]]) -> Result<(), Refusal>
     requires { length rows.now ≡ 7 }
     ensures { result ≡ judged_by (codes_number Codes.Key (row_values rows.now)) }
 {
-    if rows[6][1] > 8 {
+    if rows[6][1] > MOST_CHILDREN {
         return Err(Refusal::BeyondSize);
     }
     if undefined_key(rows) {

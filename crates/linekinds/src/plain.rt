@@ -23,6 +23,18 @@ pub struct Entries {
 // The largest number of a plain field.
 pub const PLAIN: u64 = 65535;
 
+// A mark that is set; one that is not is 0.
+pub const MARK: u64 = 1;
+
+// The last code of a direction.
+pub(crate) const LAST_DIRECTION: u64 = 3;
+
+// The most entries of a list.
+pub(crate) const MOST_ENTRIES: usize = 32;
+
+// The most bytes of a sheet.
+pub const MOST_BYTES: usize = 65536;
+
 fn stands(s: &[u8], at: usize, b: u8) -> bool
     ensures { IsTrue result ↔ StandsAt s.now at b }
 {
@@ -42,14 +54,14 @@ fn number_at(s: &[u8], at: usize) -> Option<Number>
     if !digit_at(s, at) {
         return None;
     }
-    let mut n = u64::from(s[at]) - 48;
+    let mut n = u64::from(s[at] - b'0');
     let mut p = at + 1;
     // No `for`: the digits end where another byte stands, and its place is answered.
     while digit_at(s, p) {
         if n == 0 {
             return None;
         }
-        n = n * 10 + (u64::from(s[p]) - 48);
+        n = n * 10 + u64::from(s[p] - b'0');
         if n > PLAIN {
             return None;
         }
@@ -91,7 +103,7 @@ fn line_end(s: &[u8], at: usize, n: usize) -> Option<Entries>
     if !stands(s, at, b'\n') {
         return None;
     }
-    if at >= 65536 {
+    if at >= MOST_BYTES {
         return None;
     }
     Some(Entries { count: n, end: at })
@@ -131,7 +143,7 @@ fn numbers_at(s: &[u8], at: usize, largest: u64, list: &mut [u64; 64]) -> Option
     let mut n: usize = 0;
     // No `for`: an entry takes as many bytes as it has.
     while stands(s, p, b',') {
-        if n == 32 {
+        if n == MOST_ENTRIES {
             return None;
         }
         let number = field_at(s, p)?;
@@ -149,7 +161,7 @@ fn numbers_at(s: &[u8], at: usize, largest: u64, list: &mut [u64; 64]) -> Option
 fn rules_at(s: &[u8], at: usize, list: &mut [u64; 64]) -> Option<Entries>
     ensures { (length list.new ≡ 64) × RulesFound s.now at list.old result list.new }
 {
-    let entries = entries_at(s, at, 0, 64, list)?;
+    let entries = entries_at(s, at, 0, 2 * MOST_ENTRIES, list)?;
     if entries.count % 2 != 0 {
         return None;
     }
@@ -161,11 +173,11 @@ fn input_at(s: &[u8], at: usize, list: &mut [u64; 64]) -> Option<Entries>
     ensures { (length list.new ≡ 64) × InputFound s.now at list.old result list.new }
 {
     let mark = field_at(s, at)?;
-    if mark.value > 1 {
+    if mark.value > MARK {
         return None;
     }
     list[0] = mark.value;
-    entries_at(s, mark.end, 1, 33, list)
+    entries_at(s, mark.end, 1, 1 + MOST_ENTRIES, list)
 }
 
 // The list of a line of a letter.
@@ -184,10 +196,10 @@ pub(crate) fn list_at(
     let p = at + 1;
     match c {
         Codes::Key | Codes::Join => None,
-        Codes::Exprs => entries_at(s, p, 0, 32, list),
+        Codes::Exprs => entries_at(s, p, 0, MOST_ENTRIES, list),
         Codes::Rules => rules_at(s, p, list),
         Codes::Input => input_at(s, p, list),
-        Codes::Directions => numbers_at(s, p, 3, list),
+        Codes::Directions => numbers_at(s, p, LAST_DIRECTION, list),
         Codes::Names => numbers_at(s, p, PLAIN, list),
     }
 }

@@ -50,7 +50,7 @@ pub fn put_children(
 {
     let mut p = at;
     for i in 0..n {
-        p = put_exprs(out, p, 67, child_list(children, i, held.list(9 + i)));
+        p = put_exprs(out, p, b'C', child_list(children, i, held.list(9 + i)));
     }
     p
 }

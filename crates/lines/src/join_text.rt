@@ -29,9 +29,9 @@ pub fn put_join_lists(out: &mut [u8], x: &JoinLists<'_>) -> usize
     requires { length (join_text_of x.now) ≤ length out.old }
     ensures { Wrote out.old 0 (join_text_of x.now) out.new result }
 {
-    let at_p = put_pair(out, 0, 105, x.report, x.followed);
-    let at_l = put_numbers(out, at_p, 80, x.positions);
-    let at_g = put_exprs(out, at_l, 76, x.left);
-    let at_s = put_exprs(out, at_g, 71, x.right);
-    put_numbers(out, at_s, 83, x.directions)
+    let at_p = put_pair(out, 0, b'i', x.report, x.followed);
+    let at_l = put_numbers(out, at_p, b'P', x.positions);
+    let at_g = put_exprs(out, at_l, b'L', x.left);
+    let at_s = put_exprs(out, at_g, b'G', x.right);
+    put_numbers(out, at_s, b'S', x.directions)
 }

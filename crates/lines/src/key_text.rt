@@ -34,11 +34,11 @@ pub fn put_key_lists(out: &mut [u8], x: &KeyLists<'_>) -> usize
     requires { length (key_text_of x.now) ≤ length out.old }
     ensures { Wrote out.old 0 (key_text_of x.now) out.new result }
 {
-    let at_p = put_pair(out, 0, 107, x.changed, x.report);
-    let at_r = put_numbers(out, at_p, 80, x.positions);
-    let at_l = put_exprs(out, at_r, 82, x.required);
-    let at_g = put_exprs(out, at_l, 76, x.left);
-    let at_s = put_exprs(out, at_g, 71, x.right);
-    let at_j = put_numbers(out, at_s, 83, x.directions);
-    put_numbers(out, at_j, 74, x.projection)
+    let at_p = put_pair(out, 0, b'k', x.changed, x.report);
+    let at_r = put_numbers(out, at_p, b'P', x.positions);
+    let at_l = put_exprs(out, at_r, b'R', x.required);
+    let at_g = put_exprs(out, at_l, b'L', x.left);
+    let at_s = put_exprs(out, at_g, b'G', x.right);
+    let at_j = put_numbers(out, at_s, b'S', x.directions);
+    put_numbers(out, at_j, b'J', x.projection)
 }

@@ -56,7 +56,7 @@ fn put_number_field(out: &mut [u8], at: usize, n: u64) -> usize
     requires { at + length (number_field n) ≤ length out.old }
     ensures { Wrote out.old at (number_field n) out.new result }
 {
-    let p = put_byte(out, at, 44);
+    let p = put_byte(out, at, b',');
     put_number(out, p, n)
 }
 
@@ -100,7 +100,7 @@ pub fn put_numbers(out: &mut [u8], at: usize, letter: u8, list: &[u64]) -> usize
 {
     let p = put_byte(out, at, letter);
     let q = put_number_fields(out, p, list);
-    put_byte(out, q, 10)
+    put_byte(out, q, b'\n')
 }
 
 // The line of two numbers.
@@ -111,7 +111,7 @@ pub fn put_pair(out: &mut [u8], at: usize, letter: u8, a: u64, b: u64) -> usize
     let p = put_byte(out, at, letter);
     let q = put_number_field(out, p, a);
     let e = put_number_field(out, q, b);
-    put_byte(out, e, 10)
+    put_byte(out, e, b'\n')
 }
 
 // The expressions' line. Three lines as in `put_numbers`, of other fields: over a closure the promise would be longer than both.
@@ -121,5 +121,5 @@ pub fn put_exprs(out: &mut [u8], at: usize, letter: u8, list: &[u64]) -> usize
 {
     let p = put_byte(out, at, letter);
     let q = put_expr_fields(out, p, list);
-    put_byte(out, q, 10)
+    put_byte(out, q, b'\n')
 }

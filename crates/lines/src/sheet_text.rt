@@ -21,7 +21,7 @@ fn put_input(out: &mut [u8], at: usize, letter: u8, list: &[u64]) -> usize
     let p = put_byte(out, at, letter);
     let q = put_number_fields(out, p, &list[..1]);
     let e = put_expr_fields(out, q, &list[1..]);
-    put_byte(out, e, 10)
+    put_byte(out, e, b'\n')
 }
 
 // A line from the numbers that are held of it.

@@ -19,7 +19,7 @@ fn longer_to(s: &[u8], at: usize, begun: u64, bound: Bound, b: u8) -> Option<Num
         if n == 0 {
             return None;
         }
-        n = n * 10 + (u64::from(s[p]) - 48);
+        n = n * 10 + u64::from(s[p] - b'0');
         if n > bound.most {
             return None;
         }
@@ -41,7 +41,7 @@ pub(crate) fn number_to(from: Comma<'_>, bound: Bound, b: u8) -> Option<Number>
     if !s[at].is_ascii_digit() {
         return None;
     }
-    let n = u64::from(s[at]) - 48;
+    let n = u64::from(s[at] - b'0');
     let p = at + 1;
     if s[p] == b {
         return Some(Number { value: n, end: p });

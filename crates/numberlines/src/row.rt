@@ -5,6 +5,7 @@ ghost use Rattle.numberlines.specs.Runs.{BegunTo, NumbersTo, LastTo};
 
 use crate::comma::{Bound, Comma, PLAIN};
 use crate::number::number_to;
+use linekinds::plain::MOST_BYTES;
 
 // Why a line was not read: it is of the letter, and something in it is unusual; or it is something else, and nothing was stored.
 #[derive(Clone, Copy, PartialEq, Eq, Debug)]
@@ -53,7 +54,7 @@ pub(crate) fn last_to(from: Comma<'_>, place: &mut u64) -> Result<usize, Unread>
 {
     let number = number_to(from, PLAIN, b'\n').ok_or(Unread::Unusual)?;
     *place = number.value;
-    if number.end >= 65536 {
+    if number.end >= MOST_BYTES {
         return Err(Unread::Unusual);
     }
     Ok(number.end)

@@ -1,7 +1,7 @@
 -- What holds of a line that nothing turns back, of the n-th of its run; and what its rows are.
 -- Assumes nothing.
 use mathlib.Core.Path.{◌≡◌, refl, sym, ap, ◌∙◌}
-use Prim.Native.Nat.{ℕ, zero, suc, ◌+◌, ◌*◌, ◌≤◌, ◌<◌}
+use Prim.Native.Nat.{ℕ, zero, suc, ◌+◌, ◌^◌, ◌≤◌, ◌<◌}
 use native.Mathlib.Omega.{arith}
 use mathlib.Core.List.{List, [], ◌∷◌, ◌++◌, map}
 use mathlib.Core.Bool.{Bool, true, false, cond, ◌||◌}
@@ -20,6 +20,8 @@ use Rattle.refusals.proofs.Judging.{number_again}
 use Rattle.linekinds.specs.Lines.{Kind, most_bytes, fields_fit, too_many_entries, line_number}
 use Rattle.linekinds.specs.KeyLines.{values}
 use Rattle.std.proofs.lemmas.Bool.{or_parts as either_false}
+use Rattle.std.proofs.Math.Nat.{pow-succ'}
+use Rattle.std.proofs.Math.Pow.{pow_mono}
 use Rattle.sheet.proofs.RowsAgain.{number_at_lem}
 use Rattle.plansheet.specs.Shapes.{Shape, over_any, is_none, tree_line, children_at, most_children}
 use Rattle.plansheet.specs.PlanLines.{two_to}
@@ -115,24 +117,15 @@ unfolding line_number
 other_some k seen next none h = absurd (h refl)
 other_some k seen next (some fs) h = refl
 
+-- how many sets n children have, as a power of two
+pub two_power : (n : ℕ) → two_to n ≡ 2 ^ n
+unfolding two_to
+two_power zero = refl
+two_power (suc n) = rw (two_power n, pow-succ' 2 n)
+
 -- at most eight children have at most 256 sets
-two_at : (n : ℕ) → two_to (suc n) ≡ 2 * two_to n
-unfolding two_to
-two_at n = refl
-
-two_more : (n m : ℕ) → n ≤ m → two_to n ≤ two_to m
-unfolding two_to
-two_more zero zero h = omega arith
-two_more zero (suc m) h = omega (arith, two_more zero m (omega arith))
-two_more (suc n) zero h = absurd (omega arith)
-two_more (suc n) (suc m) h = omega (arith, two_more n m (omega arith))
-
-two_eight : two_to 8 ≡ 256
-unfolding two_to
-two_eight = refl
-
 pub two_small : (n : ℕ) → n ≤ 8 → two_to n ≤ 256
-two_small n h = omega (arith, two_more n 8 h, two_eight)
+two_small n h = rw (two_power n) (pow_mono {i = n} {j = 8} h)
 
 few_at : (a b c d e : Bool) → cond a (cond b 2 (cond c 3 (cond d 4 (cond e 6 0)))) 2 ≤ 6
 few_at true true c d e = omega arith

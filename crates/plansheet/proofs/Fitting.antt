@@ -4,9 +4,10 @@ use mathlib.Core.Path.{◌≡◌, refl, sym, ap, ◌∙◌}
 use mathlib.Core.List.{List, [], ◌∷◌, map}
 use mathlib.Core.Option.{Option, none, some}
 use mathlib.Core.Bool.{Bool, true, false, cond, not, ◌&&◌, ◌||◌}
-use Prim.Native.Nat.{ℕ, zero, suc, ◌+◌, ◌-◌, ◌/◌, ◌≤◌, ◌<◌}
+use Prim.Native.Nat.{ℕ, zero, suc, ◌+◌, ◌/◌, ◌^◌, ◌≤◌, ◌<◌}
 use native.Mathlib.Omega.{arith}
 use native.Mathlib.Numerals.{add-one}
+use Rattle.std.proofs.Math.Nat.{div-one, div-div-eq-div-mul, div-eq_of_lt, pow-succ'}
 use lib.Dec.{eqb, leb}
 use lib.ListN.{length, get_or, drop, drop_of_length-le}
 use lib.Seq.{drop-cons}
@@ -21,19 +22,14 @@ use Rattle.plansheet.specs.FitRows.{row_fits_by, rows_fit_by, found_at}
 
 -- ---- bits
 
-pub within_zero : (k : ℕ) → within_bits k 0 ≡ true
+-- no bit beyond the first n: none is left where those are shifted out
+pub within_shifted : (n m : ℕ) → within_bits n m ≡ eqb (m / 2 ^ n) 0
 unfolding within_bits
-within_zero zero = refl
-within_zero (suc k) = within_zero k
+within_shifted zero m = rw (div-one m)
+within_shifted (suc n) m = within_shifted n (m / 2) ∙ rw (div-div-eq-div-mul m 2 (2 ^ n), pow-succ' 2 n)
 
-pub within_more : (k m : ℕ) → (k ≡ 0 → ⊥) → within_bits k m ≡ within_bits (k - 1) (m / 2)
-unfolding within_bits
-within_more zero m h = absurd (h refl)
-within_more (suc k) m h = let e : suc k - 1 ≡ k = omega arith in rw e
-
-pub within_done : (m : ℕ) → within_bits 0 m ≡ eqb m 0
-unfolding within_bits
-within_done m = refl
+pub within_wide : (n m : ℕ) → m < 2 ^ n → within_bits n m ≡ true
+within_wide n m h = within_shifted n m ∙ rw (div-eq_of_lt h)
 
 module _ (n : ℕ) (masks : List ℕ) (i : ℕ) where
   module _ (h : i < length masks) where

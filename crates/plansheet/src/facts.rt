@@ -15,6 +15,7 @@ use crate::tree::RowsRead;
 use exchange::fact::{ATHASH, CONST, FORD, FactRow, ORDER, WIDTH};
 use exchange::status::ChildRow;
 use linekinds::line::Read;
+use linekinds::plain::MARK;
 use numberlines::row::{Unread, row_at};
 use refusals::{Refusal, Refused};
 
@@ -41,7 +42,7 @@ fn put_fact(rows: &mut [FactRow], i: usize, x: FactRow)
 fn all_marks(numbers: &[u64]) -> bool
     ensures { result ≡ true → (i : ℕ) → i < length numbers.now → get_or numbers.now i 0 ≤ 1 }
 {
-    numbers.iter().all(|n| *n <= 1)
+    numbers.iter().all(|n| *n <= MARK)
 }
 
 // The marks of an X row are marks.
@@ -55,7 +56,7 @@ fn marked(row: &FactRow) -> bool
 fn fact_at(s: &[u8], at: usize, row: &mut FactRow) -> Result<usize, Unread>
     ensures { FactFound s.now at row.old result row.new }
 {
-    let end = row_at(s, at, 88, &mut *row)?;
+    let end = row_at(s, at, b'X', &mut *row)?;
     if !marked(&*row) {
         return Err(Unread::Unusual);
     }
@@ -118,6 +119,7 @@ pub fn read_children(
     let mut p = place.at;
     let mut l = place.line;
     for n in 0..children {
+        // A `match`: `Read` is no `Result` (document 01 names it), and its refusal goes on with the number of the line.
         match child_line(place.s, p, &mut *fields) {
             Read::Line { count, next } => {
                 rows[n] = numbers_of(&fields[..count]);
@@ -151,16 +153,14 @@ pub fn read_facts(
     loop {
         match read_fact(place.s, p, n, &mut *fields, &mut *rows) {
             Read::Line { next, .. } => p = next,
-            Read::Refused(refusal) => {
-                if refusal == Refusal::WrongLine {
-                    return Ok(RowsRead {
-                        count: n,
-                        next: p,
-                        line: l,
-                    });
-                }
-                return Err(refusal.on_line(l));
+            Read::Refused(refusal) if refusal == Refusal::WrongLine => {
+                return Ok(RowsRead {
+                    count: n,
+                    next: p,
+                    line: l,
+                });
             }
+            Read::Refused(refusal) => return Err(refusal.on_line(l)),
         }
         n += 1;
         l += 1;

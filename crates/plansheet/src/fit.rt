@@ -12,25 +12,18 @@ ghost use Rattle.plansheet.specs.FitRows.{count_fits_by, child_fits_by, row_fits
 
 use exchange::fact::{CHILD, CONST, COUNT, ChildForm, FORM, Fact, FactRow, FactRows, ORDER};
 use exchange::form::{TOP_KEYED, TOP_MERGE, relationship_of, split_of, top_of};
+use exchange::mark::is_set;
 use exchange::places::child_places;
 use exchange::row::{Row, node_at};
 use exchange::status::{ChildRow, ENTRIES};
+
+const LAST_FORM: u64 = 15;
 
 // No bit of the mask beyond the first n.
 fn within_bits(n: u64, mask: u64) -> bool
     ensures { result ≡ within_bits n mask }
 {
-    let mut k = n;
-    let mut m = mask;
-    // No `for`: the mask decides when it ends, and n is as large as the sheet says.
-    while k != 0 {
-        if m == 0 {
-            return true;
-        }
-        m = m / 2;
-        k -= 1;
-    }
-    m == 0
+    n >= u64::from(u64::BITS) || mask >> n == 0
 }
 
 // The same of every mask.
@@ -50,13 +43,13 @@ fn count_fits(target: u64, form: u64, count: u64, order: u64, own: u64, sorted: 
     ensures { result ≡ count_fits_by target form count order own sorted }
 {
     let top = top_of(form);
-    if relationship_of(form) == 1 || TOP_KEYED <= top {
+    if is_set(relationship_of(form)) || TOP_KEYED <= top {
         return count == target;
     }
     if top == TOP_MERGE {
         return count == 1;
     }
-    split_of(form) == 1 || count == own && order == sorted
+    is_set(split_of(form)) || count == own && order == sorted
 }
 
 // A row of the child whose tree stands at a place and whose F row is f.
@@ -80,7 +73,7 @@ fn row_fits(target: u64, rows: &[Row], places: &[usize], facts: &[ChildRow], x: 
     requires { (length facts.now ≡ length places.now) × Placed rows.now places.now }
     ensures { result ≡ row_fits_by target rows.now places.now facts.now x }
 {
-    if 15 < x[FORM] || x[CHILD] < 1 {
+    if LAST_FORM < x[FORM] || x[CHILD] < 1 {
         return false;
     }
     // No From goes from u64 to usize.

@@ -1,5 +1,6 @@
 // The lines of a D sheet, each by its description; their fields go into the rows lent.
-// The room for fields is a slice with its condition at each reader: a struct of one slice would be made anew at each call.
+// The room for fields is a slice with its condition at each reader: a slice lent by `&mut` stays as long as it is, and of a struct that
+// holds it each reader here, in `facts` and in `lines` would have to promise that, as `SameSizes` does where all rooms are lent together.
 ghost use Rattle.std.specs.Prelude.{◌≡◌, ℕ, ◌≤◌, length, drop};
 ghost use Rattle.refusals.specs.Refusals.{judged_by};
 ghost use Rattle.text.specs.Text.{line, line_fields, line_at, after};
@@ -12,8 +13,9 @@ ghost use Rattle.plansheet.specs.ReadRows.{masks_number};
 
 use crate::description::LineShape;
 use crate::shape::{over_any, shaped_line};
+use exchange::status::{ROWS, WIDTH};
 use linekinds::line::Read;
-use linekinds::plain::PLAIN;
+use linekinds::plain::{MOST_BYTES, PLAIN};
 use numberlines::child::LONG;
 use refusals::Refusal;
 use text::line::{Fields, line_at};
@@ -21,22 +23,13 @@ use text::line::{Fields, line_at};
 // No code and no size is asked: no number is larger.
 pub const ANY: u64 = LONG;
 
-// How many sets n children have.
+// How many sets n children have. That there are at most eight stays a condition, here and below: a struct for one number would be no
+// plainer.
 pub fn sets_of(n: usize) -> usize
     requires { n ≤ 8 }
     ensures { result ≡ two_to n }
 {
-    match n {
-        0 => 1,
-        1 => 2,
-        2 => 4,
-        3 => 8,
-        4 => 16,
-        5 => 32,
-        6 => 64,
-        7 => 128,
-        _ => 256,
-    }
+    1 << n
 }
 
 // By the count of fields of a line of so many plain fields, as a Y line is, their largest state and value, and the place after it.
@@ -46,7 +39,7 @@ fn judge_masks(sets: usize, f: Fields) -> Result<(), Refusal>
     if f.count != sets || f.worst > 0 || f.largest > PLAIN {
         return Err(Refusal::MalformedField);
     }
-    if f.next > 65536 {
+    if f.next > MOST_BYTES {
         return Err(Refusal::BeyondSize);
     }
     Ok(())
@@ -86,23 +79,12 @@ pub fn settings_line(s: &[u8], at: usize, fields: &mut [[u64; 2]]) -> Read
     ensures answer { (seen : ℕ) → result ≡ read_by (line_number settings_line seen (after s.now at) (line_at 68 s.now at)) (after s.now at) (line_at 68 s.now at) }
     ensures stored { fields.new ≡ stored_in fields.old (line_fields 68 (line (drop at s.now))) }
 {
-    let bounds: [[u64; 2]; 9] = [
-        [0, PLAIN],
-        [0, PLAIN],
-        [0, PLAIN],
-        [0, PLAIN],
-        [0, PLAIN],
-        [0, PLAIN],
-        [0, PLAIN],
-        [0, PLAIN],
-        [0, PLAIN],
-    ];
-    let sizes: [u64; 0] = [];
-    let codes: [u64; 9] = [ANY, 1, 1, ANY, 1, ANY, ANY, 1, 1];
+    let bounds = [[0, PLAIN]; 9];
+    let codes = [ANY, 1, 1, ANY, 1, ANY, ANY, 1, 1];
     let shape = LineShape {
-        letter: 68,
+        letter: b'D',
         bounds: &bounds,
-        sizes: &sizes,
+        sizes: &[],
         codes: &codes,
     };
     shaped_line(s, at, shape, fields)
@@ -114,13 +96,12 @@ pub fn node_line(s: &[u8], at: usize, fields: &mut [[u64; 2]]) -> Read
     ensures answer { (seen : ℕ) → result ≡ read_by (line_number node_line seen (after s.now at) (line_at 66 s.now at)) (after s.now at) (line_at 66 s.now at) }
     ensures stored { fields.new ≡ stored_in fields.old (line_fields 66 (line (drop at s.now))) }
 {
-    let bounds: [[u64; 2]; 4] = [[0, PLAIN], [0, PLAIN], [0, PLAIN], [0, PLAIN]];
-    let sizes: [u64; 0] = [];
-    let codes: [u64; 4] = [1, 1, 1, 1];
+    let bounds = [[0, PLAIN]; 4];
+    let codes = [1; 4];
     let shape = LineShape {
-        letter: 66,
+        letter: b'B',
         bounds: &bounds,
-        sizes: &sizes,
+        sizes: &[],
         codes: &codes,
     };
     shaped_line(s, at, shape, fields)
@@ -132,19 +113,12 @@ pub fn child_line(s: &[u8], at: usize, fields: &mut [[u64; 2]]) -> Read
     ensures answer { (seen : ℕ) → result ≡ read_by (line_number child_line seen (after s.now at) (line_at 70 s.now at)) (after s.now at) (line_at 70 s.now at) }
     ensures stored { fields.new ≡ stored_in fields.old (line_fields 70 (line (drop at s.now))) }
 {
-    let bounds: [[u64; 2]; 7] = [
-        [0, PLAIN],
-        [0, PLAIN],
-        [0, PLAIN],
-        [0, LONG],
-        [0, PLAIN],
-        [0, PLAIN],
-        [0, PLAIN],
-    ];
-    let sizes: [u64; 7] = [ANY, ANY, ANY, ANY, ANY, ANY, 8];
-    let codes: [u64; 6] = [1, 1, 2, ANY, 1, 1];
+    let mut bounds = [[0, PLAIN]; WIDTH];
+    bounds[ROWS] = [0, LONG];
+    let sizes = [ANY, ANY, ANY, ANY, ANY, ANY, 8];
+    let codes = [1, 1, 2, ANY, 1, 1];
     let shape = LineShape {
-        letter: 70,
+        letter: b'F',
         bounds: &bounds,
         sizes: &sizes,
         codes: &codes,
@@ -158,8 +132,8 @@ pub fn fact_line(s: &[u8], at: usize, fields: &mut [[u64; 2]]) -> Read
     ensures answer { (seen : ℕ) → result ≡ read_by (line_number fact_line seen (after s.now at) (line_at 88 s.now at)) (after s.now at) (line_at 88 s.now at) }
     ensures stored { fields.new ≡ stored_in fields.old (line_fields 88 (line (drop at s.now))) }
 {
-    let codes: [u64; 12] = [ANY, ANY, ANY, ANY, 1, 1, 1, 1, 1, ANY, 1, 1];
-    plain_line(s, at, 88, 13, &codes, fields)
+    let codes = [ANY, ANY, ANY, ANY, 1, 1, 1, 1, 1, ANY, 1, 1];
+    plain_line(s, at, b'X', 13, &codes, fields)
 }
 
 // The Y line of a worked node with n children.
@@ -169,7 +143,7 @@ pub fn mask_line(s: &[u8], at: usize, n: usize, fields: &mut [[u64; 2]]) -> Read
     ensures stored { fields.new ≡ stored_in fields.old (line_fields 89 (line (drop at s.now))) }
 {
     let sets = sets_of(n);
-    let Some(f) = line_at(s, at, 89, fields) else {
+    let Some(f) = line_at(s, at, b'Y', fields) else {
         return Read::Refused(Refusal::WrongLine);
     };
     if let Err(refusal) = judge_masks(sets, f) {

@@ -23,6 +23,12 @@ use linekinds::plain::PLAIN;
 use numberlines::child::LONG;
 use refusals::{Refusal, Refused};
 
+// The place of the limit on a T line.
+const LIMIT: usize = 3;
+
+// The most T lines.
+const MOST_LINES: usize = 256;
+
 // The T lines from a place on.
 pub fn read_plan_tree(
     place: Place,
@@ -33,19 +39,10 @@ pub fn read_plan_tree(
     ensures answer { result ≡ rows_by (run_from plan_line 1 place.entry.s.now place.entry.line place.entry.at) }
     ensures left { Left (operator_rows 1) place.entry.s.now (run_from plan_line 1 place.entry.s.now place.entry.line place.entry.at) rows.old rows.new }
 {
-    let bounds: [[u64; 2]; 8] = [
-        [0, PLAIN],
-        [0, PLAIN],
-        [0, PLAIN],
-        [1, LONG],
-        [0, PLAIN],
-        [0, PLAIN],
-        [0, PLAIN],
-        [0, PLAIN],
-    ];
-    let sizes: [u64; 0] = [];
-    let codes: [u64; 7] = [ANY, ANY, 1, ANY, ANY, 1, 2];
-    let rules: [[u64; 2]; 12] = [
+    let mut bounds = [[0, PLAIN]; 8];
+    bounds[LIMIT] = [1, LONG];
+    let codes = [ANY, ANY, 1, ANY, ANY, 1, 2];
+    let rules = [
         [0, 8],
         [1, 1],
         [1, 1],
@@ -61,13 +58,13 @@ pub fn read_plan_tree(
     ];
     let shape = TreeShape {
         line: LineShape {
-            letter: 84,
+            letter: b'T',
             bounds: &bounds,
-            sizes: &sizes,
+            sizes: &[],
             codes: &codes,
         },
         rules: &rules,
-        most: 256,
+        most: MOST_LINES,
     };
     read_tree(place, shape, fields, rows)
 }

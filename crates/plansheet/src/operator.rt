@@ -3,7 +3,7 @@ ghost use Rattle.std.specs.Prelude.{◌≡◌, true, ◌≤◌, ◌<◌, length}
 ghost use Rattle.plansheet.specs.Shapes.{rule_fits};
 ghost use Rattle.plansheet.specs.PlainTrees.{Wide, PlainCodes, PlainShape, OperatorFits, OperatorRead};
 
-use crate::description::{LineShape, TreeShape};
+use crate::description::LineShape;
 use exchange::row::{CHILDREN, ID, KEEPS, KIND, NEED, Row, TRACKED};
 use linekinds::plain::PLAIN;
 use numberlines::operator::operator_at;
@@ -38,13 +38,13 @@ fn plain_shape(h: LineShape) -> bool
 }
 
 // How many rows may be read quickly: none, or those for which there is room.
-pub fn quick_rows(h: TreeShape, room: usize) -> usize
-    ensures { (0 < result → PlainShape h.entry.line.letter h.entry.line.bounds.now h.entry.line.sizes.now h.entry.line.codes.now) × (result ≤ h.entry.most) × (result ≤ room) }
+pub fn quick_rows(h: LineShape, most: usize, room: usize) -> usize
+    ensures { (0 < result → PlainShape h.entry.letter h.entry.bounds.now h.entry.sizes.now h.entry.codes.now) × (result ≤ most) × (result ≤ room) }
 {
-    if !plain_shape(h.line) {
+    if !plain_shape(h) {
         return 0;
     }
-    h.most.min(room)
+    most.min(room)
 }
 
 // Whether an operator of the kind may have so many children.
@@ -58,19 +58,18 @@ pub fn rule_fits(rules: &[[u64; 2]], kind: u64, children: u64) -> bool
 }
 
 // Whether the row of such a line has codes and children that it may have.
-fn operator_fits(h: TreeShape, row: &Row) -> bool
-    requires { 7 ≤ length h.line.codes.now }
-    ensures { result ≡ true → OperatorFits h.entry.line.codes.now h.entry.rules.now row.now }
+fn operator_fits(codes: &[u64], rules: &[[u64; 2]], row: &Row) -> bool
+    requires { 7 ≤ length codes.now }
+    ensures { result ≡ true → OperatorFits codes.now rules.now row.now }
 {
-    let codes = h.line.codes;
     // No From goes from usize to u64.
-    let kinds = h.rules.len() as u64;
+    let kinds = rules.len() as u64;
     row[KEEPS] <= codes[2]
         && row[TRACKED] <= codes[5]
         && row[NEED] <= codes[6]
         && row[CHILDREN] <= MOST_CHILDREN
         && row[KIND] < kinds
-        && rule_fits(h.rules, row[KIND], row[CHILDREN])
+        && rule_fits(rules, row[KIND], row[CHILDREN])
 }
 
 // The line at a place as row `seen`, where nothing in it is unusual: the place of its LF.
@@ -78,14 +77,15 @@ pub fn operator_read(
     s: &[u8],
     at: usize,
     seen: usize,
-    h: TreeShape,
+    h: LineShape,
+    rules: &[[u64; 2]],
     row: &mut Row,
 ) -> Result<usize, Unread>
-    requires { (h.line.letter ≡ 10 → ⊥) × (7 ≤ length h.line.codes.now) × (seen < 65536) }
-    ensures { OperatorRead h.entry.line.letter s.now at seen h.entry.line.codes.now h.entry.rules.now result row.new }
+    requires { (h.letter ≡ 10 → ⊥) × (7 ≤ length h.codes.now) × (seen < 65536) }
+    ensures { OperatorRead h.entry.letter s.now at seen h.entry.codes.now rules.now result row.new }
 {
-    let end = operator_at(s, at, h.line.letter, &mut *row)?;
-    if !operator_fits(h, &*row) {
+    let end = operator_at(s, at, h.letter, &mut *row)?;
+    if !operator_fits(h.codes, rules, &*row) {
         return Err(Unread::Unusual);
     }
     // No From goes from usize to u64.

@@ -119,7 +119,8 @@ fn read_after_tree(place: Place, lines: usize, lent: &mut SheetRooms) -> Result<
     judge_plan(&*head, read, &mut *lent.index)
 }
 
-// A D sheet, in the rooms lent.
+// A D sheet, in the rooms lent. How many places head and index have stays a condition: `SheetRooms` would ask it of `read_fact_lines` too,
+// which needs neither.
 pub fn read_plan(s: &[u8], lent: &mut SheetRooms) -> Result<Plan, Refused>
     requires { RoomFor 256 17 (length s.now) (length lent.old.rows.now) × RoomFor 128 28 (length s.now) (length lent.old.xs.now) × (9 ≤ length lent.old.head.now) × (length lent.old.index.now ≡ 129) }
     ensures answer { result ≡ plan_by (read_plan s.now) }

@@ -7,10 +7,11 @@ ghost use Rattle.linekinds.specs.Lines.{line_number};
 ghost use Rattle.linekinds.specs.Reading.{row_values, read_by};
 ghost use Rattle.plansheet.specs.Shapes.{over_any, fixed_line};
 ghost use Rattle.plansheet.specs.Described.{shape_by};
-ghost use Rattle.plansheet.specs.ReadRows.{misfit_number, shape_number};
+ghost use Rattle.plansheet.specs.ReadRows.{Bounded, misfit_number, shape_number};
 
 use crate::description::LineShape;
 use linekinds::line::Read;
+use linekinds::plain::MOST_BYTES;
 use refusals::Refusal;
 use text::bounds::{Misfit, fixed_at};
 
@@ -27,13 +28,18 @@ pub fn over_any(largest: &[u64], fields: &[[u64; 2]]) -> bool
 }
 
 // By a line's fields and the place after it.
-pub fn judge_shape(h: LineShape, next: usize, fields: &[[u64; 2]]) -> Result<(), Refusal>
-    ensures { result ≡ judged_by (shape_number h.entry.sizes.now h.entry.codes.now next (row_values fields.now)) }
+pub fn judge_shape(
+    sizes: &[u64],
+    codes: &[u64],
+    next: usize,
+    fields: &[[u64; 2]],
+) -> Result<(), Refusal>
+    ensures { result ≡ judged_by (shape_number sizes.now codes.now next (row_values fields.now)) }
 {
-    if next > 65536 || over_any(h.sizes, fields) {
+    if next > MOST_BYTES || over_any(sizes, fields) {
         return Err(Refusal::BeyondSize);
     }
-    if over_any(h.codes, fields) {
+    if over_any(codes, fields) {
         return Err(Refusal::UndefinedCode);
     }
     Ok(())
@@ -51,7 +57,7 @@ pub fn misfit_refusal(m: Misfit) -> Refusal
 
 // The line of a letter at a place; its fields go into the rows lent.
 pub fn shaped_line(s: &[u8], at: usize, h: LineShape, fields: &mut [[u64; 2]]) -> Read
-    requires { length h.bounds.now ≤ length fields.old }
+    requires { (length h.bounds.now ≤ length fields.old) × Bounded h.bounds.now }
     ensures answer { (seen : ℕ) → result ≡ read_by (line_number (fixed_line (shape_by h.entry)) seen (after s.now at) (line_at h.entry.letter s.now at)) (after s.now at) (line_at h.entry.letter s.now at) }
     ensures stored { fields.new ≡ stored_in fields.old (line_fields h.entry.letter (line (drop at s.now))) }
 {
@@ -59,7 +65,7 @@ pub fn shaped_line(s: &[u8], at: usize, h: LineShape, fields: &mut [[u64; 2]]) -
         Ok(j) => j,
         Err(misfit) => return Read::Refused(misfit_refusal(misfit)),
     };
-    if let Err(refusal) = judge_shape(h, j.next, &fields[..j.count]) {
+    if let Err(refusal) = judge_shape(h.sizes, h.codes, j.next, &fields[..j.count]) {
         return Read::Refused(refusal);
     }
     Read::Line {

@@ -45,7 +45,7 @@ fn judge_tree(h: TreeShape, seen: usize, next: usize, fields: &[[u64; 2]]) -> Re
     if MOST_CHILDREN < children {
         return Err(Refusal::BeyondSize);
     }
-    judge_shape(h.line, next, fields)?;
+    judge_shape(h.line.sizes, h.line.codes, next, fields)?;
     // No From goes from usize to u64.
     if h.rules.len() as u64 <= kind {
         return Err(Refusal::UndefinedCode);
@@ -155,7 +155,7 @@ fn tree_row(
     ensures stored { RowStored (tree_by h.entry) seen place.entry.s.now place.entry.at rows.old rows.new }
 {
     if seen < quick {
-        if let Ok(end) = operator_read(place.s, place.at, seen, h, &mut rows[seen]) {
+        if let Ok(end) = operator_read(place.s, place.at, seen, h.line, h.rules, &mut rows[seen]) {
             return Ok(TreeRow {
                 children: rows[seen][CHILDREN],
                 next: end + 1,
@@ -184,7 +184,7 @@ pub fn read_tree(
     ensures answer { result ≡ rows_by (run_from (tree_by h.entry) 1 place.entry.s.now place.entry.line place.entry.at) }
     ensures left { Left (operator_rows 1) place.entry.s.now (run_from (tree_by h.entry) 1 place.entry.s.now place.entry.line place.entry.at) rows.old rows.new }
 {
-    let quick = quick_rows(h, rows.len());
+    let quick = quick_rows(h.line, h.most, rows.len());
     let mut p = place.at;
     let mut l = place.line;
     let mut n: usize = 0;

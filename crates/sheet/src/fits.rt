@@ -5,6 +5,7 @@ ghost use Rattle.sheet.specs.ListFits.{direction_counts, pair_counts, key_counts
 
 use keys::codes::Op;
 use keys::inputs::order_tried;
+use linekinds::plain::MARK;
 
 // A list that does not serve is empty.
 fn serves(b: bool, n: usize) -> bool
@@ -30,7 +31,7 @@ fn pairs_fit(op: u64, mode: u64, l: usize, g: usize, s: usize, w: usize) -> bool
     l == g && directions_fit(op, s, l) && serves(pairs, l) && serves(pairs, w / 2)
 }
 
-// The counts of a K sheet's lines.
+// The counts of a K sheet's lines. They stay a slice, as they are lent: an array type would ask for an exact number of them.
 #[tactic(auto, unfolding(crate::specs::ListFits::key_counts_fit))]
 pub fn key_lists_fit(op: u64, mode: u64, counts: &[usize]) -> bool
     requires { 9 ≤ length counts.now }
@@ -46,7 +47,7 @@ pub fn key_lists_fit(op: u64, mode: u64, counts: &[usize]) -> bool
 fn input_fits(mark: u64, n: usize) -> bool
     ensures { result ≡ input_counts mark n }
 {
-    mark == 1 || n <= 1
+    mark == MARK || n <= 1
 }
 
 // The counts of an I sheet's lines, and the marks of H and N.

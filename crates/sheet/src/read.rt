@@ -12,8 +12,8 @@ pub struct LinesRead {
     pub line: u64,
 }
 
-// The lines after the head, up to line n: line i goes into list i. The rooms stand apart, since of a struct of `&mut` each function would
-// have to promise that its references are still the same.
+// The lines after the head, up to line n: line i goes into list i. The three rooms stand apart: a slice lent by `&mut` stays as long as it
+// is, and of a struct each of three functions would have to promise that, as `SameSizes` of plansheet does of its eight rooms.
 fn read_lists(
     s: &[u8],
     at: usize,

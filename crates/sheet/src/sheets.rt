@@ -8,7 +8,7 @@ use crate::read::read_whole;
 use linekinds::lists::SheetKind;
 use refusals::{Refusal, Refused};
 
-// Whether the lists fit that were read of a sheet.
+// Whether the lists fit that were read of a sheet. The counts stay a slice, as in `fits`.
 fn lists_fit(k: SheetKind, lists: &[[u64; 64]], counts: &[usize]) -> bool
     requires { (most_lists k ≤ length lists.now) × (most_lists k ≤ length counts.now) }
     ensures { result ≡ lists_fit k lists.now counts.now }

@@ -1,10 +1,10 @@
 -- What a line of judged fields answers, by the tests that its reader makes.
 -- Assumes nothing.
-use mathlib.Core.Path.{◌≡◌, refl}
+use mathlib.Core.Path.{◌≡◌, refl, sym, subst}
 use mathlib.Core.List.{List, map}
 use mathlib.Core.Option.{Option, none, some}
 use mathlib.Core.Bool.{Bool, true, false, cond}
-use Prim.Native.Nat.{ℕ, ◌-◌, ◌≤◌}
+use Prim.Native.Nat.{ℕ, ◌≤◌}
 use native.Mathlib.Omega.{arith}
 use lib.ListN.{length, take, drop, length-map}
 use Rattle.text.specs.declared.field.Field.{Field}
@@ -41,11 +41,11 @@ module _ (bs : List (List ℕ)) (letter : ℕ) (s : List ℕ) (at : ℕ) (f : Fi
   other_count ne = rw (answer, uneven bs (map row o.fs) (λ q. ne (omega (arith, length-map o.fs row, o.counts))))
 
   module _ (out out' : List (List ℕ)) (stored : out' ≡ stored_in out (line_fields letter (line (drop at s)))) (room : f.count ≤ length out) where
-    held : take (f.count - 0) out' ≡ map row o.fs
-    held = let z : f.count - 0 ≡ length o.fs = omega (arith, o.counts) in rw z (rows_held letter s at o.fs o.is out out' stored (omega (arith, o.counts)))
+    held : take f.count out' ≡ map row o.fs
+    held = subst (λ (n : ℕ). take n out' ≡ map row o.fs) (sym o.counts) (rows_held letter s at o.fs o.is out out' stored (omega (arith, o.counts)))
 
-    pub fit : (r : Bool) → r ≡ fits_rows bs (take (f.count - 0) out') → r ≡ true → Ok (line_of f) ≡ judged bs (after s at) (line_at letter s at)
+    pub fit : (r : Bool) → r ≡ fits_rows bs (take f.count out') → r ≡ true → Ok (line_of f) ≡ judged bs (after s at) (line_at letter s at)
     fit r is t = rw (answer, ← held, ← is, t)
 
-    pub unfit : (r : Bool) → r ≡ fits_rows bs (take (f.count - 0) out') → r ≡ false → Err Unfit ≡ judged bs (after s at) (line_at letter s at)
+    pub unfit : (r : Bool) → r ≡ fits_rows bs (take f.count out') → r ≡ false → Err Unfit ≡ judged bs (after s at) (line_at letter s at)
     unfit r is t = rw (answer, ← held, ← is, t)

@@ -10,7 +10,6 @@ use lib.Dec.{leb, eqb}
 use lib.ListN.{length, get_or}
 use borrow.Author.Tests.{le-leb, lt-leb, leb-true, leb-false}
 use Rattle.std.proofs.lemmas.Bool.{and_parts}
-use Rattle.std.specs.Prelude.{slice_index, slice_index_or, EachIndex}
 use Rattle.text.specs.declared.field.Field.{Field}
 use Rattle.text.specs.declared.field.Field.TheVariants.{Number as number, Empty as empty, Malformed as malformed}
 use Rattle.text.specs.Text.{most, field, parts, fields, line_fields, state_of, value_of, row, greatest}
@@ -49,35 +48,25 @@ uneven [] (f ∷ fs) ne = refl
 uneven (b ∷ bs) [] ne = refl
 uneven (b ∷ bs) (f ∷ fs) ne = rw (uneven bs fs (λ e. ne (ap suc e)), and-false)
 
--- rows that are as many as their bounds are within them exactly where each is
-abbrev pub Within : List (List ℕ) → List (List ℕ) → ℕ → Type 0
-Within bs fs k = (slice_index (slice_index_or fs k []) 0 ≤ slice_index (slice_index_or bs k []) 0) × (slice_index (slice_index_or fs k []) 1 ≤ slice_index (slice_index_or bs k []) 1)
+-- the first of the rows decides, or else the rest
+module _ (b f : List ℕ) (bs fs : List (List ℕ)) where
+  pub over_state : get_or b 0 0 < get_or f 0 0 → fits_rows (b ∷ bs) (f ∷ fs) ≡ false
+  unfolding fits_rows
+  over_state h = rw (lt-leb (get_or f 0 0) (get_or b 0 0) h)
 
-pub fits_each : (bs fs : List (List ℕ)) → length fs ≡ length bs → EachIndex bs (Within bs fs) → fits_rows bs fs ≡ true
+  pub over_value : get_or b 1 0 < get_or f 1 0 → fits_rows (b ∷ bs) (f ∷ fs) ≡ false
+  unfolding fits_rows
+  over_value h = rw (lt-leb (get_or f 1 0) (get_or b 1 0) h, and-false)
+
+  pub within_both : get_or f 0 0 ≤ get_or b 0 0 → get_or f 1 0 ≤ get_or b 1 0 → fits_rows (b ∷ bs) (f ∷ fs) ≡ fits_rows bs fs
+  unfolding fits_rows
+  within_both h k = rw (le-leb (get_or f 0 0) (get_or b 0 0) h, le-leb (get_or f 1 0) (get_or b 1 0) k)
+
+pub none_left : (bs fs : List (List ℕ)) → length bs ≡ 0 → length fs ≡ 0 → fits_rows bs fs ≡ true
 unfolding fits_rows
-fits_each [] [] e h = refl
-fits_each [] (f ∷ fs) e h = absurd (omega arith)
-fits_each (b ∷ bs) [] e h = absurd (omega arith)
-fits_each (b ∷ bs) (f ∷ fs) e h =
-    let p = h 0 (omega arith) in
-    rw (le-leb (get_or f 0 0) (get_or b 0 0) p.0, le-leb (get_or f 1 0) (get_or b 1 0) p.1) (fits_each bs fs (omega arith) (λ k l. h (suc k) (omega arith)))
-
-pub each_fits : (bs fs : List (List ℕ)) → fits_rows bs fs ≡ true → EachIndex bs (Within bs fs)
-unfolding fits_rows
-each_fits [] fs e k l = absurd (omega arith)
-each_fits (b ∷ bs) [] e k l = absurd (cc)
-each_fits (b ∷ bs) (f ∷ fs) e zero l =
-    let p = and_parts (leb (get_or f 0 0) (get_or b 0 0)) (leb (get_or f 1 0) (get_or b 1 0)) (and_parts (row_within b f) (fits_rows bs fs) e).0 in
-    (leb-true (get_or f 0 0) (get_or b 0 0) p.0, leb-true (get_or f 1 0) (get_or b 1 0) p.1)
-each_fits (b ∷ bs) (f ∷ fs) e (suc k) l = each_fits bs fs (and_parts (row_within b f) (fits_rows bs fs) e).1 k (omega arith)
-
--- a row that is not within its bound
-pub row_outside : (bs fs : List (List ℕ)) (i : ℕ) → i < length bs → (Within bs fs i → ⊥) → fits_rows bs fs ≡ false
-row_outside bs fs i h n = go (fits_rows bs fs) refl
-  where
-    go : (t : Bool) → fits_rows bs fs ≡ t → t ≡ false
-    go true e = absurd (n (each_fits bs fs e i h))
-    go false e = refl
+none_left [] [] h k = refl
+none_left [] (f ∷ fs) h k = absurd (omega arith)
+none_left (b ∷ bs) fs h k = absurd (omega arith)
 
 -- ---- by the largest of them
 

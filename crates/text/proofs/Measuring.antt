@@ -61,7 +61,7 @@ pub adding_first : (rows : List (List ℕ)) (n : ℕ) → n ≡ 2 → Adding row
 adding_first rows n e = record { within = omega arith; near = omega arith; rest = rw e }
 
 module _ (rows : List (List ℕ)) (n i : ℕ) (a : Adding rows n i) where
-  pub adding_more : i < length rows → (k : ℕ) → k ≡ length (field_text (row_field (get_or rows i []))) → k ≤ 20 → Adding rows (n + 1 + k) (i + 1)
+  pub adding_more : i < length rows → (k : ℕ) → k ≡ length (field_text (row_field (get_or rows i []))) → k ≤ 20 → Adding rows (n + (1 + k)) (i + 1)
   adding_more h k is few =
       record {
         within = omega arith;

@@ -1,8 +1,9 @@
 -- How the single pass goes on from a position: each law speaks of `drop i s`.
 -- Assumes nothing.
-use mathlib.Core.Path.{◌≡◌, refl, sym, ◌∙◌}
-use mathlib.Core.List.{List}
-use mathlib.Core.Bool.{Bool, true, false}
+use mathlib.Core.Path.{◌≡◌, refl, sym, ap, ◌∙◌}
+use mathlib.Core.List.{List, [], ◌∷◌}
+use mathlib.Core.Bool.{Bool, true, false, cond, ◌||◌}
+use mathlib.Core.Logic.{◌⊎◌, ⊎_elim}
 use Prim.Native.Nat.{ℕ, suc, ◌+◌, ◌-◌, ◌*◌, ◌≤◌, ◌<◌, max}
 use native.Mathlib.Numerals.{add-one}
 use native.Mathlib.Omega.{arith}
@@ -10,6 +11,12 @@ use lib.Dec.{eqb, ltb}
 use lib.ListN.{length, drop, get_or, drop_of_length-le}
 use lib.Seq.{drop-cons}
 use borrow.Author.Tests.{eq-eqb, ne_eqb, le-leb, lt-leb, eqb-true, eqb-false, ltb-true, ltb-false}
+use denote.Ref.{Bor}
+use Rattle.std.specs.Prelude.{Option, None, Some}
+use Rattle.std.specs.Option.{MatchOption, unwrap_or}
+use Rattle.std.specs.List.{AllWithin, HoldsAt, slice_range}
+use Rattle.std.proofs.lemmas.Iterator.{index_from_first}
+use Rattle.std.proofs.lemmas.List.{take_all, length-drop}
 use Rattle.text.specs.declared.field.Field.TheVariants.{Number as number, Empty as empty, Malformed as malformed}
 use Rattle.text.specs.Text.{most}
 use Rattle.text.specs.Scan.{span, more_digits, first, ends_line}
@@ -127,3 +134,40 @@ search_past s at i e h g = go (ltb at (length s)) refl
     go : (t : Bool) → ltb at (length s) ≡ t → max (length s) at ≡ i
     go true q = let l = ltb-true at (length s) q in let k : i ≤ length s = g (omega arith) in omega arith
     go false q = let l = ltb-false at (length s) q in omega (arith, span_end s at l, span_end s i h)
+
+-- ---- a search for the first comma or LF
+
+span_hit : (x : ℕ) (xs : List ℕ) → true ≡ (eqb x 44 || eqb x 10) → span (x ∷ xs) ≡ 0
+unfolding span
+span_hit x xs = go (eqb x 44) (eqb x 10)
+  where
+    go : (a b : Bool) → true ≡ (a || b) → cond a 0 (cond b 0 (suc (span xs))) ≡ 0
+    go true b e = refl
+    go false true e = refl
+    go false false e = absurd (cc)
+
+span_miss : (x : ℕ) (xs : List ℕ) → false ≡ (eqb x 44 || eqb x 10) → span (x ∷ xs) ≡ span xs + 1
+unfolding span
+span_miss x xs = go (eqb x 44) (eqb x 10)
+  where
+    go : (a b : Bool) → false ≡ (a || b) → cond a 0 (cond b 0 (suc (span xs))) ≡ span xs + 1
+    go true b e = absurd (cc)
+    go false true e = absurd (cc)
+    go false false e = omega arith
+
+span_none : span [] ≡ 0
+unfolding span
+span_none = refl
+
+-- where it was found, or else the length, is the span
+pub span_found : (xs : List ℕ) (r : Option ℕ) →
+    MatchOption r (AllWithin (λ b. false ≡ (eqb b 44 || eqb b 10)) xs 0 (length xs)) (λ i. (i < length xs) × HoldsAt (λ b. true ≡ (eqb b 44 || eqb b 10)) xs i × AllWithin (λ b. false ≡ (eqb b 44 || eqb b 10)) xs 0 i) →
+    unwrap_or r (length xs) ≡ span xs
+span_found xs r m = sym (index_from_first span (λ b. true ≡ (eqb b 44 || eqb b 10)) (λ b. false ≡ (eqb b 44 || eqb b 10)) span_none span_hit span_miss xs r m)
+
+-- what stands from a place on, or nothing where the text has ended
+pub rest_from : (s : List ℕ) (at : ℕ) (o : Option (Bor (List ℕ))) (none r : Bor (List ℕ)) → r ≡ unwrap_or o none → none.now ≡ [] →
+    MatchOption o ((length s < at) ⊎ (length s < length s)) (λ x. (at ≤ length s) × (length s ≤ length s) × (x.now ≡ slice_range s at (length s)) × (length x.now + at ≡ length s)) →
+    r.now ≡ drop at s
+rest_from s at None none r is e m = ap (λ x. x.now) is ∙ e ∙ sym (drop_of_length-le s (⊎_elim (λ h. omega (arith, h)) (λ h. absurd (omega (arith, h))) m))
+rest_from s at (Some x) none r is e m = ap (λ y. y.now) is ∙ m.2 ∙ take_all (length s - at) (drop at s) (omega (arith, length-drop at s))

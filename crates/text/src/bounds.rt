@@ -26,8 +26,8 @@ pub fn rows_fit(bounds: &[[u64; 2]], rows: &[[u64; 2]]) -> bool
     if rows.len() != bounds.len() {
         return false;
     }
-    for (i, bound) in bounds.iter().enumerate() {
-        if bound[0] < rows[i][0] || bound[1] < rows[i][1] {
+    for (bound, row) in bounds.iter().zip(rows) {
+        if bound[0] < row[0] || bound[1] < row[1] {
             return false;
         }
     }
@@ -52,7 +52,7 @@ pub fn fixed_at(
     if count != bounds.len() {
         return Err(Misfit::Unfit);
     }
-    if !rows_fit(bounds, &out[0..count]) {
+    if !rows_fit(bounds, &out[..count]) {
         return Err(Misfit::Unfit);
     }
     Ok(Judged { count, next })

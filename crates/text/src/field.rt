@@ -6,10 +6,8 @@ ghost use Rattle.text.specs.Scan.{span, more_digits, first, DigitAndComma};
 ghost use Rattle.text.specs.Read.{field_to};
 ghost use Rattle.text.specs.Write.{row_field};
 
-const MOST: u64 = 18446744073709551615;
-
 // The largest number of which ten times as much still fits.
-const TENTH: u64 = 1844674407370955161;
+const TENTH: u64 = u64::MAX / 10;
 
 // A number of 64 bits, nothing, or anything else.
 #[derive(Clone, Copy, PartialEq, Eq, Debug)]
@@ -65,13 +63,11 @@ pub struct Scanned {
 fn field_end(s: &[u8], at: usize) -> usize
     ensures place { result ≡ at + span (drop at s.now) }
 {
-    for i in at..s.len() {
-        let b = s[i];
-        if b == b',' || b == b'\n' {
-            return i;
-        }
-    }
-    s.len().max(at)
+    let rest = s.get(at..).unwrap_or(&[]);
+    at + rest
+        .iter()
+        .position(|b| *b == b',' || *b == b'\n')
+        .unwrap_or(rest.len())
 }
 
 // A field that is malformed, and that goes on at `at`.
@@ -97,12 +93,12 @@ fn more_digits(s: &[u8], at: usize, begun: u64) -> Scanned
                 field: Field::Number(n),
             };
         }
-        if b < b'0' || b > b'9' || n == 0 || n > TENTH {
+        if !b.is_ascii_digit() || n == 0 || n > TENTH {
             return malformed_at(s, i);
         }
         let d = u64::from(b - b'0');
         let m = n * 10;
-        if m > MOST - d {
+        if m > u64::MAX - d {
             return malformed_at(s, i);
         }
         n = m + d;
@@ -124,7 +120,7 @@ pub(crate) fn field_at(s: &[u8], at: usize) -> Scanned
         };
     }
     let b = s[at];
-    if b < b'0' || b > b'9' {
+    if !b.is_ascii_digit() {
         return malformed_at(s, at);
     }
     more_digits(s, at + 1, u64::from(b - b'0'))

@@ -15,7 +15,7 @@ pub fn number_length(n: u64) -> usize
     let mut k: usize = 1;
     // No `for`: the powers of ten end by the number, after as many turns as are to be counted.
     while power <= tenth {
-        power = power * 10;
+        power *= 10;
         k += 1;
     }
     k
@@ -37,7 +37,7 @@ pub fn line_length(rows: &[[u64; 2]]) -> usize
 {
     let mut n: usize = 2;
     for row in rows {
-        n = n + 1 + field_length(Field::of_row(row));
+        n += 1 + field_length(Field::of_row(row));
     }
     n
 }
@@ -69,7 +69,7 @@ fn put_digits(out: &mut [u8], end: usize, n: u64)
     // No `for`: a digit a turn, from the last place backwards, as many as the number has.
     while m >= 10 {
         out[i] = digit(m % 10);
-        m = m / 10;
+        m /= 10;
         i -= 1;
     }
     out[i] = digit(m);

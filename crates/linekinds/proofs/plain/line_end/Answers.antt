@@ -7,8 +7,8 @@ use Rattle.linekinds.proofs.plain.line_end.Goals as goal
 pub returns-then-not-stands : goal.returns-then-not-stands
 returns-then-not-stands c = tt
 
-pub returns-then-at-ge65536 : goal.returns-then-at-ge65536
-returns-then-at-ge65536 c = tt
+pub returns-then-at-ge-MOST_BYTES : goal.returns-then-at-ge-MOST_BYTES
+returns-then-at-ge-MOST_BYTES c = tt
 
 pub returns : goal.returns
 returns c =

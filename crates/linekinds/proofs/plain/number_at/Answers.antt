@@ -1,5 +1,5 @@
 -- `linekinds::plain::number_at` meets its contract. The digits so far are those of n, and each further one goes behind them (`next_digit`).
-use Prim.Native.Nat.{ℕ, ◌+◌, ◌-◌, ◌*◌}
+use Prim.Native.Nat.{ℕ, ◌+◌, ◌*◌}
 use mathlib.Core.Path.{ap}
 use native.Mathlib.Omega.{arith}
 use Rattle.linekinds.specs.PlainText.{DigitAt}
@@ -14,10 +14,10 @@ bounds-s-at c =
     let first : DigitAt c.args.s.now c.args.at = c.digit_at.ensures.0 c.if-not-digit_at.false in
     omega (arith, (first).0)
 
-pub overflow_sub-n : goal.overflow_sub-n
-overflow_sub-n c =
+pub overflow_sub-s : goal.overflow_sub-s
+overflow_sub-s c =
     let first : DigitAt c.args.s.now c.args.at = c.digit_at.ensures.0 c.if-not-digit_at.false in
-    omega (arith, (first).1, c.from-n.ensures)
+    omega (arith, (first).1)
 
 pub overflow_add-p : goal.overflow_add-p
 overflow_add-p c =
@@ -28,7 +28,7 @@ pub loop-at-init : goal.loop-at-init
 loop-at-init c =
     let first : DigitAt c.args.s.now c.args.at = c.digit_at.ensures.0 c.if-not-digit_at.false in
     let f = first in
-    (first_digit _ _ _ f (ap (λ (x : ℕ). x - 48) c.from-n.ensures), omega (arith, f.2, c.from-n.ensures))
+    (first_digit _ _ _ f (c.from-n.ensures), omega (arith, f.2, c.from-n.ensures))
 
 pub returns-then-n-eq0 : goal.returns-then-n-eq0
 returns-then-n-eq0 c = tt
@@ -41,10 +41,10 @@ bounds-s-p c =
     let second : DigitAt c.args.s.now c.loop-at.p = c.digit_at-in-loop-at.ensures.0 c.loop-at-test.true in
     omega (arith, (second).0)
 
-pub overflow_sub-n-in-loop-at : goal.overflow_sub-n-in-loop-at
-overflow_sub-n-in-loop-at c =
+pub overflow_sub-s-in-loop-at : goal.overflow_sub-s-in-loop-at
+overflow_sub-s-in-loop-at c =
     let second : DigitAt c.args.s.now c.loop-at.p = c.digit_at-in-loop-at.ensures.0 c.loop-at-test.true in
-    omega (arith, (second).1, c.from.ensures)
+    omega (arith, (second).1)
 
 pub overflow_add-n : goal.overflow_add-n
 overflow_add-n c =
@@ -67,7 +67,7 @@ loop-at-smaller c =
 pub loop-at-preserved : goal.loop-at-preserved
 loop-at-preserved c =
     let second : DigitAt c.args.s.now c.loop-at.p = c.digit_at-in-loop-at.ensures.0 c.loop-at-test.true in
-    (next_digit _ _ c.loop-at.n _ _ c.loop-at.invariant.0 (second) (λ e. omega arith) (ap (λ (x : ℕ). c.loop-at.n * 10 + (x - 48)) c.from.ensures), omega arith)
+    (next_digit _ _ c.loop-at.n _ _ c.loop-at.invariant.0 (second) (λ e. omega arith) (ap (λ (x : ℕ). c.loop-at.n * 10 + x) c.from.ensures), omega arith)
 
 pub returns : goal.returns
 returns c = c.loop-at.invariant

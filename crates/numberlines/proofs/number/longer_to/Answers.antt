@@ -1,5 +1,5 @@
 -- `numberlines::number::longer_to` meets its contract. Each further digit goes behind those so far (`next_digit`), and is not the text's last byte.
-use Prim.Native.Nat.{ℕ, ◌+◌, ◌-◌, ◌*◌}
+use Prim.Native.Nat.{ℕ, ◌+◌, ◌*◌}
 use mathlib.Core.Path.{sym, ap, ◌∙◌}
 use native.Mathlib.Omega.{arith}
 use Rattle.linekinds.specs.PlainText.{DigitAt}
@@ -16,10 +16,10 @@ returns-then-n-eq0 c = λ from t. tt
 pub overflow_mul-n : goal.overflow_mul-n
 overflow_mul-n c = omega (arith, c.loop-bound.invariant.1)
 
-pub overflow_sub-n : goal.overflow_sub-n
-overflow_sub-n c =
+pub overflow_sub-s : goal.overflow_sub-s
+overflow_sub-s c =
     let more : DigitAt c.args.s.now c.loop-bound.p = digit_here _ _ c.loop-bound.invariant.0 (sym c.is_ascii_digit.ensures.value ∙ c.loop-bound-test.true) in
-    omega (arith, (more).1, c.from.ensures)
+    omega (arith, (more).1)
 
 pub overflow_add-n : goal.overflow_add-n
 overflow_add-n c =
@@ -43,7 +43,7 @@ pub loop-bound-preserved : goal.loop-bound-preserved
 loop-bound-preserved c =
     let more : DigitAt c.args.s.now c.loop-bound.p = digit_here _ _ c.loop-bound.invariant.0 (sym c.is_ascii_digit.ensures.value ∙ c.loop-bound-test.true) in
     let d = more in
-    (digit_next c.args.s.now c.loop-bound.p c.requires.0 d, omega arith, λ from t. next_digit _ from c.loop-bound.n _ _ (c.loop-bound.invariant.2 from t) d (λ e. omega arith) (ap (λ (x : ℕ). c.loop-bound.n * 10 + (x - 48)) c.from.ensures))
+    (digit_next c.args.s.now c.loop-bound.p c.requires.0 d, omega arith, λ from t. next_digit _ from c.loop-bound.n _ _ (c.loop-bound.invariant.2 from t) d (λ e. omega arith) (ap (λ (x : ℕ). c.loop-bound.n * 10 + x) c.from.ensures))
 
 pub bounds-s-p-2 : goal.bounds-s-p-2
 bounds-s-p-2 c = omega (arith, c.loop-bound.invariant.0)

@@ -1,6 +1,6 @@
 -- `numberlines::number::number_to` meets its contract: a digit, and either the byte after it or what `longer_to` finds.
-use Prim.Native.Nat.{ℕ, ◌+◌, ◌-◌}
-use mathlib.Core.Path.{sym, ap, ◌∙◌}
+use Prim.Native.Nat.{◌+◌}
+use mathlib.Core.Path.{sym, ◌∙◌}
 use native.Mathlib.Omega.{arith}
 use Rattle.linekinds.specs.PlainText.{DigitAt}
 use Rattle.linekinds.proofs.PlainText.{first_digit}
@@ -13,10 +13,10 @@ overflow_add-at c = omega (arith, c.args.from.here.0)
 pub bounds-s-at : goal.bounds-s-at
 bounds-s-at c = comma_next c.args.from
 
-pub overflow_sub-n : goal.overflow_sub-n
-overflow_sub-n c =
+pub overflow_sub-s : goal.overflow_sub-s
+overflow_sub-s c =
     let first : DigitAt c.args.from.s.now (c.args.from.at + 1) = digit_here _ _ (comma_next c.args.from) (sym c.is_ascii_digit.ensures.value ∙ c.if-not-is_ascii_digit.false) in
-    omega (arith, first.1, c.from-n.ensures)
+    omega (arith, first.1)
 
 pub bounds-s-p : goal.bounds-s-p
 bounds-s-p c = digit_next _ _ c.args.from.closed (digit_here _ _ (comma_next c.args.from) (sym c.is_ascii_digit.ensures.value ∙ c.if-not-is_ascii_digit.false))
@@ -25,7 +25,7 @@ pub returns-then-s-p : goal.returns-then-s-p
 returns-then-s-p c =
     let first : DigitAt c.args.from.s.now (c.args.from.at + 1) = digit_here _ _ (comma_next c.args.from) (sym c.is_ascii_digit.ensures.value ∙ c.if-not-is_ascii_digit.false) in
     record {
-      text = first_digit _ _ _ first (ap (λ (x : ℕ). x - 48) c.from-n.ensures);
+      text = first_digit _ _ _ first (c.from-n.ensures);
       within = omega (arith, first.2, c.from-n.ensures, c.args.bound.digit);
       ends = (digit_next _ _ c.args.from.closed first, c.if-s-p.true);
     }
@@ -38,4 +38,4 @@ longer_to-requires c =
 pub returns : goal.returns
 returns c =
     let first : DigitAt c.args.from.s.now (c.args.from.at + 1) = digit_here _ _ (comma_next c.args.from) (sym c.is_ascii_digit.ensures.value ∙ c.if-not-is_ascii_digit.false) in
-    c.longer_to.ensures (c.args.from.at + 1) (first_digit _ _ _ first (ap (λ (x : ℕ). x - 48) c.from-n.ensures))
+    c.longer_to.ensures (c.args.from.at + 1) (first_digit _ _ _ first (c.from-n.ensures))

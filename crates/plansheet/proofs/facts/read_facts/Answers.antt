@@ -25,23 +25,23 @@ use Rattle.plansheet.proofs.facts.read_facts.Goals as goal
 abbrev back : Refused → Result RowsRead Refused
 back w = Err w
 
-pub returns-then-eq-clause-answer : goal.returns-then-eq-clause-answer
-returns-then-eq-clause-answer c =
+pub returns-in-Refused-clause-answer : goal.returns-in-Refused-clause-answer
+returns-in-Refused-clause-answer c =
     let l = c.loop-next in let s = c.args.place.s.now in
     let q = turned fact_line l.n (after s l.p) (line_at 88 s l.p) _ (sym c.in-Refused.is ∙ c.read_fact.ensures.answer l.n) in
     let number : line_number fact_line l.n (after s l.p) (line_at 88 s l.p) ≡ 1 = one_again fact_line l.n (after s l.p) (line_at 88 s l.p) q.1 (sym q.0 ∙ same_wrong c.in-Refused.refusal (sym c.eq.ensures ∙ c.if-eq.true)) in
     (head_done number_rows _ numbers_made fact_line _ _ _ _ _ _ _ _ l.invariant.0 (one_none fact_line l.n (after s l.p) (line_at 88 s l.p) number)).0
 
-pub returns-then-eq-clause-left : goal.returns-then-eq-clause-left
-returns-then-eq-clause-left c =
+pub returns-in-Refused-clause-left : goal.returns-in-Refused-clause-left
+returns-in-Refused-clause-left c =
     let l = c.loop-next in let s = c.args.place.s.now in
     let q = turned fact_line l.n (after s l.p) (line_at 88 s l.p) _ (sym c.in-Refused.is ∙ c.read_fact.ensures.answer l.n) in
     let number : line_number fact_line l.n (after s l.p) (line_at 88 s l.p) ≡ 1 = one_again fact_line l.n (after s l.p) (line_at 88 s l.p) q.1 (sym q.0 ∙ same_wrong c.in-Refused.refusal (sym c.eq.ensures ∙ c.if-eq.true)) in
     let alone : c.read_fact.new.rows ≡ l.rows = subst (λ (x : Read). FactLeft (line_at 88 s l.p) l.n l.rows x c.read_fact.new.rows) c.in-Refused.is c.read_fact.ensures.stored (same_wrong c.in-Refused.refusal (sym c.eq.ensures ∙ c.if-eq.true)) in
     rw alone (head_done number_rows _ numbers_made fact_line _ _ _ _ _ _ _ _ l.invariant.0 (one_none fact_line l.n (after s l.p) (line_at 88 s l.p) number)).1
 
-pub returns-in-Refused-clause-answer : goal.returns-in-Refused-clause-answer
-returns-in-Refused-clause-answer c =
+pub returns-in-Refused-2-clause-answer : goal.returns-in-Refused-2-clause-answer
+returns-in-Refused-2-clause-answer c =
     let l = c.loop-next in let s = c.args.place.s.now in
     let told = sym c.in-Refused.is ∙ c.read_fact.ensures.answer l.n in
     let q = turned fact_line l.n (after s l.p) (line_at 88 s l.p) _ told in
@@ -49,8 +49,8 @@ returns-in-Refused-clause-answer c =
     let both = head_refused number_rows _ numbers_made fact_line _ _ _ _ _ _ _ _ l.invariant.0 (other_some fact_line l.n (after s l.p) (line_at 88 s l.p) (λ z. other_wrong c.in-Refused.refusal (sym c.eq.ensures ∙ c.if-eq.false) (q.0 ∙ ap refusal_of z))) _ told c.read_fact.new.rows long in
     ap back c.on_line.ensures ∙ both.0
 
-pub returns-in-Refused-clause-left : goal.returns-in-Refused-clause-left
-returns-in-Refused-clause-left c =
+pub returns-in-Refused-2-clause-left : goal.returns-in-Refused-2-clause-left
+returns-in-Refused-2-clause-left c =
     let l = c.loop-next in let s = c.args.place.s.now in
     let told = sym c.in-Refused.is ∙ c.read_fact.ensures.answer l.n in
     let q = turned fact_line l.n (after s l.p) (line_at 88 s l.p) _ told in

@@ -1,13 +1,15 @@
--- `fits::fit::within_bits` meets its contract: halving the mask and counting down keeps the answer (`Fitting`).
-use mathlib.Core.Path.{sym, ◌∙◌}
-use Rattle.plansheet.proofs.Fitting.{within_zero, within_more, within_done}
+-- `fit::within_bits` meets its contract: none is left where the first n bits are shifted out (`Fitting`).
+use mathlib.Core.Path.{sym}
+use native.Mathlib.Omega.{arith}
+use borrow.Author.Tests.{le-leb}
+use Rattle.std.proofs.Math.Pow.{pow_mono}
+use Rattle.plansheet.proofs.Fitting.{within_shifted, within_wide}
 use Rattle.plansheet.proofs.fit.within_bits.Goals as goal
 
-pub returns-then-m-eq0 : goal.returns-then-m-eq0
-returns-then-m-eq0 c = let l = c.loop-k in sym (l.invariant ∙ rw c.if-m-eq0.true (within_zero l.k))
+pub returns-then-n-from : goal.returns-then-n-from
+returns-then-n-from c =
+    let a = c.args in
+    rw (le-leb _ _ c.if-n-from.true) (sym (within_wide a.n a.mask (omega (arith, c.ranges.mask.fits, pow_mono {i = 64} {j = a.n} (omega (arith, c.from.ensures, c.if-n-from.true))))))
 
-pub loop-k-preserved : goal.loop-k-preserved
-loop-k-preserved c = let l = c.loop-k in l.invariant ∙ within_more l.k l.m c.loop-k-test.true
-
-pub returns : goal.returns
-returns c = let l = c.loop-k in sym (l.invariant ∙ rw c.loop-k-test.false (within_done l.m))
+pub returns-else-n-from : goal.returns-else-n-from
+returns-else-n-from c = sym (within_shifted c.args.n c.args.mask)

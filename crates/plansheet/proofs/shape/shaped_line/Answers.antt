@@ -39,17 +39,17 @@ module _ (s : List ℕ) (at : ℕ) (h : LineShape) (fields fields' : List (List 
 pub returns-in-Err-clause-answer : goal.returns-in-Err-clause-answer
 returns-in-Err-clause-answer c =
     let a = c.args in
-    λ seen. ap Refused c.misfit_refusal.ensures ∙ line_refused a.h.bounds.now a.h.bounded (fixed_line (shape_by a.h)) refl refl seen (after a.s.now a.at) (line_at a.h.letter a.s.now a.at) _ (sym c.in-Err.is ∙ c.fixed_at.ensures.answer)
+    λ seen. ap Refused c.misfit_refusal.ensures ∙ line_refused a.h.bounds.now c.requires.1 (fixed_line (shape_by a.h)) refl refl seen (after a.s.now a.at) (line_at a.h.letter a.s.now a.at) _ (sym c.in-Err.is ∙ c.fixed_at.ensures.answer)
 
 pub slice_bounds-judge_shape-end : goal.slice_bounds-judge_shape-end
 slice_bounds-judge_shape-end c =
     let a = c.args in
-    omega (arith, long a.s.now a.at a.h a.fields.now c.fixed_at.new.out c.in-Ok.j (sym c.in-Ok.is ∙ c.fixed_at.ensures.answer) c.fixed_at.ensures.stored a.h.bounded c.requires, c.requires, c.fixed_at.auto.out)
+    omega (arith, long a.s.now a.at a.h a.fields.now c.fixed_at.new.out c.in-Ok.j (sym c.in-Ok.is ∙ c.fixed_at.ensures.answer) c.fixed_at.ensures.stored c.requires.1 c.requires.0, c.requires, c.fixed_at.auto.out)
 
 pub slice_bounds-judge_shape-end-2 : goal.slice_bounds-judge_shape-end-2
 slice_bounds-judge_shape-end-2 c =
     let a = c.args in
-    sym (length-take-le _ _ (omega (arith, long a.s.now a.at a.h a.fields.now c.fixed_at.new.out c.in-Ok.j (sym c.in-Ok.is ∙ c.fixed_at.ensures.answer) c.fixed_at.ensures.stored a.h.bounded c.requires, c.requires, c.fixed_at.auto.out)))
+    sym (length-take-le _ _ (omega (arith, long a.s.now a.at a.h a.fields.now c.fixed_at.new.out c.in-Ok.j (sym c.in-Ok.is ∙ c.fixed_at.ensures.answer) c.fixed_at.ensures.stored c.requires.1 c.requires.0, c.requires, c.fixed_at.auto.out)))
 
 pub returns-in-Err-judge_shape-clause-answer : goal.returns-in-Err-judge_shape-clause-answer
 returns-in-Err-judge_shape-clause-answer c =
@@ -57,8 +57,8 @@ returns-in-Err-judge_shape-clause-answer c =
     let so = sym c.in-Ok.is ∙ c.fixed_at.ensures.answer in
     let n : ℕ = shape_number a.h.sizes.now a.h.codes.now j.next (row_values (take j.count c.fixed_at.new.out)) in
     let e = judged_err n c.in-Err-judge_shape.refusal (sym c.in-Err-judge_shape.is ∙ c.judge_shape.ensures) in
-    λ seen. ap Refused e.1 ∙ line_turned a.h.bounds.now a.h.bounded (fixed_line (shape_by a.h)) refl refl seen (after a.s.now a.at) (line_at a.h.letter a.s.now a.at) j (passed _ _ _ j so) n
-    (number a.s.now a.at a.h a.fields.now c.fixed_at.new.out j so c.fixed_at.ensures.stored a.h.bounded c.requires seen) e.0
+    λ seen. ap Refused e.1 ∙ line_turned a.h.bounds.now c.requires.1 (fixed_line (shape_by a.h)) refl refl seen (after a.s.now a.at) (line_at a.h.letter a.s.now a.at) j (passed _ _ _ j so) n
+    (number a.s.now a.at a.h a.fields.now c.fixed_at.new.out j so c.fixed_at.ensures.stored c.requires.1 c.requires.0 seen) e.0
 
 pub returns-clause-answer : goal.returns-clause-answer
 returns-clause-answer c =
@@ -66,5 +66,5 @@ returns-clause-answer c =
     let so = sym c.in-Ok.is ∙ c.fixed_at.ensures.answer in
     let n : ℕ = shape_number a.h.sizes.now a.h.codes.now j.next (row_values (take j.count c.fixed_at.new.out)) in
     let right = judged_ok n i.field-0 (sym i.is ∙ c.judge_shape.ensures) in
-    λ seen. line_read_lem a.h.bounds.now a.h.bounded (fixed_line (shape_by a.h)) refl refl seen (after a.s.now a.at) (line_at a.h.letter a.s.now a.at) j (passed _ _ _ j so) n
-    (number a.s.now a.at a.h a.fields.now c.fixed_at.new.out j so c.fixed_at.ensures.stored a.h.bounded c.requires seen) right
+    λ seen. line_read_lem a.h.bounds.now c.requires.1 (fixed_line (shape_by a.h)) refl refl seen (after a.s.now a.at) (line_at a.h.letter a.s.now a.at) j (passed _ _ _ j so) n
+    (number a.s.now a.at a.h a.fields.now c.fixed_at.new.out j so c.fixed_at.ensures.stored c.requires.1 c.requires.0 seen) right

@@ -40,22 +40,22 @@ module _ (s : List ℕ) (at seen : ℕ) (h : TreeShape) (fields fields' : List (
 pub returns-in-Err-clause-answer : goal.returns-in-Err-clause-answer
 returns-in-Err-clause-answer c =
     let a = c.args in
-    ap Refused c.misfit_refusal.ensures ∙ line_refused a.h.line.bounds.now a.h.line.bounded (tree_by a.h) refl refl a.seen (after a.s.now a.at) (line_at a.h.line.letter a.s.now a.at) _ (sym c.in-Err.is ∙ c.fixed_at.ensures.answer)
+    ap Refused c.misfit_refusal.ensures ∙ line_refused a.h.line.bounds.now a.h.bounded (tree_by a.h) refl refl a.seen (after a.s.now a.at) (line_at a.h.line.letter a.s.now a.at) _ (sym c.in-Err.is ∙ c.fixed_at.ensures.answer)
 
 pub slice_bounds-judge_tree-end : goal.slice_bounds-judge_tree-end
 slice_bounds-judge_tree-end c =
     let a = c.args in
-    omega (arith, long a.s.now a.at a.seen a.h a.fields.now c.fixed_at.new.out c.in-Ok.j (sym c.in-Ok.is ∙ c.fixed_at.ensures.answer) c.fixed_at.ensures.stored a.h.line.bounded c.requires, c.requires, c.fixed_at.auto.out)
+    omega (arith, long a.s.now a.at a.seen a.h a.fields.now c.fixed_at.new.out c.in-Ok.j (sym c.in-Ok.is ∙ c.fixed_at.ensures.answer) c.fixed_at.ensures.stored a.h.bounded c.requires, c.requires, c.fixed_at.auto.out)
 
 pub slice_bounds-judge_tree-end-2 : goal.slice_bounds-judge_tree-end-2
 slice_bounds-judge_tree-end-2 c =
     let a = c.args in
-    sym (length-take-le _ _ (omega (arith, long a.s.now a.at a.seen a.h a.fields.now c.fixed_at.new.out c.in-Ok.j (sym c.in-Ok.is ∙ c.fixed_at.ensures.answer) c.fixed_at.ensures.stored a.h.line.bounded c.requires, c.requires, c.fixed_at.auto.out)))
+    sym (length-take-le _ _ (omega (arith, long a.s.now a.at a.seen a.h a.fields.now c.fixed_at.new.out c.in-Ok.j (sym c.in-Ok.is ∙ c.fixed_at.ensures.answer) c.fixed_at.ensures.stored a.h.bounded c.requires, c.requires, c.fixed_at.auto.out)))
 
 pub judge_tree-requires : goal.judge_tree-requires
 judge_tree-requires c =
     let a = c.args in
-    rw (rows_many a.s.now a.at a.seen a.h a.fields.now c.fixed_at.new.out c.in-Ok.j (sym c.in-Ok.is ∙ c.fixed_at.ensures.answer) c.fixed_at.ensures.stored a.h.line.bounded c.requires) a.h.eight
+    rw (rows_many a.s.now a.at a.seen a.h a.fields.now c.fixed_at.new.out c.in-Ok.j (sym c.in-Ok.is ∙ c.fixed_at.ensures.answer) c.fixed_at.ensures.stored a.h.bounded c.requires) a.h.eight
 
 pub returns-in-Err-judge_tree-clause-answer : goal.returns-in-Err-judge_tree-clause-answer
 returns-in-Err-judge_tree-clause-answer c =
@@ -63,8 +63,8 @@ returns-in-Err-judge_tree-clause-answer c =
     let so = sym c.in-Ok.is ∙ c.fixed_at.ensures.answer in
     let n : ℕ = tree_number a.h.line.sizes.now a.h.line.codes.now a.h.rules.now a.h.most a.seen j.next (take j.count c.fixed_at.new.out) in
     let e = judged_err n c.in-Err-judge_tree.refusal (sym c.in-Err-judge_tree.is ∙ c.judge_tree.ensures) in
-    ap Refused e.1 ∙ line_turned a.h.line.bounds.now a.h.line.bounded (tree_by a.h) refl refl a.seen (after a.s.now a.at) (line_at a.h.line.letter a.s.now a.at) j (passed _ _ _ j so) n
-    (number a.s.now a.at a.seen a.h a.fields.now c.fixed_at.new.out j so c.fixed_at.ensures.stored a.h.line.bounded c.requires) e.0
+    ap Refused e.1 ∙ line_turned a.h.line.bounds.now a.h.bounded (tree_by a.h) refl refl a.seen (after a.s.now a.at) (line_at a.h.line.letter a.s.now a.at) j (passed _ _ _ j so) n
+    (number a.s.now a.at a.seen a.h a.fields.now c.fixed_at.new.out j so c.fixed_at.ensures.stored a.h.bounded c.requires) e.0
 
 pub returns-clause-answer : goal.returns-clause-answer
 returns-clause-answer c =
@@ -72,5 +72,5 @@ returns-clause-answer c =
     let so = sym c.in-Ok.is ∙ c.fixed_at.ensures.answer in
     let n : ℕ = tree_number a.h.line.sizes.now a.h.line.codes.now a.h.rules.now a.h.most a.seen j.next (take j.count c.fixed_at.new.out) in
     let right = judged_ok n i.field-0 (sym i.is ∙ c.judge_tree.ensures) in
-    line_read_lem a.h.line.bounds.now a.h.line.bounded (tree_by a.h) refl refl a.seen (after a.s.now a.at) (line_at a.h.line.letter a.s.now a.at) j (passed _ _ _ j so) n
-    (number a.s.now a.at a.seen a.h a.fields.now c.fixed_at.new.out j so c.fixed_at.ensures.stored a.h.line.bounded c.requires) right
+    line_read_lem a.h.line.bounds.now a.h.bounded (tree_by a.h) refl refl a.seen (after a.s.now a.at) (line_at a.h.line.letter a.s.now a.at) j (passed _ _ _ j so) n
+    (number a.s.now a.at a.seen a.h a.fields.now c.fixed_at.new.out j so c.fixed_at.ensures.stored a.h.bounded c.requires) right

@@ -17,7 +17,7 @@ returns-in-Ok-clause-answer c =
     let held : let a = c.args in OperatorHeld a.h.line.letter a.place.s.now a.place.at a.seen a.h.line.codes.now a.h.rules.now c.in-Ok.end c.operator_read.new.row = let a = c.args in subst (λ (x : Result ℕ Unread). OperatorRead a.h.line.letter a.place.s.now a.place.at a.seen a.h.line.codes.now a.h.rules.now x c.operator_read.new.row) c.in-Ok.is c.operator_read.ensures in
     let shape : let a = c.args in PlainShape a.h.line.letter a.h.line.bounds.now a.h.line.sizes.now a.h.line.codes.now = c.requires.plain_shape.0 (omega (arith, c.if-seen-quick.true)) in
     let a = c.args in let d = held in
-    let f : a.seen < a.h.most = omega (arith, c.if-seen-quick.true, c.requires.plain_shape) in quick_row a.h.line.letter a.h.line.bounds.now a.h.line.sizes.now a.h.line.codes.now a.h.rules.now a.h.most a.seen a.place.s.now a.place.at (shape) c.args.h.line.bounded f _ _ d _
+    let f : a.seen < a.h.most = omega (arith, c.if-seen-quick.true, c.requires.plain_shape) in quick_row a.h.line.letter a.h.line.bounds.now a.h.line.sizes.now a.h.line.codes.now a.h.rules.now a.h.most a.seen a.place.s.now a.place.at (shape) c.args.h.bounded f _ _ d _
     (ap (λ (r : List ℕ). get_or r 10 0) (get_or-set_same a.rows.now a.seen c.operator_read.new.row [] (omega (arith, c.if-seen-quick.true, c.requires.plain_shape))))
 
 pub returns-in-Ok-clause-stored : goal.returns-in-Ok-clause-stored
@@ -25,7 +25,7 @@ returns-in-Ok-clause-stored c =
     let held : let a = c.args in OperatorHeld a.h.line.letter a.place.s.now a.place.at a.seen a.h.line.codes.now a.h.rules.now c.in-Ok.end c.operator_read.new.row = let a = c.args in subst (λ (x : Result ℕ Unread). OperatorRead a.h.line.letter a.place.s.now a.place.at a.seen a.h.line.codes.now a.h.rules.now x c.operator_read.new.row) c.in-Ok.is c.operator_read.ensures in
     let shape : let a = c.args in PlainShape a.h.line.letter a.h.line.bounds.now a.h.line.sizes.now a.h.line.codes.now = c.requires.plain_shape.0 (omega (arith, c.if-seen-quick.true)) in
     let a = c.args in let d = held in
-    let f : a.seen < a.h.most = omega (arith, c.if-seen-quick.true, c.requires.plain_shape) in λ z. ap (set a.rows.now a.seen) (quick_held a.h.line.letter a.h.line.bounds.now a.h.line.sizes.now a.h.line.codes.now a.h.rules.now a.h.most a.seen a.place.s.now a.place.at (shape) c.args.h.line.bounded f _ _ d)
+    let f : a.seen < a.h.most = omega (arith, c.if-seen-quick.true, c.requires.plain_shape) in λ z. ap (set a.rows.now a.seen) (quick_held a.h.line.letter a.h.line.bounds.now a.h.line.sizes.now a.h.line.codes.now a.h.rules.now a.h.most a.seen a.place.s.now a.place.at (shape) c.args.h.bounded f _ _ d)
 
 -- what a later row covers is the same, whichever branch was taken
 pub returns-clause-stored : goal.returns-clause-stored

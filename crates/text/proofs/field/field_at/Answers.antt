@@ -1,6 +1,6 @@
 -- `field_at` meets its contract: the first byte says what the field is.
 use mathlib.Core.Path.{refl}
-use mathlib.Core.Logic.{inl, inr}
+use mathlib.Core.Logic.{⊎_elim}
 use native.Mathlib.Omega.{arith}
 use lib.ListN.{get_or}
 use Rattle.text.proofs.Digits.{begin_end, Lead, lead_comma, lead_lf, lead_low, lead_high, lead_digit}
@@ -15,15 +15,13 @@ returns-then-s-at c =
       | then-s-at-via-else-s-at+else-s-at-eq44+then-s-at-eq10 w ↦ lead_lf (record { inside = omega arith; is = refl }) w.if-s-at-eq10.true _ refl
     ]
 
-pub returns-then-b-lt48 : goal.returns-then-b-lt48
-returns-then-b-lt48 c =
+pub returns-then-not-is_ascii_digit : goal.returns-then-not-is_ascii_digit
+returns-then-not-is_ascii_digit c =
     let lead : Lead c.args.s.now c.args.at (get_or c.args.s.now c.args.at 0) = record { inside = omega arith; is = refl } in
-    elim c.then-b-lt48.either [
-      | inl e ↦ lead_low lead c.if-s-at-eq44.false c.if-s-at-eq10.false e _ c.malformed_at.ensures
-      | inr e ↦ lead_high lead e.1 _ c.malformed_at.ensures
-    ]
+    ⊎_elim (λ low. lead_low lead c.if-s-at-eq44.false c.if-s-at-eq10.false low _ c.malformed_at.ensures) (λ high. lead_high lead high _ c.malformed_at.ensures) c.if-not-is_ascii_digit.ensures.cases
 
 pub returns : goal.returns
 returns c =
     let lead : Lead c.args.s.now c.args.at (get_or c.args.s.now c.args.at 0) = record { inside = omega arith; is = refl } in
-    lead_digit lead (omega arith) (omega arith) _ _ c.from.ensures c.more_digits.ensures
+    let d = c.if-not-is_ascii_digit.ensures.cases in
+    lead_digit lead d.0 d.1 _ _ c.from.ensures c.more_digits.ensures

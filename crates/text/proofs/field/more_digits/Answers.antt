@@ -1,7 +1,7 @@
 -- `more_digits` meets its contract: the field that goes on at `i` after `n` is the whole one, and the byte at `i` says how.
 use Prim.Native.Nat.{ℕ}
 use mathlib.Core.Path.{◌≡◌, refl, ap, ◌∙◌}
-use mathlib.Core.Logic.{inl, inr}
+use mathlib.Core.Logic.{inl, inr, ⊎_elim}
 use native.Mathlib.Omega.{arith}
 use lib.ListN.{get_or}
 use Rattle.text.specs.declared.field.Field.TheVariants.{Number as number}
@@ -9,6 +9,7 @@ use Rattle.text.specs.Read.{field_to}
 use Rattle.text.proofs.Scanning.{search_past}
 use Rattle.text.proofs.Digits.{going_first, going_end, Byte, byte_comma, byte_lf, byte_low, byte_high, byte_zero, byte_over, byte_digit}
 use Rattle.text.proofs.field.more_digits.Goals as goal
+use Rattle.text.proofs.field.more_digits.Goals.{then-not-is_ascii_digit-via-then-not-is_ascii_digit, then-not-is_ascii_digit-via-else-not-is_ascii_digit+then-n-eq0, then-not-is_ascii_digit-via-else-not-is_ascii_digit+else-n-eq0+then-n-gt-TENTH}
 
 pub loop-i-init : goal.loop-i-init
 loop-i-init c = going_first _ _ _
@@ -18,29 +19,26 @@ returns-then-b-eq44 c =
     let byte : Byte c.args.s.now c.args.at c.args.begun c.loop-i.i c.loop-i.n (get_or c.args.s.now c.loop-i.i 0) = record { going = c.loop-i.invariant; inside = omega arith; is = refl } in
     elim c.then-b-eq44.either [ inl e ↦ byte_comma byte e _ refl | inr e ↦ byte_lf byte e.1 _ refl ]
 
-pub returns-then-b-lt48 : goal.returns-then-b-lt48
-returns-then-b-lt48 c =
+pub returns-then-not-is_ascii_digit : goal.returns-then-not-is_ascii_digit
+returns-then-not-is_ascii_digit c =
     let byte : Byte c.args.s.now c.args.at c.args.begun c.loop-i.i c.loop-i.n (get_or c.args.s.now c.loop-i.i 0) = record { going = c.loop-i.invariant; inside = omega arith; is = refl } in
-    elim c.then-b-lt48.either [
-      | inl low ↦ byte_low byte c.if-b-eq44.false c.if-b-eq10.false low _ c.malformed_at.ensures
-      | inr e ↦ elim e [
-        | inl high ↦ byte_high byte high.1 _ c.malformed_at.ensures
-        | inr f ↦ elim f [
-          | inl zero ↦ byte_zero byte zero.0 (omega (arith, zero)) (omega (arith, zero)) _ c.malformed_at.ensures
-          | inr over ↦ byte_over byte over.0 (omega (arith, over)) (omega (arith, over)) (omega (arith, over)) _ c.malformed_at.ensures
-        ]
-      ]
+    elim c.then-not-is_ascii_digit.branch [
+      | then-not-is_ascii_digit-via-then-not-is_ascii_digit w ↦ ⊎_elim (λ low. byte_low byte c.if-b-eq44.false c.if-b-eq10.false low _ c.malformed_at.ensures) (λ high. byte_high byte high _ c.malformed_at.ensures) w.if-not-is_ascii_digit.ensures.cases
+      | then-not-is_ascii_digit-via-else-not-is_ascii_digit+then-n-eq0 w ↦ let d = w.if-not-is_ascii_digit.ensures.cases in byte_zero byte d.0 d.1 w.if-n-eq0.true _ c.malformed_at.ensures
+      | then-not-is_ascii_digit-via-else-not-is_ascii_digit+else-n-eq0+then-n-gt-TENTH w ↦ let d = w.if-not-is_ascii_digit.ensures.cases in byte_over byte d.0 d.1 (omega (arith, w.if-n-eq0.false)) (omega (arith, w.if-n-gt-TENTH.true)) _ c.malformed_at.ensures
     ]
 
 pub returns-then-m-d : goal.returns-then-m-d
 returns-then-m-d c =
     let byte : Byte c.args.s.now c.args.at c.args.begun c.loop-i.i c.loop-i.n (get_or c.args.s.now c.loop-i.i 0) = record { going = c.loop-i.invariant; inside = omega arith; is = refl } in
-    byte_over byte (omega arith) (omega arith) (omega arith) (omega (arith, c.from-d.ensures)) _ c.malformed_at-then-m-d.ensures
+    let d = c.if-not-is_ascii_digit.ensures.cases in
+    byte_over byte d.0 d.1 (omega arith) (omega (arith, d, c.from-d.ensures)) _ c.malformed_at-then-m-d.ensures
 
 pub loop-i-preserved : goal.loop-i-preserved
 loop-i-preserved c =
     let byte : Byte c.args.s.now c.args.at c.args.begun c.loop-i.i c.loop-i.n (get_or c.args.s.now c.loop-i.i 0) = record { going = c.loop-i.invariant; inside = omega arith; is = refl } in
-    byte_digit byte (omega arith) (omega arith) (omega arith) (omega (arith, c.from-d.ensures)) _ (omega (arith, c.from-d.ensures))
+    let d = c.if-not-is_ascii_digit.ensures.cases in
+    byte_digit byte d.0 d.1 (omega arith) (omega (arith, d, c.from-d.ensures)) _ (omega (arith, d, c.from-d.ensures))
 
 pub returns : goal.returns
 returns c =
