@@ -13,19 +13,20 @@ use keys::codes::{HashMode, Join, Op};
 use keys::expr::{COLUMN, Expr};
 use keys::reorder::{Pairs, try_reorder};
 
-// The index less `columns` in every key, in the room lent; nothing where one is no column or its index too small.
-pub fn shift_right_required<'a>(required: &[u64], columns: u64, out: &'a mut [u64; 32]) -> &'a [u64]
+// The index less `columns` in every key, in the front of the room lent, and how many there are; none where one is no column or its index too small.
+pub fn shift_right_required(required: &[u64], columns: u64, out: &mut [u64; 32]) -> usize
     requires { length required.now ≤ 32 }
-    ensures { (length result.now ≤ 32) × (expressions result.now ≡ shift_right_required columns (expressions required.now)) }
+    ensures few { result ≤ 32 }
+    ensures shifted { expressions (take result out.new) ≡ shift_right_required columns (expressions required.now) }
 {
     for (i, &number) in required.iter().enumerate() {
         let key = Expr { number };
         if key.kind() != COLUMN || key.index() < columns {
-            return &[];
+            return 0;
         }
         out[i] = number - columns;
     }
-    &out[..required.len()]
+    required.len()
 }
 
 // The second child's list is R shifted.

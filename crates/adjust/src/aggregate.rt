@@ -57,8 +57,8 @@ fn regroup(sheet: &AggregateSheet<'_>, at: NumberList) -> Option<Adjusted>
     ensures { IsRegrouped sheet.now (λ t. regrouped same_expr t (numbers at) (name_places (permute 0 t.groups (numbers at) ++ t.aggregates) t.groups)) result }
 {
     let mut room = [0u64; 32];
-    let names = permute(0, sheet.groups, at.positions(), &mut room);
-    let places = name_places(names, sheet.aggregates, sheet.groups)?;
+    permute(0, sheet.groups, at.positions(), &mut room);
+    let places = name_places(&room[..at.count], sheet.aggregates, sheet.groups)?;
     Some(Adjusted {
         outcome: Outcome::Regrouped { at, places },
         cleared: true,
