@@ -74,18 +74,13 @@ fn answer_attempt(
     write_join(roomy, &lists, out)
 }
 
-// The decision on an I sheet and its answer's bytes; `w` and `v` are room for the rewritings, `roomy` says that the answer fits.
-pub fn answer_join_sheet(
-    roomy: bool,
-    held: Lists<'_>,
-    w: &mut [[u64; 2]],
-    v: &mut [[u64; 2]],
-    out: &mut [u8],
-) -> Result<usize, Refused>
-    requires { JoinHeld held.lists.now held.counts.now × (32 ≤ length w.old) × (32 ≤ length v.old) × (roomy ≡ true → length (join_answer_text (reorder_join_keys_to_inputs (held_join_sheet held.lists.now held.counts.now) same_expr)) ≤ length out.old) }
+// The decision on an I sheet and its answer's bytes; `roomy` says that the answer fits.
+pub fn answer_join_sheet(roomy: bool, held: Lists<'_>, out: &mut [u8]) -> Result<usize, Refused>
+    requires held { JoinHeld held.lists.now held.counts.now }
+    requires fits { roomy ≡ true → length (join_answer_text (reorder_join_keys_to_inputs (held_join_sheet held.lists.now held.counts.now) same_expr)) ≤ length out.old }
     ensures { Writes (within (length out.old) (wrote (join_answer_text (reorder_join_keys_to_inputs (held_join_sheet held.entry.lists.now held.entry.counts.now) same_expr)))) result out.old out.new }
 {
     let sheet = HeldJoin { held };
-    let attempt = follow(sheet, w, v);
+    let attempt = follow(sheet);
     answer_attempt(roomy, sheet, &attempt, out)
 }

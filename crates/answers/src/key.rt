@@ -143,18 +143,14 @@ fn answer_adjusted(
     answer_pairs(roomy, sheet, x, moved, out)
 }
 
-// The decision on a K sheet and its answer's bytes; `rules` is room for the rewriting, `roomy` says that the answer fits.
-pub fn answer_key_sheet(
-    roomy: bool,
-    held: Lists<'_>,
-    rules: &mut [[u64; 2]],
-    out: &mut [u8],
-) -> Result<usize, Refused>
-    requires { KeyHeld held.lists.now held.counts.now × (32 ≤ length rules.old) × (roomy ≡ true → FitsIn (length out.old) (adjusted (adjust_input_keys_ordering same_expr (held_key_sheet held.lists.now held.counts.now)))) }
+// The decision on a K sheet and its answer's bytes; `roomy` says that the answer fits.
+pub fn answer_key_sheet(roomy: bool, held: Lists<'_>, out: &mut [u8]) -> Result<usize, Refused>
+    requires held { KeyHeld held.lists.now held.counts.now }
+    requires fits { roomy ≡ true → FitsIn (length out.old) (adjusted (adjust_input_keys_ordering same_expr (held_key_sheet held.lists.now held.counts.now))) }
     ensures { Writes (within (length out.old) (adjusted (adjust_input_keys_ordering same_expr (held_key_sheet held.entry.lists.now held.entry.counts.now)))) result out.old out.new }
 {
     let sheet = HeldKey { held };
-    let Some(x) = adjust(sheet, rules) else {
+    let Some(x) = adjust(sheet) else {
         return Err(Refusal::NameNotFound.on_line(0));
     };
     answer_adjusted(roomy, sheet, &x, out)

@@ -14,7 +14,7 @@ returns-in_default c = let d = c.adjust in rw (key_refused (held_key_sheet c.arg
 pub answer_adjusted-requires : goal.answer_adjusted-requires
 answer_adjusted-requires c = let d = c.adjust in
     λ e.
-    subst (λ (t : A.Outcome). FitsIn (length c.args.out.now) t) (key_written (held_key_sheet c.args.held.lists.now c.args.held.counts.now) d.result c.in-Some.x d.ensures c.in-Some.is) (c.requires.2 e)
+    subst (λ (t : A.Outcome). FitsIn (length c.args.out.now) t) (key_written (held_key_sheet c.args.held.lists.now c.args.held.counts.now) d.result c.in-Some.x d.ensures c.in-Some.is) (c.requires.fits e)
 
 pub returns : goal.returns
 returns c = let d = c.adjust in let w = c.answer_adjusted.ensures in
