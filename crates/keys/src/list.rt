@@ -14,7 +14,7 @@ pub struct KeyList {
     ghost within: { count ≤ 32 },
 }
 
-// A position takes a byte, so that a list of them is short enough to be handed over.
+// The same of positions: there is no heap, and a list outlives the function that finds it. A position takes a byte, so that a list is short enough to be handed over.
 #[derive(Clone, Copy)]
 pub struct NumberList {
     pub items: [u8; 32],
