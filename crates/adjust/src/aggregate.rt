@@ -5,9 +5,9 @@ ghost use Rattle.keys.specs.Lists.{place_of, expected_expr_positions, permute};
 ghost use Rattle.keys.specs.Adjust.{columns_from, name_places, regrouped, regrouped_by, reorder_aggregate_keys, aggregate};
 ghost use Rattle.keys.specs.Arrange.{Below};
 ghost use Rattle.keys.specs.Values.{numbers, found, positions_of};
-ghost use Rattle.adjust.specs.Sheets.{IsDecided};
+ghost use Rattle.adjust.specs.Sheets.{IsRegrouped};
 
-use crate::sheet::Sheet;
+use crate::sheet::AggregateSheet;
 use keys::answer::{Adjusted, Handed, Outcome};
 use keys::codes::AggregateMode;
 use keys::expr::{COLUMN, Expr};
@@ -53,12 +53,12 @@ fn name_places(moved: &[u64], aggregates: &[u64], names: &[u64]) -> Option<Numbe
 }
 
 // The aggregate acts: the names of the moved groups, and where each group name is found again.
-fn regroup(sheet: &Sheet<'_>, at: NumberList) -> Option<Adjusted>
-    ensures { IsDecided sheet.now (λ t. regrouped same_expr t (numbers at) (name_places (permute 0 t.groups (numbers at) ++ t.aggregates) t.groups)) result }
+fn regroup(sheet: &AggregateSheet<'_>, at: NumberList) -> Option<Adjusted>
+    ensures { IsRegrouped sheet.now (λ t. regrouped same_expr t (numbers at) (name_places (permute 0 t.groups (numbers at) ++ t.aggregates) t.groups)) result }
 {
     let mut room = [0u64; 32];
-    let names = permute(0, sheet.groups, at.positions(), &mut room);
-    let places = name_places(names, sheet.aggregates, sheet.groups)?;
+    permute(0, sheet.groups, at.positions(), &mut room);
+    let places = name_places(&room[..at.count], sheet.aggregates, sheet.groups)?;
     Some(Adjusted {
         outcome: Outcome::Regrouped { at, places },
         cleared: true,
@@ -68,9 +68,9 @@ fn regroup(sheet: &Sheet<'_>, at: NumberList) -> Option<Adjusted>
 }
 
 // Where the group names stand for other columns than R asks, in another order: their order, as R asks.
-fn regroup_by(sheet: &Sheet<'_>, columns: &[u64]) -> Option<Adjusted>
+fn regroup_by(sheet: &AggregateSheet<'_>, columns: &[u64]) -> Option<Adjusted>
     requires { expressions columns.now ≡ columns_from 0 sheet.now.groups.now }
-    ensures { IsDecided sheet.now (λ t. regrouped_by same_expr t (expected_expr_positions same_expr placeholder (columns_from 0 t.groups) t.required)) result }
+    ensures { IsRegrouped sheet.now (λ t. regrouped_by same_expr t (expected_expr_positions same_expr placeholder (columns_from 0 t.groups) t.required)) result }
 {
     match expected_expr_positions(columns, sheet.required) {
         Some(at) if sheet.operator.partial => regroup(sheet, at),
@@ -78,8 +78,8 @@ fn regroup_by(sheet: &Sheet<'_>, columns: &[u64]) -> Option<Adjusted>
     }
 }
 
-fn reorder_aggregate_keys(sheet: &Sheet<'_>) -> Option<Adjusted>
-    ensures { IsDecided sheet.now (reorder_aggregate_keys same_expr) result }
+fn reorder_aggregate_keys(sheet: &AggregateSheet<'_>) -> Option<Adjusted>
+    ensures { IsRegrouped sheet.now (reorder_aggregate_keys same_expr) result }
 {
     if sheet.required.len() != sheet.groups.len() || !sheet.operator.plain {
         return Some(Adjusted::passed(Handed::Kept, Handed::Kept));
@@ -92,8 +92,8 @@ fn reorder_aggregate_keys(sheet: &Sheet<'_>) -> Option<Adjusted>
     regroup_by(sheet, columns)
 }
 
-pub fn aggregate(sheet: &Sheet<'_>) -> Option<Adjusted>
-    ensures { IsDecided sheet.now (aggregate same_expr) result }
+pub fn aggregate(sheet: &AggregateSheet<'_>) -> Option<Adjusted>
+    ensures { IsRegrouped sheet.now (aggregate same_expr) result }
 {
     if sheet.required.is_empty() {
         return Some(Adjusted::unchanged());

@@ -22,3 +22,16 @@ pub struct Sheet<'a> {
     ghost few_aggregates: { length aggregates.now ≤ 32 },
     ghost named: { Below 65536 groups.now } by { Below-prop 65536 groups.now },
 }
+
+// Those that an aggregate's decision reads.
+#[derive(Clone, Copy)]
+pub struct AggregateSheet<'a> {
+    pub operator: Operator,
+    pub required: &'a [u64],
+    pub groups: &'a [u64],
+    pub aggregates: &'a [u64],
+    ghost few_required: { length required.now ≤ 32 },
+    ghost few_groups: { length groups.now ≤ 32 },
+    ghost few_aggregates: { length aggregates.now ≤ 32 },
+    ghost named: { Below 65536 groups.now } by { Below-prop 65536 groups.now },
+}

@@ -17,7 +17,7 @@ use Rattle.std.specs.Prelude.{option_copied}
 use Rattle.moves.specs.Chosen.{handed_list, shifted_for}
 use Rattle.moves.specs.Moved.{MovedBy}
 use Rattle.moves.specs.declared.moved.MovedPairs.{MovedPairs}
-use Rattle.answers.specs.AnswerLists.{KeyFew}
+use Rattle.answers.specs.AnswerLists.{KeyFew, held_projection}
 use Rattle.lines.specs.Children.{children_text}
 use Rattle.lines.specs.Texts.{key_lists_text}
 use Rattle.lines.specs.AnswerTexts.{key_text_of}
@@ -26,7 +26,7 @@ use Rattle.lines.specs.declared.children.Children.{Children}
 use Rattle.lines.proofs.AnswerParts.{key_answer_held}
 use Rattle.moves.proofs.Choices.{Short, moved_short, turned_short, cleared_any, moved_any, handed_any}
 use Rattle.moves.proofs.HeldKeys.{key_lines, key_directions, key_mapped}
-use Rattle.answers.proofs.KeyLists.{held_projection, key_lists, key_handed}
+use Rattle.answers.proofs.KeyLists.{key_lists, key_handed}
 
 module _ (lists : List (List ℕ)) (counts : List ℕ) (outcome : Outcome) (cleared : Bool) (first others : Handed) (ps : List ℕ) (m : MovedPairs) (shifted : List ℕ) where
   abbrev At : ℕ → List ℕ

@@ -3,14 +3,14 @@
 use Prim.Native.Nat.{ℕ, zero, suc, ◌≤◌}
 use mathlib.Core.Path.{◌≡◌, refl, ap, sym, ◌∙◌}
 use mathlib.Core.Bool.{Bool, true, false, cond}
-use mathlib.Core.List.{List, [], ◌++◌}
+use mathlib.Core.List.{List, []}
 use native.Mathlib.Omega.{arith}
 use lib.ListN.{length, get_or}
 use Rattle.std.specs.Prelude.{Option, Some, None}
 use Rattle.keys.specs.Lists.{permute}
 use Rattle.keys.specs.Expressions.{Expression, placeholder, gone_number, expressions}
-use Rattle.keys.specs.Adjust.{KeySheet, KeyAnswer, Adjustment, hand_over, moved_directions, shift_right_required, placed_names, names_from}
-use Rattle.keys.specs.Answers.{changed_by, reported_by, moved_or, handed, side_by, answer_by, answer_of, adjusted_of, projected_by}
+use Rattle.keys.specs.Adjust.{KeySheet, KeyAnswer, Adjustment, hand_over, moved_directions, shift_right_required}
+use Rattle.keys.specs.Answers.{changed_by, reported_by, moved_or, handed, side_by, answer_by, answer_of, adjusted_of}
 use Rattle.keys.specs.declared.reorder.Reordered.TheVariants.{Met, Moved, Impossible}
 use Rattle.keys.specs.declared.answer.Handed.{Handed}
 use Rattle.keys.specs.declared.answer.Handed.TheVariants.{Kept, Cleared, Required, Keys, Shifted, Mapped}
@@ -18,11 +18,12 @@ use Rattle.keys.specs.declared.answer.Outcome.{Outcome}
 use Rattle.keys.specs.declared.answer.Outcome.TheVariants.{Unchanged, Passed, Tried, Regrouped}
 use Rattle.keys.specs.declared.answer.Adjusted.{Adjusted}
 use Rattle.keys.proofs.Packed.{permute_expressions}
-use Rattle.sheet.specs.KeyAnswers.{refused, wrote, key_answer_text, adjusted, projected_numbers}
+use Rattle.sheet.specs.KeyAnswers.{refused, wrote, key_answer_text, adjusted}
 use Rattle.sheet.specs.Held.{held_at, expr_lists, child_count, held_key_sheet, KeyHeld}
 use Rattle.moves.specs.Chosen.{handed_list, shifted_for}
 use Rattle.lines.specs.Children.{chosen}
 use Rattle.lines.proofs.AnswerParts.{KeyLists}
+use Rattle.answers.specs.AnswerLists.{held_projection}
 use Rattle.moves.proofs.Choices.{ShiftedBy, shifted_first, shifted_others}
 
 moved_packed : (o : Outcome) (moved stood : List ℕ) → moved_or o (expressions moved) (expressions stood) ≡ expressions (moved_or o moved stood)
@@ -51,10 +52,6 @@ module _ (lists : List (List ℕ)) (counts : List ℕ) where
   abbrev At : ℕ → List ℕ
   At i = held_at lists counts i
 
-  -- the numbers of J
-  abbrev pub held_projection : Outcome → List ℕ → List ℕ
-  held_projection o places = projected_numbers (projected_by o (placed_names (At 6) places ++ names_from (length (At 6)) (At 7)))
-
   exprs_long : (i n : ℕ) → length (expr_lists lists counts i n) ≡ n
   exprs_long i zero = refl
   exprs_long i (suc n) = ap suc (exprs_long (suc i) n)
@@ -77,7 +74,7 @@ module _ (lists : List (List ℕ)) (counts : List ℕ) where
 
     pub key_lists :
         KeyLists the_answer (changed_by o) (reported_by o) ps (cond cleared [] (At 1)) (side 2) (side 3)
-        (moved_or o (moved_directions (At 4) ps) (At 4)) (held_projection o places)
+        (moved_or o (moved_directions (At 4) ps) (At 4)) (held_projection lists counts o places)
     unfolding held_key_sheet
     key_lists = record {
       changed = refl;

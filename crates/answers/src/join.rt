@@ -7,14 +7,14 @@ ghost use Rattle.sheet.specs.KeyAnswers.{wrote, join_answer_text};
 ghost use Rattle.sheet.specs.Outcomes.{within, Writes};
 ghost use Rattle.sheet.specs.Held.{held_join_sheet, JoinHeld};
 ghost use Rattle.lines.specs.AnswerTexts.{join_text_of};
-ghost use Rattle.answers.specs.AnswerLists.{JoinFew};
+ghost use Rattle.answers.specs.AnswerLists.{JoinFew, JoinPairs};
 
 use keys::inputs::Attempt;
 use lines::join_text::{JoinLists, join_lists_length, put_join_lists};
 use moves::chosen::followed_or;
 use moves::decide::follow;
 use moves::held::HeldJoin;
-use moves::moved::{PairRooms, moved_pairs};
+use moves::moved::{MovedPairs, PairRooms, pairs_at};
 use refusals::{Refusal, Refused};
 use sheet::held::Lists;
 
@@ -37,39 +37,50 @@ fn write_join(roomy: bool, x: &JoinLists<'_>, out: &mut [u8]) -> Result<usize, R
     Ok(put_join_lists(out, x))
 }
 
-// The lists of an answer, in the rooms lent.
-fn chosen<'a>(sheet: HeldJoin<'a>, o: &Attempt, rooms: &'a mut PairRooms) -> JoinLists<'a>
+// The lists of an answer, of the pairs that moved.
+fn chosen<'a>(sheet: HeldJoin<'a>, o: &Attempt, moved: MovedPairs<'a>) -> JoinLists<'a>
+    requires { JoinPairs sheet.held o.now moved }
     ensures few { JoinFew result }
     ensures text { join_text_of result ≡ join_answer_text (attempt_of (held_join_sheet sheet.entry.held.lists.now sheet.entry.held.counts.now) o.now) }
 {
-    let left = sheet.list(1);
-    let right = sheet.list(2);
-    let directions = sheet.list(3);
-    let moved = moved_pairs(left, right, directions, o.positions(), rooms);
     JoinLists {
         report: o.report(),
         followed: o.followed(),
         positions: moved.positions,
-        left: followed_or(o, moved.left, left),
-        right: followed_or(o, moved.right, right),
-        directions: followed_or(o, moved.directions, directions),
+        left: followed_or(o, moved.left, sheet.list(1)),
+        right: followed_or(o, moved.right, sheet.list(2)),
+        directions: followed_or(o, moved.directions, sheet.list(3)),
     }
 }
 
-// The decision on an I sheet and its answer's bytes; `w` and `v` are room for the rewritings, `roomy` says that the answer fits.
-pub fn answer_join_sheet(
+// The answer of what was tried; rooms for pairs are cleared only where some moved.
+fn answer_attempt(
     roomy: bool,
-    held: Lists<'_>,
-    w: &mut [[u64; 2]],
-    v: &mut [[u64; 2]],
+    sheet: HeldJoin<'_>,
+    o: &Attempt,
     out: &mut [u8],
 ) -> Result<usize, Refused>
-    requires { JoinHeld held.lists.now held.counts.now × (32 ≤ length w.old) × (32 ≤ length v.old) × (roomy ≡ true → length (join_answer_text (reorder_join_keys_to_inputs (held_join_sheet held.lists.now held.counts.now) same_expr)) ≤ length out.old) }
+    requires { roomy ≡ true → length (join_answer_text (attempt_of (held_join_sheet sheet.held.lists.now sheet.held.counts.now) o.now)) ≤ length out.old }
+    ensures { Writes (within (length out.old) (wrote (join_answer_text (attempt_of (held_join_sheet sheet.entry.held.lists.now sheet.entry.held.counts.now) o.now)))) result out.old out.new }
+{
+    let at = o.positions();
+    if at.list.is_empty() {
+        let lists = chosen(sheet, o, MovedPairs::NONE);
+        return write_join(roomy, &lists, out);
+    }
+    let mut rooms = PairRooms::EMPTY;
+    let moved = pairs_at(sheet.list(1), sheet.list(2), sheet.list(3), at, &mut rooms);
+    let lists = chosen(sheet, o, moved);
+    write_join(roomy, &lists, out)
+}
+
+// The decision on an I sheet and its answer's bytes; `roomy` says that the answer fits.
+pub fn answer_join_sheet(roomy: bool, held: Lists<'_>, out: &mut [u8]) -> Result<usize, Refused>
+    requires held { JoinHeld held.lists.now held.counts.now }
+    requires fits { roomy ≡ true → length (join_answer_text (reorder_join_keys_to_inputs (held_join_sheet held.lists.now held.counts.now) same_expr)) ≤ length out.old }
     ensures { Writes (within (length out.old) (wrote (join_answer_text (reorder_join_keys_to_inputs (held_join_sheet held.entry.lists.now held.entry.counts.now) same_expr)))) result out.old out.new }
 {
     let sheet = HeldJoin { held };
-    let attempt = follow(sheet, w, v);
-    let mut rooms = PairRooms::EMPTY;
-    let lists = chosen(sheet, &attempt, &mut rooms);
-    write_join(roomy, &lists, out)
+    let attempt = follow(sheet);
+    answer_attempt(roomy, sheet, &attempt, out)
 }

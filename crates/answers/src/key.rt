@@ -7,15 +7,15 @@ ghost use Rattle.keys.specs.Answers.{answer_of};
 ghost use Rattle.sheet.specs.KeyAnswers.{wrote, key_answer_text, adjusted};
 ghost use Rattle.sheet.specs.Outcomes.{within, FitsIn, Writes};
 ghost use Rattle.sheet.specs.Held.{held_key_sheet, KeyHeld};
-ghost use Rattle.answers.specs.AnswerLists.{whole_text, KeyFew};
+ghost use Rattle.answers.specs.AnswerLists.{whole_text, KeyFew, KeyPairs, KeyNames};
 
-use keys::answer::Adjusted;
+use keys::answer::{Adjusted, Outcome};
 use lines::children::{Children, children_length, put_children};
 use lines::key_text::{KeyLists, key_lists_length, put_key_lists};
 use moves::chosen::{cleared_or, handed_list, moved_or, shifted_keys};
 use moves::decide::adjust;
 use moves::held::HeldKey;
-use moves::moved::{PairRooms, moved_pairs};
+use moves::moved::{MovedPairs, PairRooms, pairs_at};
 use moves::projection::projected_by;
 use refusals::{Refusal, Refused};
 use sheet::held::Lists;
@@ -62,34 +62,32 @@ fn write_key(roomy: bool, a: &KeyAnswer<'_>, out: &mut [u8]) -> Result<usize, Re
     Ok(put_children(out, at, a.children, a.sheet.held, n))
 }
 
-// The lists of an answer, in the rooms lent.
+// The lists of an answer, of the pairs that moved and the numbers of J; R shifted goes into the room lent.
 fn chosen<'a>(
     sheet: HeldKey<'a>,
     x: &Adjusted,
-    pairs: &'a mut PairRooms,
+    moved: MovedPairs<'a>,
+    projection: &'a [u64],
     shifts: &'a mut [u64; 32],
-    names: &'a mut [u64; 128],
 ) -> KeyAnswer<'a>
+    requires pairs { KeyPairs sheet.held x.now.outcome moved }
+    requires names { KeyNames sheet.held x.now.outcome projection.now }
     ensures { whole_text result.lists result.children result.sheet.held ≡ key_answer_text (answer_of (held_key_sheet sheet.entry.held.lists.now sheet.entry.held.counts.now) x.now) }
 {
     let o = &x.outcome;
     let required = sheet.list(1);
-    let left = sheet.list(2);
-    let right = sheet.list(3);
-    let directions = sheet.list(4);
     let mapped = sheet.list(8);
-    let moved = moved_pairs(left, right, directions, o.positions(), pairs);
     let columns = sheet.list(0)[3];
-    let shifted = shifted_keys(x.first, x.others, required, columns, shifts);
-    let projection = projected_by(o, sheet.list(6), sheet.list(7), names);
+    let n = shifted_keys(x.first, x.others, required, columns, &mut *shifts);
+    let shifted = &shifts[..n];
     let lists = KeyLists {
         changed: o.changed(),
         report: o.report(),
         positions: moved.positions,
         required: cleared_or(x.cleared, required),
-        left: moved_or(o, moved.left, left),
-        right: moved_or(o, moved.right, right),
-        directions: moved_or(o, moved.directions, directions),
+        left: moved_or(o, moved.left, sheet.list(2)),
+        right: moved_or(o, moved.right, sheet.list(3)),
+        directions: moved_or(o, moved.directions, sheet.list(4)),
         projection,
     };
     let children = Children {
@@ -103,23 +101,57 @@ fn chosen<'a>(
     }
 }
 
-// The decision on a K sheet and its answer's bytes; `rules` is room for the rewriting, `roomy` says that the answer fits.
-pub fn answer_key_sheet(
+// The answer of the pairs that moved; the room for J is cleared only where groups moved.
+fn answer_pairs(
     roomy: bool,
-    held: Lists<'_>,
-    rules: &mut [[u64; 2]],
+    sheet: HeldKey<'_>,
+    x: &Adjusted,
+    moved: MovedPairs<'_>,
     out: &mut [u8],
 ) -> Result<usize, Refused>
-    requires { KeyHeld held.lists.now held.counts.now × (32 ≤ length rules.old) × (roomy ≡ true → FitsIn (length out.old) (adjusted (adjust_input_keys_ordering same_expr (held_key_sheet held.lists.now held.counts.now)))) }
+    requires pairs { KeyPairs sheet.held x.now.outcome moved }
+    requires fits { roomy ≡ true → length (key_answer_text (answer_of (held_key_sheet sheet.held.lists.now sheet.held.counts.now) x.now)) ≤ length out.old }
+    ensures { Writes (within (length out.old) (wrote (key_answer_text (answer_of (held_key_sheet sheet.entry.held.lists.now sheet.entry.held.counts.now) x.now)))) result out.old out.new }
+{
+    let mut shifts = [0; 32];
+    let Outcome::Regrouped { .. } = x.outcome else {
+        let answer = chosen(sheet, x, moved, &[], &mut shifts);
+        return write_key(roomy, &answer, out);
+    };
+    let mut names = [0; 128];
+    let n = projected_by(&x.outcome, sheet.list(6), sheet.list(7), &mut names);
+    let answer = chosen(sheet, x, moved, &names[..n], &mut shifts);
+    write_key(roomy, &answer, out)
+}
+
+// The answer of what was decided; rooms for pairs are cleared only where some moved.
+fn answer_adjusted(
+    roomy: bool,
+    sheet: HeldKey<'_>,
+    x: &Adjusted,
+    out: &mut [u8],
+) -> Result<usize, Refused>
+    requires { roomy ≡ true → length (key_answer_text (answer_of (held_key_sheet sheet.held.lists.now sheet.held.counts.now) x.now)) ≤ length out.old }
+    ensures { Writes (within (length out.old) (wrote (key_answer_text (answer_of (held_key_sheet sheet.entry.held.lists.now sheet.entry.held.counts.now) x.now)))) result out.old out.new }
+{
+    let at = x.outcome.positions();
+    if at.list.is_empty() {
+        return answer_pairs(roomy, sheet, x, MovedPairs::NONE, out);
+    }
+    let mut rooms = PairRooms::EMPTY;
+    let moved = pairs_at(sheet.list(2), sheet.list(3), sheet.list(4), at, &mut rooms);
+    answer_pairs(roomy, sheet, x, moved, out)
+}
+
+// The decision on a K sheet and its answer's bytes; `roomy` says that the answer fits.
+pub fn answer_key_sheet(roomy: bool, held: Lists<'_>, out: &mut [u8]) -> Result<usize, Refused>
+    requires held { KeyHeld held.lists.now held.counts.now }
+    requires fits { roomy ≡ true → FitsIn (length out.old) (adjusted (adjust_input_keys_ordering same_expr (held_key_sheet held.lists.now held.counts.now))) }
     ensures { Writes (within (length out.old) (adjusted (adjust_input_keys_ordering same_expr (held_key_sheet held.entry.lists.now held.entry.counts.now)))) result out.old out.new }
 {
     let sheet = HeldKey { held };
-    let Some(x) = adjust(sheet, rules) else {
+    let Some(x) = adjust(sheet) else {
         return Err(Refusal::NameNotFound.on_line(0));
     };
-    let mut pairs = PairRooms::EMPTY;
-    let mut shifts = [0; 32];
-    let mut names = [0; 128];
-    let answer = chosen(sheet, &x, &mut pairs, &mut shifts, &mut names);
-    write_key(roomy, &answer, out)
+    answer_adjusted(roomy, sheet, &x, out)
 }

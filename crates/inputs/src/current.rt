@@ -1,5 +1,5 @@
 // The order that the inputs of a join have already. Ports `reorder_join_keys_to_inputs` and `reorder_current_join_keys`.
-ghost use Rattle.std.specs.Prelude.{◌≡◌, Some, List, ℕ};
+ghost use Rattle.std.specs.Prelude.{◌≡◌, ◌≤◌, Some, List, ℕ, length};
 ghost use Rattle.keys.specs.Expressions.{same_expr, rules};
 ghost use Rattle.keys.specs.Inputs.{JoinSheet, JoinAnswer, try_side, reorder_current_join_keys, reorder_join_keys_to_inputs};
 ghost use Rattle.keys.specs.InputValues.{input_of, with_pairs, side_number, answer_by, attempt_of};
@@ -11,6 +11,7 @@ use keys::reorder::{Pairs, Reordered, try_reorder};
 
 // One side under its own rewriting.
 fn try_side(side: Side, sheet: Inputs<'_>, input: Input<'_>) -> Attempt
+    requires { length input.list.now ≤ 33 }
     ensures { (s : JoinSheet) (impossible untried : JoinAnswer) → let t = with_pairs sheet.entry.left.now sheet.entry.right.now s in answer_by t impossible untried result ≡ try_side t same_expr (side_number (Some side)) (rules input.entry.rewriting.now) impossible untried (input_of input.entry.list.now) }
 {
     if !input.is_hashed() {

@@ -6,7 +6,6 @@ ghost use Rattle.std.specs.Prelude.{◌≡◌, ◌≤◌, length};
 pub struct Input<'a> {
     pub list: &'a [u64],
     pub rewriting: &'a [[u64; 2]],
-    ghost few: { length list.now ≤ 33 },
 }
 
 #[derive(Clone, Copy)]
@@ -19,6 +18,8 @@ pub struct Inputs<'a> {
     pub right_input: Input<'a>,
     ghost few: { length left.now ≤ 32 },
     ghost even: { length right.now ≡ length left.now },
+    ghost few_of_left: { length left_input.list.now ≤ 33 },
+    ghost few_of_right: { length right_input.list.now ≤ 33 },
 }
 
 impl<'a> Input<'a> {

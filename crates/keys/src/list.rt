@@ -14,7 +14,7 @@ pub struct KeyList {
     ghost within: { count ≤ 32 },
 }
 
-// A position takes a byte, so that a list of them is short enough to be handed over.
+// The same of positions: there is no heap, and a list outlives the function that finds it. A position takes a byte, so that a list is short enough to be handed over.
 #[derive(Clone, Copy)]
 pub struct NumberList {
     pub items: [u8; 32],
@@ -129,12 +129,12 @@ pub fn entry(gone: u64, all: &[u64], p: u8) -> u64
     all.get(usize::from(p)).copied().unwrap_or(gone)
 }
 
-// The numbers at the positions, in the room lent; `gone` where nothing stands. By index: with a zip it would be no shorter.
-pub fn permute<'a>(gone: u64, all: &[u64], at: Positions<'_>, out: &'a mut [u64; 32]) -> &'a [u64]
-    ensures { result.now ≡ permute gone all.now at.entry.list.now }
+// The numbers at the positions, in the front of the room lent; `gone` where nothing stands. By index: with a zip it would be no shorter.
+// No slice is handed back: a clause cannot say what a room holds while a part of it is lent out.
+pub fn permute(gone: u64, all: &[u64], at: Positions<'_>, out: &mut [u64; 32])
+    ensures { take (length at.entry.list.now) out.new ≡ permute gone all.now at.entry.list.now }
 {
     for (i, &p) in at.list.iter().enumerate() {
         out[i] = entry(gone, all, p);
     }
-    &out[..at.list.len()]
 }

@@ -49,7 +49,7 @@ fn rewrite_one(w: &[[u64; 2]], x: u64) -> u64
     x
 }
 
-// Fills a room as `permute` does: over a closure the promise would be index by index, no plainer than the two lines.
+// Each key rewritten, in the room lent: over a closure the promise would be index by index, no plainer than the two lines.
 fn rewrite_keys<'a>(w: &[[u64; 2]], keys: &[u64], out: &'a mut [u64; 32]) -> &'a [u64]
     requires { length keys.now ≤ 32 }
     ensures { result.now ≡ rewrite eqb (number_rules w.now) keys.now }

@@ -2,9 +2,9 @@
 -- Assumes nothing.
 use Prim.Native.Nat.{ℕ, ◌≤◌}
 use mathlib.Core.Path.{◌≡◌, refl, sym, ap, ◌∙◌}
-use mathlib.Core.List.{List, [], ◌∷◌}
+use mathlib.Core.List.{List}
 use native.Mathlib.Omega.{arith}
-use lib.ListN.{length, get_or}
+use lib.ListN.{length}
 use Rattle.sheet.specs.KeySheets.{Reading, sheet, turned}
 use Rattle.sheet.specs.KeyAnswers.{refused, wrote}
 use Rattle.exchange.specs.declared.settings.Settings.{Settings}

@@ -25,45 +25,32 @@ pub(crate) fn adjust_in(
 {
     // Beside rooms of 64 numbers, how many of each are the line's: see `Lists`.
     let mut counts = [0usize; 17];
-    read_sheet(
-        sheet,
-        SheetKind::Key,
-        &mut *fields,
-        &mut *lists,
-        &mut counts,
-    )?;
+    read_sheet(sheet, SheetKind::Key, fields, &mut *lists, &mut counts)?;
     let roomy = out.len() >= ANSWER_MOST;
     let held = Lists {
         lists: &*lists,
         counts: &counts,
     };
-    answer_key_sheet(roomy, held, fields, out)
+    answer_key_sheet(roomy, held, out)
 }
 
 // An I sheet. As `adjust_in`, but for the kind, the rooms and the answer: a function that reads for both would have to promise of the lists all that `read_sheet` does.
 pub(crate) fn follow_in(
     sheet: &[u8],
     fields: &mut [[u64; 2]],
-    rules: &mut [[u64; 2]],
     lists: &mut [[u64; 64]],
     out: &mut [u8],
 ) -> Result<usize, Refused>
-    requires { (192 ≤ length fields.old) × (32 ≤ length rules.old) × (8 ≤ length lists.old) }
+    requires { (192 ≤ length fields.old) × (8 ≤ length lists.old) }
     ensures { Writes (inputs_outcome sheet.now (length out.old)) result out.old out.new }
 {
     // As in `adjust_in`.
     let mut counts = [0usize; 8];
-    read_sheet(
-        sheet,
-        SheetKind::Join,
-        &mut *fields,
-        &mut *lists,
-        &mut counts,
-    )?;
+    read_sheet(sheet, SheetKind::Join, fields, &mut *lists, &mut counts)?;
     let roomy = out.len() >= ANSWER_MOST;
     let held = Lists {
         lists: &*lists,
         counts: &counts,
     };
-    answer_join_sheet(roomy, held, fields, rules, out)
+    answer_join_sheet(roomy, held, out)
 }

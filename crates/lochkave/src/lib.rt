@@ -36,9 +36,8 @@ pub extern "C" fn lochkave_reorder_join_keys_to_inputs(sheet: &[u8], out: &mut [
     ensures bytes { out.new ≡ after (inputs_outcome sheet.now (length out.old)) out.old }
 {
     let mut fields = [[0u64; 2]; 192];
-    let mut rules = [[0u64; 2]; 32];
     let mut lists = [[0u64; 64]; 8];
-    word(follow_in(sheet, &mut fields, &mut rules, &mut lists, out))
+    word(follow_in(sheet, &mut fields, &mut lists, out))
 }
 
 // Decides a D sheet.
@@ -73,6 +72,7 @@ pub extern "C" fn lochkave_decide(sheet: &[u8], out: &mut [u8]) -> u64
 }
 
 // The same in rooms that are lent and never cleared; in its own where one of them is too short. What they hold afterwards is of no account.
+// C lends `rules` too, and its length is asked as ever: a rewriting's rows are read where they stand, so nothing is put there.
 #[unsafe(no_mangle)]
 #[tactic(auto, unfolding(crate::specs::Decision::decision))]
 pub extern "C" fn lochkave_decide_in(
@@ -106,7 +106,7 @@ pub extern "C" fn lochkave_decide_in(
     }
     word(match first_byte(sheet) {
         b'K' => adjust_in(sheet, fields, lists, out),
-        b'I' => follow_in(sheet, fields, rules, lists, out),
+        b'I' => follow_in(sheet, fields, lists, out),
         _ => {
             let lent = TreeRooms {
                 fields,

@@ -4,4 +4,3 @@ pub mod HeldKeys
 pub mod HeldJoins
 pub mod Projections
 pub mod Choices
-pub mod SamePairs

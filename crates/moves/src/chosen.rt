@@ -63,19 +63,20 @@ pub fn handed_list<'a>(
     }
 }
 
-// R shifted, where a child is handed it; else nothing.
-pub fn shifted_keys<'a>(
+// R shifted, where a child is handed it, in the front of the room lent, and how many keys; else none.
+pub fn shifted_keys(
     first: Handed,
     others: Handed,
     required: &[u64],
     columns: u64,
-    out: &'a mut [u64; 32],
-) -> &'a [u64]
+    out: &mut [u64; 32],
+) -> usize
     requires { length required.now ≤ 32 }
-    ensures { (length result.now ≤ 32) × (expressions result.now ≡ shifted_for first others columns (expressions required.now)) }
+    ensures few { result ≤ 32 }
+    ensures shifted { expressions (take result out.new) ≡ shifted_for first others columns (expressions required.now) }
 {
     if matches!(first, Handed::Shifted) || matches!(others, Handed::Shifted) {
         return shift_right_required(required, columns, out);
     }
-    &[]
+    0
 }

@@ -1,5 +1,5 @@
 // The decision on a sheet that was read.
-ghost use Rattle.std.specs.Prelude.{◌≡◌, ◌≤◌, length, take};
+ghost use Rattle.std.specs.Prelude.{◌≡◌, ◌≤◌, length};
 ghost use Rattle.keys.specs.Expressions.{same_expr};
 ghost use Rattle.keys.specs.Adjust.{adjust_input_keys_ordering};
 ghost use Rattle.keys.specs.Answers.{adjusted_of};
@@ -15,19 +15,14 @@ use inputs::sheet::{Input, Inputs};
 use keys::answer::{Adjusted, Operator};
 use keys::inputs::Attempt;
 
-// Every two numbers a row, in the room lent.
-fn rule_rows<'a>(list: &[u64], rows: &'a mut [[u64; 2]]) -> &'a [[u64; 2]]
-    requires { (length list.now ≤ 64) × (32 ≤ length rows.old) }
+// Every two numbers a row.
+fn rule_rows(list: &[u64]) -> &[[u64; 2]]
     ensures { result.now ≡ pair_rows list.now }
 {
-    let n = list.len() / 2;
-    for i in 0..n {
-        rows[i] = [list[2 * i], list[2 * i + 1]];
-    }
-    &rows[..n]
+    list.as_chunks::<2>().0
 }
 
-// The numbers of a K line.
+// The numbers of a K line. The sheet's lists hold numbers alone, so a mark is one: set where it is 1, as `exchange::mark`, which this crate does not see, has it.
 fn operator(h: &[u64]) -> Operator
     requires { 6 ≤ length h.now }
     ensures { result ≡ operator_of h.now }
@@ -42,9 +37,8 @@ fn operator(h: &[u64]) -> Operator
     }
 }
 
-// R, L, G, W, O, A and M of a K sheet; W as rows in the room lent. C lends rooms of any length, so a condition says how long this one is.
-pub fn adjust(sheet: HeldKey<'_>, rules: &mut [[u64; 2]]) -> Option<Adjusted>
-    requires { 32 ≤ length rules.old }
+// R, L, G, W, O, A and M of a K sheet.
+pub fn adjust(sheet: HeldKey<'_>) -> Option<Adjusted>
     ensures { let s = held_key_sheet sheet.entry.held.lists.now sheet.entry.held.counts.now in adjusted_of s result ≡ adjust_input_keys_ordering same_expr s }
 {
     adjust_input_keys_ordering(&Sheet {
@@ -52,16 +46,15 @@ pub fn adjust(sheet: HeldKey<'_>, rules: &mut [[u64; 2]]) -> Option<Adjusted>
         required: sheet.list(1),
         left: sheet.list(2),
         right: sheet.list(3),
-        rewriting: rule_rows(sheet.list(5), rules),
+        rewriting: rule_rows(sheet.list(5)),
         groups: sheet.list(6),
         aggregates: sheet.list(7),
         mapped: sheet.list(8),
     })
 }
 
-// Op, mode, L, G, H and N of an I sheet; W and V as rows in the rooms lent.
-pub fn follow(sheet: HeldJoin<'_>, w: &mut [[u64; 2]], v: &mut [[u64; 2]]) -> Attempt
-    requires { (32 ≤ length w.old) × (32 ≤ length v.old) }
+// Op, mode, L, G, H, N, W and V of an I sheet.
+pub fn follow(sheet: HeldJoin<'_>) -> Attempt
     ensures { let s = held_join_sheet sheet.entry.held.lists.now sheet.entry.held.counts.now in attempt_of s result ≡ reorder_join_keys_to_inputs s same_expr }
 {
     let head = sheet.list(0);
@@ -72,11 +65,11 @@ pub fn follow(sheet: HeldJoin<'_>, w: &mut [[u64; 2]], v: &mut [[u64; 2]]) -> At
         right: sheet.list(2),
         left_input: Input {
             list: sheet.list(4),
-            rewriting: rule_rows(sheet.list(6), w),
+            rewriting: rule_rows(sheet.list(6)),
         },
         right_input: Input {
             list: sheet.list(5),
-            rewriting: rule_rows(sheet.list(7), v),
+            rewriting: rule_rows(sheet.list(7)),
         },
     })
 }

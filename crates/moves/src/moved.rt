@@ -1,5 +1,5 @@
 // The pairs of an answer at the positions that were found: the keys of both sides, and the directions with them.
-ghost use Rattle.std.specs.Prelude.{◌≡◌};
+ghost use Rattle.std.specs.Prelude.{◌≡◌, ◌≤◌, length, take};
 ghost use Rattle.keys.specs.Lists.{permute};
 ghost use Rattle.keys.specs.Expressions.{gone_number};
 ghost use Rattle.keys.specs.Adjust.{moved_directions};
@@ -14,6 +14,15 @@ pub struct MovedPairs<'a> {
     pub left: &'a [u64],
     pub right: &'a [u64],
     pub directions: &'a [u64],
+}
+
+impl MovedPairs<'_> {
+    pub const NONE: MovedPairs<'static> = MovedPairs {
+        positions: &[],
+        left: &[],
+        right: &[],
+        directions: &[],
+    };
 }
 
 // Room for what stands at up to thirty-two positions.
@@ -34,38 +43,58 @@ impl PairRooms {
     };
 }
 
-// A side's keys at the positions: built in a key list, and laid as numbers in the room lent.
-fn moved_side<'a>(keys: &[u64], at: Positions<'_>, out: &'a mut [u64; 32]) -> &'a [u64]
-    ensures { result.now ≡ permute gone_number keys.now at.entry.list.now }
+// A side's keys at the positions: built in a key list, and laid as numbers in the front of the room lent.
+fn moved_side(keys: &[u64], at: Positions<'_>, out: &mut [u64; 32])
+    ensures { take (length at.entry.list.now) out.new ≡ permute gone_number keys.now at.entry.list.now }
 {
     let moved = KeyList::moved(keys, at);
     for (i, key) in moved.keys().iter().enumerate() {
         out[i] = key.number;
     }
-    &out[..at.list.len()]
 }
 
-// The positions as numbers, in the room lent; by index, as `keys::list::permute`.
-pub fn wide_positions<'a>(at: Positions<'_>, out: &'a mut [u64; 32]) -> &'a [u64]
-    ensures { result.now ≡ at.entry.list.now }
+// The positions as numbers, in the front of the room lent; by index, as `keys::list::permute`.
+pub fn wide_positions(at: Positions<'_>, out: &mut [u64; 32])
+    ensures { take (length at.entry.list.now) out.new ≡ at.entry.list.now }
 {
     for (i, &p) in at.list.iter().enumerate() {
         out[i] = u64::from(p);
     }
-    &out[..at.list.len()]
 }
 
-// The directions at the first positions, one for each that there is.
-fn moved_directions<'a>(s: &[u64], at: Positions<'_>, out: &'a mut [u64; 32]) -> &'a [u64]
-    ensures { result.now ≡ moved_directions s.now at.entry.list.now }
+// The directions at the first positions, one for each that there is; how many.
+fn moved_directions(s: &[u64], at: Positions<'_>, out: &mut [u64; 32]) -> usize
+    ensures few { result ≤ 32 }
+    ensures moved { take result out.new ≡ moved_directions s.now at.entry.list.now }
 {
     let n = at.list.len().min(s.len());
     let list = &at.list[..n];
-    permute(0, s, Positions { list }, out)
+    permute(0, s, Positions { list }, out);
+    n
 }
 
-// The pairs at the positions, in the room lent.
-pub fn moved_pairs<'a>(
+// The pairs at the positions, in the front of the rooms lent; how many directions.
+pub fn moved_pairs(
+    l: &[u64],
+    g: &[u64],
+    s: &[u64],
+    at: Positions<'_>,
+    rooms: &mut PairRooms,
+) -> usize
+    ensures positions { take (length at.entry.list.now) rooms.new.positions ≡ at.entry.list.now }
+    ensures left { take (length at.entry.list.now) rooms.new.left ≡ permute gone_number l.now at.entry.list.now }
+    ensures right { take (length at.entry.list.now) rooms.new.right ≡ permute gone_number g.now at.entry.list.now }
+    ensures few { result ≤ 32 }
+    ensures directions { take result rooms.new.directions ≡ moved_directions s.now at.entry.list.now }
+{
+    wide_positions(at, &mut rooms.positions);
+    moved_side(l, at, &mut rooms.left);
+    moved_side(g, at, &mut rooms.right);
+    moved_directions(s, at, &mut rooms.directions)
+}
+
+// The same, handed on as slices of the rooms.
+pub fn pairs_at<'a>(
     l: &[u64],
     g: &[u64],
     s: &[u64],
@@ -74,10 +103,12 @@ pub fn moved_pairs<'a>(
 ) -> MovedPairs<'a>
     ensures { MovedBy l.now g.now s.now at.entry.list.now result }
 {
+    let n = at.list.len();
+    let directed = moved_pairs(l, g, s, at, &mut *rooms);
     MovedPairs {
-        positions: wide_positions(at, &mut rooms.positions),
-        left: moved_side(l, at, &mut rooms.left),
-        right: moved_side(g, at, &mut rooms.right),
-        directions: moved_directions(s, at, &mut rooms.directions),
+        positions: &rooms.positions[..n],
+        left: &rooms.left[..n],
+        right: &rooms.right[..n],
+        directions: &rooms.directions[..directed],
     }
 }

@@ -32,20 +32,15 @@ fn names_from(first: usize, a: &[u64], out: &mut [u64; 128], at: usize) -> usize
     at + 2 * a.len()
 }
 
-// The group names at their places, and the aggregate names after them; only an aggregate that acts has a projection.
-pub fn projected_by<'a>(
-    outcome: &Outcome,
-    o: &[u64],
-    a: &[u64],
-    out: &'a mut [u64; 128],
-) -> &'a [u64]
+// The group names at their places, and the aggregate names after them, in the front of the room lent, and how many numbers; only an aggregate that acts has a projection.
+pub fn projected_by(outcome: &Outcome, o: &[u64], a: &[u64], out: &mut [u64; 128]) -> usize
     requires { (length o.now ≤ 32) × (length a.now ≤ 32) }
-    ensures { (length result.now ≤ 128) × (result.now ≡ projected_numbers (projected_by outcome.now (placed_names o.now (places_by outcome.now) ++ names_from (length o.now) a.now))) }
+    ensures few { result ≤ 128 }
+    ensures names { take result out.new ≡ projected_numbers (projected_by outcome.now (placed_names o.now (places_by outcome.now) ++ names_from (length o.now) a.now)) }
 {
     let Outcome::Regrouped { places, .. } = outcome else {
-        return &[];
+        return 0;
     };
     let at = placed_names(o, places.positions().list, &mut *out);
-    let n = names_from(o.len(), a, &mut *out, at);
-    &out[..n]
+    names_from(o.len(), a, out, at)
 }

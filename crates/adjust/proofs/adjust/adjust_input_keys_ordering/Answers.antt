@@ -14,10 +14,10 @@ pub returns-in-CrossJoin : goal.returns-in-CrossJoin
 returns-in-CrossJoin c = λ s cs. let t = sheet_of c.args.sheet.now s cs in c.cross_join.ensures s cs ∙ ap (by_op same_expr t) c.in-CrossJoin.ensures ∙ op_chosen same_expr t
 
 pub returns-in-SortMergeJoin : goal.returns-in-SortMergeJoin
-returns-in-SortMergeJoin c = λ s cs. let t = sheet_of c.args.sheet.now s cs in c.reorder_partitioned_join_keys.ensures s cs ∙ ap (by_op same_expr t) c.in-SortMergeJoin.ensures ∙ op_chosen same_expr t
+returns-in-SortMergeJoin c = λ s cs. let t = sheet_of c.args.sheet.now s cs in c.join_keys.ensures s cs ∙ ap (by_op same_expr t) c.in-SortMergeJoin.ensures ∙ op_chosen same_expr t
 
 pub returns-in-Aggregate : goal.returns-in-Aggregate
-returns-in-Aggregate c = λ s cs. let t = sheet_of c.args.sheet.now s cs in c.aggregate.ensures s cs ∙ ap (by_op same_expr t) c.in-Aggregate.ensures ∙ op_chosen same_expr t
+returns-in-Aggregate c = λ s cs. let t = sheet_of c.args.sheet.now s cs in (let x = c.args.sheet.now in c.aggregate.ensures x.left.now x.right.now s x.rewriting.now x.mapped.now cs) ∙ ap (by_op same_expr t) c.in-Aggregate.ensures ∙ op_chosen same_expr t
 
 pub returns-in-Projection : goal.returns-in-Projection
 returns-in-Projection c = λ s cs. let t = sheet_of c.args.sheet.now s cs in c.projection.ensures s cs ∙ ap (by_op same_expr t) c.in-Projection.ensures ∙ op_chosen same_expr t

@@ -11,7 +11,7 @@ use Rattle.keys.specs.Answers.{adjusted_of}
 use Rattle.keys.proofs.Packed.{positions_expressions}
 use Rattle.keys.proofs.Names.{columns_length}
 use Rattle.keys.proofs.Rules.{regrouped_none, regrouped_acts, regrouped_stays}
-use Rattle.adjust.specs.Sheets.{sheet_of}
+use Rattle.adjust.specs.Sheets.{aggregate_sheet}
 use Rattle.adjust.proofs.aggregate.regroup_by.Goals as goal
 use Rattle.adjust.proofs.aggregate.regroup_by.Goals.{After-expected_expr_positions, in_default-via-in-Some+else-sheet, in_default-via-in_default}
 
@@ -29,12 +29,12 @@ positions c = let x = c.args.sheet.now in
     ∙ ap (λ (xs : List Expression). expected_expr_positions same_expr placeholder xs (expressions x.required.now)) c.requires)
 
 pub returns-in-Some : goal.returns-in-Some
-returns-in-Some c = λ s cs.
-    c.regroup.ensures s cs
-    ∙ regrouped_acts same_expr (sheet_of c.args.sheet.now s cs) _ (numbers c.in-Some.at) (positions (goal.at.returns-in-Some c).After-expected_expr_positions ∙ ap positions_of c.in-Some.is) c.if-sheet.true
+returns-in-Some c = λ l g s w m cs.
+    c.regroup.ensures l g s w m cs
+    ∙ regrouped_acts same_expr (aggregate_sheet c.args.sheet.now l g s w m cs) _ (numbers c.in-Some.at) (positions (goal.at.returns-in-Some c).After-expected_expr_positions ∙ ap positions_of c.in-Some.is) c.if-sheet.true
 
 pub returns-in_default : goal.returns-in_default
-returns-in_default c = λ s cs. let t = sheet_of c.args.sheet.now s cs in let p = positions (goal.at.returns-in_default c).After-expected_expr_positions in
+returns-in_default c = λ l g s w m cs. let t = aggregate_sheet c.args.sheet.now l g s w m cs in let p = positions (goal.at.returns-in_default c).After-expected_expr_positions in
     ap (λ a. adjusted_of t (Some a)) c.passed.ensures
     ∙ elim c.in_default.branch [
       | in_default-via-in-Some+else-sheet w ↦ regrouped_stays same_expr t _ (numbers w.in-Some.at) (p ∙ ap positions_of w.in-Some.is) w.if-sheet.false

@@ -1,8 +1,8 @@
 -- What was followed is the sheet's answer.
 use Rattle.answers.proofs.join.answer_join_sheet.Goals as goal
 
-pub write_join-requires : goal.write_join-requires
-write_join-requires c = (c.chosen-lists.ensures.few, λ e. rw (c.chosen-lists.ensures.text, c.follow-attempt.ensures) (c.requires.3 e))
+pub answer_attempt-requires : goal.answer_attempt-requires
+answer_attempt-requires c = λ e. rw c.follow-attempt.ensures (c.requires.fits e)
 
 pub returns : goal.returns
-returns c = rw (← c.follow-attempt.ensures, ← c.chosen-lists.ensures.text) c.write_join.ensures
+returns c = rw (← c.follow-attempt.ensures) c.answer_attempt.ensures

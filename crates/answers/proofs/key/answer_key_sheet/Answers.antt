@@ -11,11 +11,11 @@ use Rattle.answers.proofs.key.answer_key_sheet.Goals as goal
 pub returns-in_default : goal.returns-in_default
 returns-in_default c = let d = c.adjust in rw (key_refused (held_key_sheet c.args.held.lists.now c.args.held.counts.now) d.result d.ensures c.in_default.is) (ap Err c.on_line.ensures, refl)
 
-pub write_key-requires : goal.write_key-requires
-write_key-requires c = let d = c.adjust in
-    λ e. rw c.chosen-answer.ensures
-    (subst (λ (t : A.Outcome). FitsIn (length c.args.out.now) t) (key_written (held_key_sheet c.args.held.lists.now c.args.held.counts.now) d.result c.in-Some.x d.ensures c.in-Some.is) (c.requires.2 e))
+pub answer_adjusted-requires : goal.answer_adjusted-requires
+answer_adjusted-requires c = let d = c.adjust in
+    λ e.
+    subst (λ (t : A.Outcome). FitsIn (length c.args.out.now) t) (key_written (held_key_sheet c.args.held.lists.now c.args.held.counts.now) d.result c.in-Some.x d.ensures c.in-Some.is) (c.requires.fits e)
 
 pub returns : goal.returns
-returns c = let d = c.adjust in let w = c.write_key.ensures in
-    rw (key_written (held_key_sheet c.args.held.lists.now c.args.held.counts.now) d.result c.in-Some.x d.ensures c.in-Some.is, ← c.chosen-answer.ensures) w
+returns c = let d = c.adjust in let w = c.answer_adjusted.ensures in
+    rw (key_written (held_key_sheet c.args.held.lists.now c.args.held.counts.now) d.result c.in-Some.x d.ensures c.in-Some.is) w

@@ -1,6 +1,5 @@
 -- `follow_in` meets its contract: what was read, and what is answered of it (`Entries`).
 use mathlib.Core.Path.{subst, ◌∙◌}
-use native.Mathlib.Omega.{arith}
 use borrow.Author.Tests.{leb-true}
 use lib.ListN.{length}
 use Rattle.std.proofs.lemmas.Result.{err_from_is_err_and}
@@ -17,12 +16,10 @@ returns-in_err-read_sheet c = let a = c.args in let q = c.read_sheet in let t = 
     rw p.1 (leaves_refused (inputs_decision a.sheet.now) a.out.now _ _ _ (inputs_turned a.sheet.now _ _ t.is) (p.2 ∙ t.same))
 
 pub answer_join_sheet-requires : goal.answer_join_sheet-requires
-answer_join_sheet-requires c = let a = c.args in let q = c.read_sheet in let w = was_read (read_join_sheet a.sheet.now) q.result _ q.ensures.answer c.in_ok-read_sheet.was in (
-  (q.ensures.held w.x w.is).0,
-  omega (arith, c.requires.0, q.auto.rows),
-  omega (arith, c.requires.1),
-  λ e. subst (λ (o : Outcome). FitsIn (length a.out.now) o) (inputs_held a.sheet.now w.x _ w.is (q.ensures.held w.x w.is).1) (has_room (inputs_decision a.sheet.now) (length a.out.now) (inputs_fits a.sheet.now) (leb-true _ _ e)),
-)
+answer_join_sheet-requires c = let a = c.args in let q = c.read_sheet in let w = was_read (read_join_sheet a.sheet.now) q.result _ q.ensures.answer c.in_ok-read_sheet.was in record {
+  held = (q.ensures.held w.x w.is).0;
+  fits = λ e. subst (λ (o : Outcome). FitsIn (length a.out.now) o) (inputs_held a.sheet.now w.x _ w.is (q.ensures.held w.x w.is).1) (has_room (inputs_decision a.sheet.now) (length a.out.now) (inputs_fits a.sheet.now) (leb-true _ _ e));
+}
 
 pub returns : goal.returns
 returns c = let a = c.args in let q = c.read_sheet in let w = was_read (read_join_sheet a.sheet.now) q.result _ q.ensures.answer c.in_ok-read_sheet.was in

@@ -7,10 +7,10 @@ use Rattle.sheet.specs.Held.{pair_rows}
 use Rattle.moves.proofs.HeldJoins.{join_suited, join_decided}
 use Rattle.moves.proofs.decide.follow.Goals as goal
 
-pub invariant_of-join_keys_to_inputs-3 : goal.invariant_of-join_keys_to_inputs-3
-invariant_of-join_keys_to_inputs-3 c = let x = c.args.sheet in
+pub invariant_of-join_keys_to_inputs : goal.invariant_of-join_keys_to_inputs
+invariant_of-join_keys_to_inputs c = let x = c.args.sheet in
     let s = join_suited x.held.lists.now x.held.counts.now x.bounds c.list.ensures.line c.list-2.ensures.line c.list-3.ensures.line c.list-5.ensures.line in
-    record { few = s.0; even = s.1 }
+    record { few = s.0; even = s.1; few_of_left = s.2; few_of_right = s.3 }
 
 pub returns : goal.returns
 returns c = let x = c.args.sheet in let d = c.join_keys_to_inputs in let e = c.list-head.ensures.line in
