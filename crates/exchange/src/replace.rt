@@ -89,6 +89,7 @@ pub fn replace_order_preserving_variants(src: &[Row], at: usize, dst: &mut [Row]
 }
 
 // The step on the `left` trees from `at` on, the children of one operator: those that are tracked are gone into.
+// Document 01 names it: a node function and a child-list function that call each other, so this is no loop in the first.
 #[cycle(replace_children_replace_order_preserving_variants)]
 fn replace_children(src: &[Row], at: usize, left: u64, dst: &mut [Row], to: usize) -> Step
     requires { Readys replace_tracked src.now at left (length dst.old) to }

@@ -14,7 +14,7 @@ use Rattle.exchange.specs.Relationships.{enforce_distribution_relationships}
 use Rattle.exchange.specs.Ensure.{relate}
 use Rattle.exchange.specs.FactRows.{child_for}
 use Rattle.exchange.specs.Standings.{SameChildren, done, also, form_numbers, form_list}
-use Rattle.exchange.specs.Turns.{Stand, Told, lacking, told}
+use Rattle.exchange.specs.Turns.{Stand, Told, told}
 use Rattle.exchange.proofs.FormsSmall.{stand_small}
 
 -- the children by their numbers have them
@@ -23,10 +23,6 @@ same_by [] = done
 same_by (a ∷ asks) = also {a = a} {k = child_for a} (record { number = refl; need = refl; count = refl; facts = refl }) (same_by asks)
 
 module _ (s : Settings) (f : Facts) where
-  pub steps_lacking : (x : Option (List ChildState)) → nothing ≡ form_list x → lacking ≡ told (relate s f x)
-  steps_lacking nothing e = refl
-  steps_lacking (some cs) e = absurd (cc)
-
   module _ (needs fs : List ℕ) where
     abbrev Stood : Option (List ChildState) → Type 0
     Stood x = (cs : List ChildState) → x ≡ some cs → Stand f.rows 1 needs (form_numbers cs) cs

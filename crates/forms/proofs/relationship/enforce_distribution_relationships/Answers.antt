@@ -1,12 +1,10 @@
 -- `forms::relationship::enforce_distribution_relationships` meets its contract: the rounds that are left, on the forms as they stand, end as all of them do (`rounds_turn`).
-use mathlib.Core.Path.{refl, sym, ap, ◌∙◌}
+use mathlib.Core.Path.{sym, ap, ◌∙◌}
 use mathlib.Core.Bool.{not}
 use mathlib.Core.List.{map}
 use Prim.Native.Nat.{ℕ}
 use native.Mathlib.Omega.{arith}
-use lib.ListN.{length-map}
 use Rattle.std.proofs.lemmas.Result.{err_from_is_err_and}
-use Rattle.exchange.specs.declared.status.Asked.{Asked}
 use Rattle.exchange.specs.Facts.{unsatisfied_at}
 use Rattle.exchange.specs.FactRows.{fact_row}
 use Rattle.exchange.specs.Standings.{asked_needs}
@@ -15,12 +13,6 @@ use Rattle.exchange.proofs.Tests.{refused, held}
 use Rattle.forms.proofs.Rounds.{rounds_done, rounds_spent, rounds_stuck, rounds_lacking, rounds_turn, round_lacking, round_done, ok_or_missing, ok_or_done}
 use Rattle.forms.proofs.Rounded.{enforce_same}
 use Rattle.forms.proofs.relationship.enforce_distribution_relationships.Goals as goal
-
-pub loop-init : goal.loop-init
-loop-init c = let a = c.args in (refl, c.requires.small, ap (λ (n : ℕ). rounds_by (map fact_row a.xs.rows.now) a.masks.now (asked_needs a.asks.list.now) n a.forms.now) (omega (arith, length-map a.asks.list.now (λ (x : Asked). x.need))))
-
-pub invariant_of-given_set : goal.invariant_of-given_set
-invariant_of-given_set c = let l = c.loop in record { few = omega (arith, l.invariant.0, c.requires.forms_len, c.args.asks.few); small = l.invariant.1 }
 
 pub returns-then-mask-eq0 : goal.returns-then-mask-eq0
 returns-then-mask-eq0 c = λ cs s. let a = c.args in let l = c.loop in
@@ -53,9 +45,6 @@ loop-preserved c = let a = c.args in let l = c.loop in
           (round_done _ _ _ _ (ok_or_done _ _ _ (sym c.ok_or.ensures.value ∙ c.in_ok-ok_or.was)) c.round.ensures.forms_after)
           ∙ ap (λ (n : ℕ). ends n c.round.new.forms) (omega arith),
     )
-
-pub invariant_of-given_set-2 : goal.invariant_of-given_set-2
-invariant_of-given_set-2 c = let l = c.loop in record { few = omega (arith, l.invariant.0, c.requires.forms_len, c.args.asks.few); small = l.invariant.1 }
 
 pub returns-then-unsatisfied_at-ne0 : goal.returns-then-unsatisfied_at-ne0
 returns-then-unsatisfied_at-ne0 c = λ cs s. let a = c.args in let l = c.loop in
