@@ -76,7 +76,8 @@ pub struct Packed {
 }
 
 // Line i of a sheet by its fields, each judged: its list goes into the room lent. It stands apart from `read_list`, which is then called
-// in one place and is part of its loop: else a K sheet of one pair takes a sixth more time, and more than plain Rust.
+// in one place and is part of its loop: else a K sheet of one pair takes a sixth more time, and more than plain Rust. That the rows are 192
+// is a condition, as in `line`.
 pub fn judged_list(
     s: &[u8],
     at: usize,
@@ -99,7 +100,7 @@ pub fn judged_list(
     }
 }
 
-// Line i of a sheet: its list goes into the room lent.
+// Line i of a sheet: its list goes into the room lent. That the rows are 192 is a condition, as in `line`.
 pub fn read_list(
     s: &[u8],
     at: usize,

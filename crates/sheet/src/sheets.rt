@@ -19,7 +19,7 @@ fn lists_fit(k: SheetKind, lists: &[[u64; 64]], counts: &[usize]) -> bool
     }
 }
 
-// A sheet of a kind: line i goes into list i, and how long it is into count i.
+// A sheet of a kind: line i goes into list i, and how long it is into count i. That the rows are 192 is a condition, as in `linekinds::line`.
 pub fn read_sheet(
     s: &[u8],
     k: SheetKind,

@@ -4,12 +4,12 @@ use mathlib.Core.Path.{◌≡◌, refl, ap, ◌∙◌}
 use mathlib.Core.Logic.{inl, inr, ⊎_elim}
 use native.Mathlib.Omega.{arith}
 use lib.ListN.{get_or}
+use Rattle.std.proofs.lemmas.Bool.{MatchBool-at_true, MatchBool-at_false}
 use Rattle.text.specs.declared.field.Field.TheVariants.{Number as number}
 use Rattle.text.specs.Read.{field_to}
 use Rattle.text.proofs.Scanning.{search_past}
 use Rattle.text.proofs.Digits.{going_first, going_end, Byte, byte_comma, byte_lf, byte_low, byte_high, byte_zero, byte_over, byte_digit}
 use Rattle.text.proofs.field.more_digits.Goals as goal
-use Rattle.text.proofs.field.more_digits.Goals.{then-not-is_ascii_digit-via-then-not-is_ascii_digit, then-not-is_ascii_digit-via-else-not-is_ascii_digit+then-n-eq0, then-not-is_ascii_digit-via-else-not-is_ascii_digit+else-n-eq0+then-n-gt-TENTH}
 
 pub loop-i-init : goal.loop-i-init
 loop-i-init c = going_first _ _ _
@@ -22,10 +22,13 @@ returns-then-b-eq44 c =
 pub returns-then-not-is_ascii_digit : goal.returns-then-not-is_ascii_digit
 returns-then-not-is_ascii_digit c =
     let byte : Byte c.args.s.now c.args.at c.args.begun c.loop-i.i c.loop-i.n (get_or c.args.s.now c.loop-i.i 0) = record { going = c.loop-i.invariant; inside = omega arith; is = refl } in
-    elim c.then-not-is_ascii_digit.branch [
-      | then-not-is_ascii_digit-via-then-not-is_ascii_digit w ↦ ⊎_elim (λ low. byte_low byte c.if-b-eq44.false c.if-b-eq10.false low _ c.malformed_at.ensures) (λ high. byte_high byte high _ c.malformed_at.ensures) w.if-not-is_ascii_digit.ensures.cases
-      | then-not-is_ascii_digit-via-else-not-is_ascii_digit+then-n-eq0 w ↦ let d = w.if-not-is_ascii_digit.ensures.cases in byte_zero byte d.0 d.1 w.if-n-eq0.true _ c.malformed_at.ensures
-      | then-not-is_ascii_digit-via-else-not-is_ascii_digit+else-n-eq0+then-n-gt-TENTH w ↦ let d = w.if-not-is_ascii_digit.ensures.cases in byte_over byte d.0 d.1 (omega (arith, w.if-n-eq0.false)) (omega (arith, w.if-n-gt-TENTH.true)) _ c.malformed_at.ensures
+    let cases = c.is_ascii_digit.ensures.cases in
+    elim c.then-not-is_ascii_digit.either [
+      | inl other ↦ ⊎_elim (λ low. byte_low byte c.if-b-eq44.false c.if-b-eq10.false low _ c.malformed_at.ensures) (λ high. byte_high byte high _ c.malformed_at.ensures) (MatchBool-at_false _ _ other cases)
+      | inr e ↦ elim e [
+        | inl zero ↦ let d = MatchBool-at_true _ _ zero.0 cases in byte_zero byte d.0 d.1 zero.1 _ c.malformed_at.ensures
+        | inr over ↦ let d = MatchBool-at_true _ _ over.0 cases in byte_over byte d.0 d.1 (omega (arith, over.1)) (omega (arith, over.2)) _ c.malformed_at.ensures
+      ]
     ]
 
 pub returns-then-m-d : goal.returns-then-m-d
