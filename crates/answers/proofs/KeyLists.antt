@@ -6,19 +6,16 @@ use mathlib.Core.Bool.{Bool, true, false, cond}
 use mathlib.Core.List.{List, []}
 use native.Mathlib.Omega.{arith}
 use lib.ListN.{length, get_or}
-use Rattle.std.specs.Prelude.{Option, Some, None}
 use Rattle.keys.specs.Lists.{permute}
 use Rattle.keys.specs.Expressions.{Expression, placeholder, gone_number, expressions}
-use Rattle.keys.specs.Adjust.{KeySheet, KeyAnswer, Adjustment, hand_over, moved_directions, shift_right_required}
-use Rattle.keys.specs.Answers.{changed_by, reported_by, moved_or, handed, side_by, answer_by, answer_of, adjusted_of}
+use Rattle.keys.specs.Adjust.{KeySheet, KeyAnswer, hand_over, moved_directions, shift_right_required}
+use Rattle.keys.specs.Answers.{changed_by, reported_by, moved_or, handed, side_by, answer_by}
 use Rattle.keys.specs.declared.reorder.Reordered.TheVariants.{Met, Moved, Impossible}
 use Rattle.keys.specs.declared.answer.Handed.{Handed}
 use Rattle.keys.specs.declared.answer.Handed.TheVariants.{Kept, Cleared, Required, Keys, Shifted, Mapped}
 use Rattle.keys.specs.declared.answer.Outcome.{Outcome}
 use Rattle.keys.specs.declared.answer.Outcome.TheVariants.{Unchanged, Passed, Tried, Regrouped}
-use Rattle.keys.specs.declared.answer.Adjusted.{Adjusted}
 use Rattle.keys.proofs.Packed.{permute_expressions}
-use Rattle.sheet.specs.KeyAnswers.{refused, wrote, key_answer_text, adjusted}
 use Rattle.sheet.specs.Held.{held_at, expr_lists, child_count, held_key_sheet, KeyHeld}
 use Rattle.moves.specs.Chosen.{handed_list, shifted_for}
 use Rattle.lines.specs.Children.{chosen}
@@ -99,11 +96,3 @@ module _ (lists : List (List ℕ)) (counts : List ℕ) where
         handed s (side_by s o cleared first others ps places (expressions (At i))) h c ≡ chosen (handed_list h (At 1) (side i) k (At 8)) c
         = λ i h d c. handed_is s (side_by s o cleared first others ps places (expressions (At i))) (At 1) (side i) k (At 8) refl (side_packed i) refl h d c in
         λ j. hand_over (λ c. child 2 first (shifted_first first others (get_or (At 0) 3 0) (At 1) k t) c j) (λ c. child 3 others (shifted_others first others (get_or (At 0) 3 0) (At 1) k t) c j) (expr_lists lists counts 9 (child_count lists counts))
-
--- refusal 10, or the text
-module _ (s : KeySheet) {d : Adjustment} where
-  pub key_refused : (o : Option Adjusted) → adjusted_of s o ≡ d → o ≡ None → adjusted d ≡ refused 10 0
-  key_refused o e z = rw (← e, z)
-
-  pub key_written : (o : Option Adjusted) (x : Adjusted) → adjusted_of s o ≡ d → o ≡ Some x → adjusted d ≡ wrote (key_answer_text (answer_of s x))
-  key_written o x e z = rw (← e, z)

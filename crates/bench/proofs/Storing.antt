@@ -5,7 +5,7 @@ use mathlib.Core.Path.{◌≡◌, refl, sym, ap, ◌∙◌}
 use mathlib.Core.List.{List}
 use native.Mathlib.Numerals.{add-one}
 use native.Mathlib.Omega.{arith}
-use lib.ListN.{length, get_or, drop, set, drop_of_length-le}
+use lib.ListN.{length, get_or, drop, set}
 use lib.Seq.{sets, drop-cons}
 use mathlib.Core.Bool.{true}
 use Rattle.std.specs.Prelude.{eqb}
@@ -22,9 +22,6 @@ use Rattle.bench.specs.Orders.{taken, tried, report_for, left_for, right_for}
 module _ (out xs : List ℕ) (i : ℕ) where
   pub stored_turn : i < length xs → sets out i (drop i xs) ≡ sets (set out i (get_or xs i 0)) (i + 1) (drop (i + 1) xs)
   stored_turn h = rw (add-one, drop-cons xs i 0 h)
-
-  pub stored_end : length xs ≤ i → out ≡ sets out i (drop i xs)
-  stored_end h = rw (drop_of_length-le xs h)
 
 -- which lists are taken
 module _ (r l g : List ℕ) where

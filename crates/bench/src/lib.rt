@@ -54,10 +54,7 @@ pub extern "C" fn bench_put_line(out: &mut [u8], at: usize, letter: u8, rows: &[
     ensures answer { result ≡ place_after (length out.old) at (line_text letter (map row_field rows.now)) }
     ensures stored { out.new ≡ stored_from out.old at (line_text letter (map row_field rows.now)) }
 {
-    if out.len() < at {
-        return 0;
-    }
-    if out.len() - at < line_length(rows) {
+    if out.len() < at || out.len() - at < line_length(rows) {
         return 0;
     }
     // No From goes from usize to u64.

@@ -41,12 +41,10 @@ pub fn expected_expr_positions(current: &[u64], expected: &[u64]) -> Option<Numb
 fn rewrite_one(w: &[[u64; 2]], x: u64) -> u64
     ensures { result ≡ rewrite_one eqb (number_rules w.now) x }
 {
-    for rule in w {
-        if rule[0] == x {
-            return rule[1];
-        }
+    match w.iter().find(|rule| rule[0] == x) {
+        Some(rule) => rule[1],
+        None => x,
     }
-    x
 }
 
 // Each key rewritten, in the room lent: over a closure the promise would be index by index, no plainer than the two lines.

@@ -5,7 +5,7 @@ use lib.ListN.{length, get_or, length-set, length-map, get_or-map}
 use Rattle.std.proofs.lemmas.List.{get_or_default}
 use Rattle.keys.specs.Lists.{permute}
 use Rattle.keys.specs.Expressions.{gone_number}
-use Rattle.bench.proofs.Storing.{stored_turn, stored_end}
+use Rattle.bench.proofs.Storing.{stored_turn}
 use Rattle.bench.proofs.store_moved.Goals as goal
 
 pub loop-i-preserved : goal.loop-i-preserved
@@ -14,9 +14,3 @@ loop-i-preserved c = let k = c.args.all.now in let ps = c.args.at.list.now in le
       ap length stored ∙ simp length-set c.loop-i.invariant.0,
       rw (stored, value) (sym (stored_turn c.loop-i.out (permute gone_number k ps) i h) ∙ c.loop-i.invariant.1),
     )
-
-pub shape_of-out : goal.shape_of-out
-shape_of-out c = c.loop-i.invariant.0
-
-pub returns : goal.returns
-returns c = let ps = c.args.at.list.now in stored_end c.loop-i.out (permute gone_number c.args.all.now ps) c.loop-i.i (rw (length-map ps) c.loop-i-test.false) ∙ c.loop-i.invariant.1

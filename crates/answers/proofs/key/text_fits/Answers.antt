@@ -1,16 +1,12 @@
 -- The exact length of both texts, or the room that is known to do.
-use Prim.Native.Nat.{ℕ, ◌+◌, ◌≤◌}
+use Prim.Native.Nat.{ℕ, ◌≤◌}
 use mathlib.Core.Path.{◌≡◌, ap, ◌∙◌}
 use mathlib.Core.List.{List}
 use native.Mathlib.Omega.{arith}
-use lib.Dec.{leb}
-use lib.ListN.{length, get_or, length-append}
-use Rattle.std.specs.Prelude.{Option, Some, None, IfSome, option_copied}
+use lib.ListN.{length, get_or}
+use Rattle.std.specs.Prelude.{Option, Some, None, IfSome}
 use Rattle.sheet.specs.Held.{child_count}
-use Rattle.lines.specs.AnswerTexts.{key_text_of}
-use Rattle.lines.specs.Children.{children_text}
 use Rattle.answers.proofs.KeyLists.{key_children}
-use Rattle.answers.specs.AnswerLists.{whole_text}
 use Rattle.answers.proofs.key.text_fits.Goals as goal
 
 wider : (o : Option (List ℕ)) → IfSome o (λ l. length l ≤ 32) → IfSome o (λ l. length l ≤ 64)
@@ -22,13 +18,3 @@ children_length-requires c =
     let x = c.args.a.now.sheet in let h = x.bounds in let f = c.args.a.now.few in
     let counted : c.child_count-n.result ≡ child_count x.held.lists.now x.held.counts.now = c.child_count-n.ensures ∙ ap (λ (h : List ℕ). get_or h 6 0) c.list.ensures.line in
     (omega (arith, counted, key_children x.held.lists.now x.held.counts.now h), h.lines.0, h.lines.1, wider _ f.first, wider _ f.others, λ i e. h.room i (omega (arith, counted)))
-
-pub returns : goal.returns
-returns c =
-    let a = c.args.a.now in let x = a.sheet.held in
-    let counted : c.child_count-n.result ≡ child_count x.lists.now x.counts.now = c.child_count-n.ensures ∙ ap (λ (h : List ℕ). get_or h 6 0) c.list.ensures.line in
-    let handed : ℕ → List ℕ = children_text (option_copied a.children.first) (option_copied a.children.others) x.lists.now x.counts.now in
-    let e : c.children_length.result ≡ length (handed (child_count x.lists.now x.counts.now)) = c.children_length.ensures.exact ∙ ap (λ (n : ℕ). length (handed n)) counted in
-    let both : c.key_lists_length.result + c.children_length.result ≡ length (whole_text a.lists a.children x) =
-    omega (arith, e, c.key_lists_length.ensures.exact, length-append (key_text_of a.lists) (handed (child_count x.lists.now x.counts.now))) in
-    ap (λ (n : ℕ). leb n c.args.room) both

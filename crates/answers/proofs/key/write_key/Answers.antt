@@ -23,11 +23,6 @@ counted c = c.child_count-n.ensures ∙ ap (λ (h : List ℕ). get_or h 6 0) c.l
 fits : (c : After-child_count-n) → let a = c.args.a.now in length (whole_text a.lists a.children a.sheet.held) ≤ length c.args.out.now
 fits c = leb-true _ _ (sym c.text_fits.ensures ∙ c.if-not-text_fits.false)
 
-pub put_key_lists-at-requires : goal.put_key_lists-at-requires
-put_key_lists-at-requires c =
-    let a = c.args.a.now in let x = a.sheet.held in
-    omega (arith, fits (goal.at.put_key_lists-at-requires c).After-child_count-n, length-append (key_text_of a.lists) (children_text (option_copied a.children.first) (option_copied a.children.others) x.lists.now x.counts.now (child_count x.lists.now x.counts.now)))
-
 pub put_children-requires : goal.put_children-requires
 put_children-requires c =
     let a = c.args.a.now in let x = a.sheet.held in let h = a.sheet.bounds in let w = c.put_key_lists-at.ensures in
