@@ -23,9 +23,6 @@ module _ (xs : List ℕ) (items : List Expr) (i : ℕ) (so : take i (map number_
   pub key_turn : (x d : ℕ) → i < length xs → i < length items → x ≡ get_or xs i d → take (i + 1) (map number_of (set items i (record { number = x }))) ++ drop (i + 1) xs ≡ xs
   key_turn x d h k e = rw (map-set number_of items i (record { number = x })) (fill_turn xs (map number_of items) i so x d h (rw (length-map items number_of) k) e)
 
-  pub key_end : length xs ≤ i → take i (map number_of items) ≡ xs
-  key_end h = fill_end xs (map number_of items) i so h
-
 -- an entry among the first n of a key list's array: read, and changed
 module _ (items : List Expr) (n p : ℕ) (h : p < n) where
   pub key_changed : (e : Expr) → take n (map number_of (set items p e)) ≡ set (take n (map number_of items)) p (number_of e)

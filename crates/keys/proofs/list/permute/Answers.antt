@@ -1,9 +1,9 @@
 -- The array filled so far, with what is left, is what stands at the positions (`fill_turn`).
-use mathlib.Core.Path.{◌≡◌, sym, ◌∙◌}
+use mathlib.Core.Path.{sym, ◌∙◌}
 use native.Mathlib.Omega.{arith}
-use lib.ListN.{length, get_or, length-set, length-map, get_or-map}
+use lib.ListN.{get_or, length-set, length-map, get_or-map}
 use Rattle.keys.specs.Lists.{permute}
-use Rattle.keys.proofs.Turns.{fill_turn, fill_end}
+use Rattle.keys.proofs.Turns.{fill_turn}
 use Rattle.keys.proofs.list.permute.Goals as goal
 
 pub loop-i-preserved : goal.loop-i-preserved
@@ -14,7 +14,3 @@ loop-i-preserved c = let k = c.args.all.now in let ps = c.args.at.list.now in le
       (omega (arith, c.loop-i.invariant.0))
       (c.entry.ensures ∙ sym (get_or-map (λ p. get_or k p gone) ps i 0)),
 )
-
-pub returns : goal.returns
-returns c = let ps = c.args.at.list.now in let e : length ps ≡ c.loop-i.i = omega (arith, c.loop-i.auto.i-end) in
-    rw e (fill_end (permute c.args.gone c.args.all.now ps) c.loop-i.out c.loop-i.i c.loop-i.invariant.1 (rw (length-map ps) c.loop-i-test.false))

@@ -1,10 +1,10 @@
 -- The array filled so far, with what is left, is the keys at the positions (`key_turn`).
-use mathlib.Core.Path.{◌≡◌, sym, ◌∙◌}
+use mathlib.Core.Path.{sym, ◌∙◌}
 use native.Mathlib.Omega.{arith}
-use lib.ListN.{length, get_or, length-set, length-map, get_or-map}
+use lib.ListN.{get_or, length-set, length-map, get_or-map}
 use Rattle.keys.specs.Lists.{permute}
 use Rattle.keys.specs.Expressions.{gone_number}
-use Rattle.keys.proofs.Turns.{key_turn, key_end}
+use Rattle.keys.proofs.Turns.{key_turn}
 use Rattle.keys.proofs.list.KeyList.moved.Goals as goal
 
 pub loop-i-preserved : goal.loop-i-preserved
@@ -15,7 +15,3 @@ loop-i-preserved c = let k = c.args.keys.now in let ps = c.args.at.list.now in l
       (omega (arith, c.loop-i.invariant.0))
       (c.entry.ensures ∙ sym (get_or-map (λ p. get_or k p gone_number) ps i 0)),
 )
-
-pub returns-clause-keys : goal.returns-clause-keys
-returns-clause-keys c = let ps = c.args.at.list.now in
-    let e : length ps ≡ c.loop-i.i = omega (arith, c.loop-i.auto.i-end) in rw (e) (key_end (permute gone_number c.args.keys.now ps) c.loop-i.list.0 c.loop-i.i c.loop-i.invariant.1 (rw (length-map ps) c.loop-i-test.false))

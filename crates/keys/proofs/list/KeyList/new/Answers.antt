@@ -1,14 +1,10 @@
 -- The array filled so far, with what is left of the keys, is all the keys (`key_turn`).
-use mathlib.Core.Path.{◌≡◌, refl}
+use mathlib.Core.Path.{refl}
 use native.Mathlib.Omega.{arith}
-use lib.ListN.{length, get_or, length-set}
-use Rattle.keys.proofs.Turns.{key_turn, key_end}
+use lib.ListN.{get_or, length-set}
+use Rattle.keys.proofs.Turns.{key_turn}
 use Rattle.keys.proofs.list.KeyList.new.Goals as goal
 
 pub loop-i-preserved : goal.loop-i-preserved
 loop-i-preserved c = let k = c.args.keys.now in let i = c.loop-i.i in let t = c.loop-i-test.true in
     (simp length-set c.loop-i.invariant.0, key_turn k c.loop-i.list.0 i c.loop-i.invariant.1 (get_or k i 0) 0 t (omega (arith, c.loop-i.invariant.0)) refl)
-
-pub returns-clause-keys : goal.returns-clause-keys
-returns-clause-keys c = let k = c.args.keys.now in let e : length k ≡ c.loop-i.i = omega (arith, c.loop-i.auto.i-end) in
-    rw (e) (key_end k c.loop-i.list.0 c.loop-i.i c.loop-i.invariant.1 c.loop-i-test.false)
