@@ -29,7 +29,7 @@ pub extern "C" fn lochkave_adjust_input_keys_ordering(sheet: &[u8], out: &mut [u
     word(adjust_in(sheet, &mut fields, &mut lists, out))
 }
 
-// Decides an I sheet.
+// Decides an I sheet. As the one above, in the rooms of an I sheet: both are exported for C.
 #[unsafe(no_mangle)]
 pub extern "C" fn lochkave_reorder_join_keys_to_inputs(sheet: &[u8], out: &mut [u8]) -> u64
     ensures result { result ≡ answer (inputs_outcome sheet.now (length out.old)) }
