@@ -17,7 +17,7 @@ use exchange::facts::PlanFacts;
 use exchange::relationship::Unenforced;
 use exchange::row::Row;
 use exchange::settings::Settings;
-use plananswer::plan::{Head, write_plan};
+use plananswer::plan::{AnswerRows, Head, write_plan};
 use plansheet::line::sets_of;
 use plansheet::plan::Plan as SheetPlan;
 use plansheet::rooms::SheetRooms;
@@ -93,5 +93,6 @@ pub(crate) fn answer_plan(
         interleave: done.interleave,
         tracked: done.tracked,
     };
-    write_plan(head, &dst[..done.lines], out)
+    let rows = &dst[..done.lines];
+    write_plan(head, AnswerRows { rows }, out)
 }

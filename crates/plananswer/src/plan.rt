@@ -20,6 +20,13 @@ pub struct Head {
     pub tracked: u64,
 }
 
+// The rows of an answer's tree: no more than the sheet's lines can come to.
+#[derive(Clone, Copy)]
+pub struct AnswerRows<'a> {
+    pub rows: &'a [Row],
+    pub ghost few: { length rows.now ≤ 65536 },
+}
+
 // The length of the d line.
 fn head_length(head: Head) -> usize
     ensures exact { result ≡ length (head_line head.changed head.window head.interleave head.tracked) }
@@ -29,14 +36,13 @@ fn head_length(head: Head) -> usize
     6 + a + number_length(head.interleave) + number_length(head.tracked)
 }
 
-// The length of the rows' t lines. How many rows there are at most stays a condition: a struct for one slice would be no plainer.
-fn lines_length(rows: &[Row]) -> usize
-    requires { length rows.now ≤ 65536 }
-    ensures exact { result ≡ length (lines_of row_line rows.now) }
+// The length of the rows' t lines.
+fn lines_length(answer: AnswerRows) -> usize
+    ensures exact { result ≡ length (lines_of row_line answer.entry.rows.now) }
     ensures few { result ≤ 12517376 }
 {
     let mut n: usize = 0;
-    for row in rows {
+    for row in answer.rows {
         n += operator_length(*row);
     }
     n
@@ -44,11 +50,10 @@ fn lines_length(rows: &[Row]) -> usize
 
 // The length of the answer.
 #[tactic(auto, unfolding(crate::specs::RowTexts::rows_text))]
-pub fn plan_text_length(head: Head, rows: &[Row]) -> usize
-    requires { length rows.now ≤ 65536 }
-    ensures { result ≡ length (rows_text head.changed head.window head.interleave head.tracked rows.now) }
+pub fn plan_text_length(head: Head, answer: AnswerRows) -> usize
+    ensures { result ≡ length (rows_text head.changed head.window head.interleave head.tracked answer.entry.rows.now) }
 {
-    head_length(head) + lines_length(rows)
+    head_length(head) + lines_length(answer)
 }
 
 // The d line.
@@ -76,12 +81,11 @@ pub fn put_plan(out: &mut [u8], at: usize, head: Head, rows: &[Row]) -> usize
 }
 
 // The answer, where there is room for it; else refusal 12.
-pub fn write_plan(head: Head, rows: &[Row], out: &mut [u8]) -> Result<usize, Refused>
-    requires { length rows.now ≤ 65536 }
-    ensures { Writes (within (length out.old) (wrote (rows_text head.changed head.window head.interleave head.tracked rows.now))) result out.old out.new }
+pub fn write_plan(head: Head, answer: AnswerRows, out: &mut [u8]) -> Result<usize, Refused>
+    ensures { Writes (within (length out.old) (wrote (rows_text head.changed head.window head.interleave head.tracked answer.entry.rows.now))) result out.old out.new }
 {
-    if out.len() < plan_text_length(head, rows) {
+    if out.len() < plan_text_length(head, answer) {
         return Err(Refusal::OutputTooShort.on_line(0));
     }
-    Ok(put_plan(out, 0, head, rows))
+    Ok(put_plan(out, 0, head, answer.rows))
 }

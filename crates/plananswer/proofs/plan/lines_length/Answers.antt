@@ -7,7 +7,7 @@ use Rattle.plananswer.proofs.plan.lines_length.Goals as goal
 pub loop-row-preserved : goal.loop-row-preserved
 loop-row-preserved c =
     let i = c.loop-row.row-index in
-    let rows = c.args.rows.now in
+    let rows = c.args.answer.rows.now in
     record {
       whole = omega (
         arith,
@@ -23,5 +23,5 @@ pub returns-clause-exact : goal.returns-clause-exact
 returns-clause-exact c = omega (
   arith,
   c.loop-row.invariant.whole,
-  ap length (lines_none row_line c.args.rows.now c.loop-row.row-index c.loop-row-test.false),
+  ap length (lines_none row_line c.args.answer.rows.now c.loop-row.row-index c.loop-row-test.false),
 )

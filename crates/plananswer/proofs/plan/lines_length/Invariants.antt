@@ -5,6 +5,6 @@ use Rattle.plananswer.proofs.plan.lines_length.Given as goal
 
 abbrev pub invariant-loop-row : goal.invariant-loop-row
 invariant-loop-row l = record {
-  whole : l.n + length (lines_of row_line (drop l.row-index l.rows)) ≡ length (lines_of row_line l.rows);
+  whole : l.n + length (lines_of row_line (drop l.row-index l.answer.rows.now)) ≡ length (lines_of row_line l.answer.rows.now);
   few : l.n ≤ l.row-index * 191;
 }
