@@ -15,8 +15,10 @@ use Rattle.sheet.specs.Outcomes.{within, FitsIn, Writes}
 use Rattle.sheet.specs.Held.{held_at, child_count}
 use Rattle.sheet.proofs.AnswersFit.{Fits}
 use Rattle.sheet.proofs.KeyAccepted.{key_written_again, join_written_again}
-use Rattle.lochkave.specs.Entry.{key_again, join_again}
-use Rattle.sheet.specs.ListFits.{sheet_by}
+use Rattle.lochkave.specs.Entry.{key_again, join_again, lists_decision}
+use Rattle.linekinds.specs.declared.lists.SheetKind.{SheetKind}
+use Rattle.linekinds.specs.declared.lists.SheetKind.TheVariants.{Key, Join}
+use Rattle.sheet.specs.ListFits.{sheet_by, SheetRead}
 use Rattle.sheet.specs.SheetLines.{refused_on}
 use Rattle.refusals.specs.declared.Refused.{Refused}
 use Rattle.std.specs.Prelude.{Result, Ok, Err}
@@ -73,6 +75,13 @@ module _ (s : List ℕ) where
 
   pub join_same : (x : JoinSheet) → read_join_sheet s ≡ sheet x → join_again (read_join_sheet s) ≡ wrote s
   join_same x e = rw e (ap wrote (join_written_again s x e))
+
+-- a sheet of either kind that was turned back
+pub lists_turned :
+    (k : SheetKind) (s : List ℕ) (q : Result (Unit {0}) Refused) (lists : List (List ℕ)) (counts out : List ℕ) (f : Refused) →
+    SheetRead k s q lists counts → q ≡ Err f → Writes (within (length out) (lists_decision k s)) (Err f) out out
+lists_turned Key s q lists counts out f h e = let t = was_turned (read_key_sheet s) q f h.answer e in leaves_refused (adjust_decision s) out _ _ f (adjust_turned s _ _ t.is) t.same
+lists_turned Join s q lists counts out f h e = let t = was_turned (read_join_sheet s) q f h.answer e in leaves_refused (inputs_decision s) out _ _ f (inputs_turned s _ _ t.is) t.same
 
 -- a K line's seventh number, where it stands
 pub seventh : (lists : List (List ℕ)) (counts : List ℕ) → length (held_at lists counts 0) ≡ 7 → get_or (get_or lists 0 []) 6 0 ≡ child_count lists counts

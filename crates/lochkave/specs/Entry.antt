@@ -2,6 +2,8 @@
 -- Renders document 01, "The Rust harness calls the decisions on byte slices", refusal 12, and demand 2, "Sheets written from a read sheet have the same bytes".
 use Rattle.std.specs.Prelude.{ℕ, List, cond, eqb, get_or}
 use Rattle.keys.specs.Adjust.{KeySheet}
+use Rattle.linekinds.specs.declared.lists.SheetKind.{SheetKind}
+use Rattle.linekinds.specs.declared.lists.SheetKind.TheVariants.{Key, Join}
 use Rattle.keys.specs.Inputs.{JoinSheet}
 use Rattle.sheet.specs.KeySheets.{Reading, sheet, turned, read_key_sheet, read_join_sheet}
 use Rattle.sheet.specs.KeyAnswers.{Outcome, refused, wrote, adjust_decision, inputs_decision}
@@ -40,6 +42,11 @@ adjust_outcome s room = within room (adjust_decision s)
 
 abbrev pub inputs_outcome : List ℕ → ℕ → Outcome
 inputs_outcome s room = within room (inputs_decision s)
+
+-- what is decided on a K or an I sheet
+abbrev pub lists_decision : SheetKind → List ℕ → Outcome
+lists_decision Key s = adjust_decision s
+lists_decision Join s = inputs_decision s
 
 abbrev pub distribution_outcome : List ℕ → ℕ → Outcome
 distribution_outcome s room = within room (plan_decision s)

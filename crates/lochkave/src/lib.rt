@@ -14,8 +14,9 @@ ghost use Rattle.lochkave.specs.Entry.{outcome, adjust_outcome, inputs_outcome, 
 
 use crate::again::{rewrite_join_sheet, rewrite_key_sheet, rewrite_plan_sheet};
 use crate::distribution::{TreeRooms, distribute, distribute_in};
-use crate::kinds::{adjust_in, follow_in};
+use crate::kinds::decide_lists;
 use crate::rooms::{keys_fit, trees_fit};
+use linekinds::lists::SheetKind;
 use refusals::word;
 
 // Decides a K sheet.
@@ -26,7 +27,7 @@ pub extern "C" fn lochkave_adjust_input_keys_ordering(sheet: &[u8], out: &mut [u
 {
     let mut fields = [[0u64; 2]; 192];
     let mut lists = [[0u64; 64]; 17];
-    word(adjust_in(sheet, &mut fields, &mut lists, out))
+    word(decide_lists::<17>(sheet, SheetKind::Key, &mut fields, &mut lists, out))
 }
 
 // Decides an I sheet. As the one above, in the rooms of an I sheet: both are exported for C.
@@ -37,7 +38,7 @@ pub extern "C" fn lochkave_reorder_join_keys_to_inputs(sheet: &[u8], out: &mut [
 {
     let mut fields = [[0u64; 2]; 192];
     let mut lists = [[0u64; 64]; 8];
-    word(follow_in(sheet, &mut fields, &mut lists, out))
+    word(decide_lists::<8>(sheet, SheetKind::Join, &mut fields, &mut lists, out))
 }
 
 // Decides a D sheet.
@@ -105,8 +106,8 @@ pub extern "C" fn lochkave_decide_in(
         return lochkave_decide(sheet, out);
     }
     word(match first_byte(sheet) {
-        b'K' => adjust_in(sheet, fields, lists, out),
-        b'I' => follow_in(sheet, fields, lists, out),
+        b'K' => decide_lists::<17>(sheet, SheetKind::Key, fields, lists, out),
+        b'I' => decide_lists::<8>(sheet, SheetKind::Join, fields, lists, out),
         _ => {
             let lent = TreeRooms {
                 fields,

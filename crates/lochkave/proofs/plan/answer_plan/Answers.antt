@@ -9,8 +9,8 @@ use Rattle.plansheet.proofs.Mapped.{mapped_ok, mapped_err}
 use Rattle.lochkave.proofs.PlanAnswered.{answered_lines, gives_refused, gives_answered}
 use Rattle.lochkave.proofs.plan.answer_plan.Goals as goal
 
-pub slice_bounds-write_plan-end : goal.slice_bounds-write_plan-end
-slice_bounds-write_plan-end c =
+pub slice_bounds-rows-end : goal.slice_bounds-rows-end
+slice_bounds-rows-end c =
     let a = c.args in
     let q = c.requires in
     let p = q.sheet in
@@ -20,8 +20,8 @@ slice_bounds-write_plan-end c =
     (sheet_fits a.s (facts_of a.f) a.src.now (length a.f.children.now) (length a.dst.now) p a.f.few q.roomy.1) in
     omega (arith, fits, d.auto.dst)
 
-pub slice_bounds-write_plan-end-2 : goal.slice_bounds-write_plan-end-2
-slice_bounds-write_plan-end-2 c =
+pub slice_bounds-rows-end-2 : goal.slice_bounds-rows-end-2
+slice_bounds-rows-end-2 c =
     let a = c.args in
     let q = c.requires in
     let p = q.sheet in
