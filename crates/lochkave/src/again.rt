@@ -54,6 +54,7 @@ pub(crate) fn rewrite_key_sheet(sheet: &[u8], out: &mut [u8]) -> Result<usize, R
     put_again(sheet.len(), SheetKind::Key, n, held, out)
 }
 
+// As `rewrite_key_sheet`, of a sheet that has eight lines: what each promises has a definition of its own (`key_again`, `join_again`).
 pub(crate) fn rewrite_join_sheet(sheet: &[u8], out: &mut [u8]) -> Result<usize, Refused>
     ensures { Writes (within (length out.old) (join_again (read_join_sheet sheet.now))) result out.old out.new }
 {

@@ -63,7 +63,7 @@ pub(crate) fn held_sheet<'a>(p: SheetPlan, lent: SheetRooms<'a>) -> Held<'a>
     }
 }
 
-// What is turned back where a distribution cannot be enforced.
+// What is turned back where a distribution cannot be enforced. No From: both types are of other crates.
 fn refused_by(why: Unenforced) -> Refused
     ensures { result ≡ refused_on (refusal (Err why)) 0 }
 {
