@@ -9,7 +9,7 @@ ghost use Rattle.exchange.specs.States.{Child, pass, and_then};
 ghost use Rattle.exchange.specs.Status.{rows_gain, status_of, get_repartition_requirement_status};
 ghost use Rattle.exchange.specs.Step.{add_roundrobin, add_merge_on_top, add_hash_on_top, add_roundrobin_on_top, satisfy_distribution, split_plan, ensure_child, ensure_children};
 ghost use Rattle.exchange.specs.FactRows.{child_facts, fact_row, child_for};
-ghost use Rattle.exchange.specs.Standings.{worked_for, node_for, state_for, formed, begun, Passed, SameNode, SameChild, SameChildren, resulting, form_list, each_form};
+ghost use Rattle.exchange.specs.Standings.{worked_for, node_for, state_for, formed, begun, Passed, SameNode, SameChild, SameChildren, numbered_from, resulting, form_list, each_form};
 
 use exchange::fact::{COUNT, ChildForm, Fact, FactRows};
 use exchange::form::{
@@ -178,10 +178,15 @@ fn ensure_each(
     forms: &mut [u64],
 ) -> Option<()>
     requires { length forms.old ≡ length asks.list.now }
-    ensures { resulting result forms.new ≡ each_form (λ a. formed (ensure_child s (worked_for w) (node_for w) (map fact_row xs.entry.rows.now) (status_of s aligned (child_for a)))) asks.entry.list.now }
+    ensures { resulting result forms.new ≡ each_form (λ a. formed (ensure_child s (worked_for w) (node_for w) (map fact_row xs.entry.rows.now) (status_of s aligned (child_for a)))) (numbered_from 1 asks.entry.list.now) }
 {
     for (i, a) in asks.list.iter().enumerate() {
-        forms[i] = ensure_child(s, w, aligned, *a, xs)?;
+        let child = Asked {
+            // No From goes from usize to u64.
+            number: i as u64 + 1,
+            ..*a
+        };
+        forms[i] = ensure_child(s, w, aligned, child, xs)?;
     }
     Some(())
 }
@@ -196,7 +201,7 @@ pub fn ensure_children(
     forms: &mut [u64],
 ) -> Option<()>
     requires { length asks.list.now ≤ length forms.old }
-    ensures { (o : Operator) (b : NodeFacts) (ks : List Child) → SameNode w o b → SameChildren asks.entry.list.now ks → resulting result (take (length asks.entry.list.now) forms.new) ≡ form_list (ensure_children s o b (map fact_row xs.entry.rows.now) (get_repartition_requirement_status s ks)) }
+    ensures { (o : Operator) (b : NodeFacts) (ks : List Child) → SameNode w o b → SameChildren (numbered_from 1 asks.entry.list.now) ks → resulting result (take (length asks.entry.list.now) forms.new) ≡ form_list (ensure_children s o b (map fact_row xs.entry.rows.now) (get_repartition_requirement_status s ks)) }
 {
     let aligned = needs_alignment(s, asks.list);
     let forms = &mut forms[..asks.list.len()];
