@@ -23,7 +23,7 @@ fn leave_unchanged(src: &[Row], dst: &mut [Row]) -> Answered
     requires { Ready (λ t. t) src.now 0 (length dst.old) 0 }
     ensures { (t : Plan) (rest : List (List ℕ)) → src.now ≡ flatten t ++ rest → (s : Settings) (f : Facts) → Ends (unchanged s f t) (Ok result) dst.old dst.new }
 {
-    let m = row::copy_tree(src, 0, dst, 0);
+    let m = row::copy_tree(Place { rows: src, at: 0 }, dst, 0);
     Answered {
         changed: 0,
         window: 0,

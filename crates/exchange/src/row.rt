@@ -136,18 +136,18 @@ pub fn past_tree(rows: &[Row], at: usize) -> usize
     a
 }
 
-// The `count` trees from `at` on, as they stand.
-pub fn copy_trees(src: &[Row], at: usize, count: u64, dst: &mut [Row], to: usize) -> Step
-    requires { Readys (λ ts. ts) src.now at count (length dst.old) to }
-    ensures { MapsAll (λ ts. ts) src.now at count dst.old to dst.new result }
+// The `count` trees from the place on, as they stand.
+pub fn copy_trees(src: Place, count: u64, dst: &mut [Row], to: usize) -> Step
+    requires { Readys (λ ts. ts) src.rows.now src.at count (length dst.old) to }
+    ensures { MapsAll (λ ts. ts) src.entry.rows.now src.entry.at count dst.old to dst.new result }
 {
-    let mut a = at;
+    let mut a = src.at;
     let mut b = to;
     let mut left = count;
     // No `for`: each row says how many are still to come.
     while left != 0 {
-        let below = children_at(src, a);
-        dst[b] = src[a];
+        let below = children_at(src.rows, a);
+        dst[b] = src.rows[a];
         a += 1;
         b += 1;
         left = left - 1 + below;
@@ -155,10 +155,10 @@ pub fn copy_trees(src: &[Row], at: usize, count: u64, dst: &mut [Row], to: usize
     Step { at: a, to: b }
 }
 
-// The tree at `at`, as it stands.
-pub fn copy_tree(src: &[Row], at: usize, dst: &mut [Row], to: usize) -> Step
-    requires { Ready (λ t. t) src.now at (length dst.old) to }
-    ensures { Maps (λ t. t) src.now at dst.old to dst.new result }
+// The tree that stands there, as it stands.
+pub fn copy_tree(src: Place, dst: &mut [Row], to: usize) -> Step
+    requires { Ready (λ t. t) src.rows.now src.at (length dst.old) to }
+    ensures { Maps (λ t. t) src.entry.rows.now src.entry.at dst.old to dst.new result }
 {
-    copy_trees(src, at, 1, dst, to)
+    copy_trees(src, 1, dst, to)
 }
