@@ -33,18 +33,18 @@ cons go asks i h =
 
 pub returns-in_err-forms : goal.returns-in_err-forms
 returns-in_err-forms c = let a = c.args in let l = c.loop-i in
-    let go = stepped a.s a.w a.aligned a.xs.rows.now in
+    let go = stepped a.w.settings a.w.worked a.w.aligned a.w.xs.rows.now in
     let rest = each_form go (drop (l.i + 1) (numbered_from 1 a.asks.list.now)) in
-    let e = c.ensure_child.ensures (worked_for a.w) (node_for a.w) (child_for (child_at a.asks.list.now l.i)) (record { kind = refl; facts = refl }) (record { number = refl; need = refl; count = refl; facts = refl }) in
+    let e = c.ensure_child.ensures (worked_for a.w.worked) (node_for a.w.worked) (child_for (child_at a.asks.list.now l.i)) (record { kind = refl; facts = refl }) (record { number = refl; need = refl; count = refl; facts = refl }) in
     rw c.from_residual.ensures (each_missing _ (take l.i l.forms) rest
     (l.invariant.1 ∙ ap (prepend (take l.i l.forms)) (cons go a.asks.list.now l.i c.loop-i-test.true)
     ∙ ap (λ (o : Answer ℕ). prepend (take l.i l.forms) (with_forms o rest)) (sym e ∙ c.in_err-forms.was)))
 
 pub loop-i-preserved : goal.loop-i-preserved
 loop-i-preserved c = let a = c.args in let l = c.loop-i in
-    let go = stepped a.s a.w a.aligned a.xs.rows.now in
+    let go = stepped a.w.settings a.w.worked a.w.aligned a.w.xs.rows.now in
     let rest = each_form go (drop (l.i + 1) (numbered_from 1 a.asks.list.now)) in
-    let e = c.ensure_child.ensures (worked_for a.w) (node_for a.w) (child_for (child_at a.asks.list.now l.i)) (record { kind = refl; facts = refl }) (record { number = refl; need = refl; count = refl; facts = refl }) in (
+    let e = c.ensure_child.ensures (worked_for a.w.worked) (node_for a.w.worked) (child_for (child_at a.asks.list.now l.i)) (record { kind = refl; facts = refl }) (record { number = refl; need = refl; count = refl; facts = refl }) in (
       simp length-set l.invariant.0,
       each_turn _ l.forms l.i c.in_ok-forms.field-0 (omega (arith, l.invariant.0, c.requires)) rest
           (l.invariant.1 ∙ ap (prepend (take l.i l.forms)) (cons go a.asks.list.now l.i c.loop-i-test.true)
@@ -55,4 +55,4 @@ pub returns : goal.returns
 returns c = let a = c.args in let l = c.loop-i in
     let all : take l.i l.forms ≡ l.forms = take_all l.i l.forms (omega (arith, l.invariant.0, c.requires, c.loop-i-test.false)) in
     rw all at (each_end _ (take l.i l.forms) (l.invariant.1
-    ∙ ap (prepend (take l.i l.forms)) (each_nil (stepped a.s a.w a.aligned a.xs.rows.now) (numbered_from 1 a.asks.list.now) l.i (omega (arith, numbered_long 1 a.asks.list.now, c.loop-i-test.false)))))
+    ∙ ap (prepend (take l.i l.forms)) (each_nil (stepped a.w.settings a.w.worked a.w.aligned a.w.xs.rows.now) (numbered_from 1 a.asks.list.now) l.i (omega (arith, numbered_long 1 a.asks.list.now, c.loop-i-test.false)))))

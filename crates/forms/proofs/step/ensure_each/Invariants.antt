@@ -12,5 +12,5 @@ use Rattle.forms.proofs.step.ensure_each.Given as goal
 
 abbrev pub invariant-loop-i : goal.invariant-loop-i
 invariant-loop-i l =
-    let go = λ (a : Asked). formed (ensure_child l.s (worked_for l.w) (node_for l.w) (map fact_row l.xs.rows.now) (status_of l.s l.aligned (child_for a))) in
+    let go = λ (a : Asked). formed (ensure_child l.w.settings (worked_for l.w.worked) (node_for l.w.worked) (map fact_row l.w.xs.rows.now) (status_of l.w.settings l.w.aligned (child_for a))) in
     (length l.forms ≡ length l.initial.forms) × (each_form go (numbered_from 1 l.asks.list.now) ≡ prepend (take l.i l.forms) (each_form go (drop l.i (numbered_from 1 l.asks.list.now))))
