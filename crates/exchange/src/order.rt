@@ -72,7 +72,7 @@ fn free_replaced(need: u64, maintains: bool, streaming: bool, output: bool) -> b
     !maintains || output
 }
 
-// What is known of a child, and of the worked node over it. All are numbers of lent rows and settings, which hold any bits.
+// What is known of a child, and of the worked node over it. All stay numbers, as marks (mark.rt) and kinds (kind.rt) do.
 // That the entries are at most 8 stays a clause below: the definitions of specs/ make a `Known` of any child.
 #[derive(Clone, Copy)]
 pub struct Known {

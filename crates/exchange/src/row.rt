@@ -1,4 +1,6 @@
 // Operators as rows of numbers, lent as slices: a tree is its rows in preorder.
+// Here and in child.rt, ordered.rt, finish.rt and replace.rt the rows to write and the place in them, `dst` and `to`, stay two:
+// of a struct that lends `dst` by &mut each function would have to promise that it is the same slice still.
 ghost use Rattle.std.specs.Prelude.{◌≡◌, List, [], ◌++◌, ℕ, ◌+◌, ◌<◌, length, get_or, set, drop};
 ghost use Rattle.exchange.specs.Trees.{Plan};
 ghost use Rattle.exchange.specs.Rows.{packed, unpacked, node_at, children_at, flatten};
@@ -32,10 +34,10 @@ pub const WIDTH: usize = 11;
 // The mark of a node without a limit.
 pub const NO_LIMIT: u64 = 0;
 
-// Kinds, marks and needs stay numbers: rows are lent by C and hold any bits.
+// Kinds and needs stay numbers, as kind.rt says, and marks, as mark.rt says.
 pub type Row = [u64; WIDTH];
 
-// An operator. An absent limit has `limited` 0 and `limit` 0. Kinds, marks and needs stay numbers: nodes are lent by C and hold any bits.
+// An operator. An absent limit has `limited` 0 and `limit` 0. Kinds, marks and needs stay numbers, as in `Row`.
 #[repr(C)]
 #[derive(Clone, Copy)]
 pub struct Node {
@@ -91,7 +93,8 @@ pub fn pack(n: Node, children: u64) -> Row
     ]
 }
 
-// That `at` is in range stays a clause here and below: a struct that says it would be made anew at each row.
+// That `at` is in range stays a clause here and below, and so does that a tree stands there: a loop passes the place past the last tree
+// too, which is the rows' length, so `Place` has to be there without the fact, and a struct with it would be a second for the same values.
 pub fn node_at(rows: &[Row], at: usize) -> Node
     requires { at < length rows.now }
     ensures { result ≡ node_at rows.now at }
@@ -121,7 +124,7 @@ pub fn set_mark(rows: &mut [Row], at: usize, m: u64)
     rows[at][TRACKED] = m;
 }
 
-// The place past the tree at `at`. That one stands there stays a clause: a struct that says it would be made anew at each tree.
+// The place past the tree at `at`. That one stands there stays a clause, as in `node_at`.
 pub fn past_tree(rows: &[Row], at: usize) -> usize
     requires { Stands rows.now at }
     ensures { (t : Plan) (rest : List (List ℕ)) → drop at rows.now ≡ flatten t ++ rest → result ≡ at + length (flatten t) }

@@ -188,7 +188,7 @@ fn ensure_each(w: Stepping, asks: Asks, forms: &mut [u64]) -> Option<()>
 }
 
 // The forms of the children after their steps, a place for each or more.
-// That there are as many places as asks stays a clause, as `Asks` says.
+// That there are at least as many places as asks stays a clause, as `Asks` says.
 pub fn ensure_children(
     s: Settings,
     w: Worked,
