@@ -39,7 +39,7 @@ pub type Row = [u64; WIDTH];
 
 // An operator. An absent limit has `limited` 0 and `limit` 0. Kinds, marks and needs stay numbers, as in `Row`.
 #[repr(C)]
-#[derive(Clone, Copy)]
+#[derive(Clone, Copy, Default)]
 pub struct Node {
     pub id: u64,
     pub kind: u64,
@@ -67,20 +67,22 @@ pub struct Step {
     pub to: usize,
 }
 
-pub fn unpack(x: Row) -> Node
-    ensures { result ≡ unpacked x }
-{
-    Node {
-        id: x[ID],
-        kind: x[KIND],
-        count: x[COUNT],
-        keeps: x[KEEPS],
-        limited: x[LIMITED],
-        limit: x[LIMIT],
-        order: x[ORDER],
-        mask: x[MASK],
-        tracked: x[TRACKED],
-        need: x[NEED],
+impl From<Row> for Node {
+    ghost from_gives = { λ x r. r ≡ unpacked x };
+
+    fn from(x: Row) -> Node {
+        Node {
+            id: x[ID],
+            kind: x[KIND],
+            count: x[COUNT],
+            keeps: x[KEEPS],
+            limited: x[LIMITED],
+            limit: x[LIMIT],
+            order: x[ORDER],
+            mask: x[MASK],
+            tracked: x[TRACKED],
+            need: x[NEED],
+        }
     }
 }
 
@@ -99,7 +101,7 @@ pub fn node_at(rows: &[Row], at: usize) -> Node
     requires { at < length rows.now }
     ensures { result ≡ node_at rows.now at }
 {
-    unpack(rows[at])
+    Node::from(rows[at])
 }
 
 pub fn children_at(rows: &[Row], at: usize) -> u64

@@ -25,7 +25,7 @@ pub const ROWS_ESTIMATED: u64 = 1;
 pub type ChildRow = [u64; WIDTH];
 
 // A child of the worked node: its number from 1, need and count of its root, and its F row.
-#[derive(Clone, Copy)]
+#[derive(Clone, Copy, Default)]
 pub struct Asked {
     pub number: u64,
     pub need: u64,
