@@ -23,7 +23,7 @@ fn leave_unchanged(src: &[Row], dst: &mut [Row]) -> Answered
     requires { Ready (λ t. t) src.now 0 (length dst.old) 0 }
     ensures { (t : Plan) (rest : List (List ℕ)) → src.now ≡ flatten t ++ rest → (s : Settings) (f : Facts) → Ends (unchanged s f t) (Ok result) dst.old dst.new }
 {
-    let m = row::copy_tree(src, 0, dst, 0);
+    let m = row::copy_tree(Place { rows: src, at: 0 }, dst, 0);
     Answered {
         changed: 0,
         window: 0,
@@ -34,7 +34,8 @@ fn leave_unchanged(src: &[Row], dst: &mut [Row]) -> Answered
 }
 
 // Decides on the tree at the front of `src`, by what the sheet says beside it. The marks of the tree's root and of its children are set anew
-// in place; the answer's rows stand at the front of `dst`.
+// in place; the answer's rows stand at the front of `dst`. Here, in worked.rt and in finished.rt `s`, `f`, `mid` and `dst` stay apart: of a
+// struct that lends the rooms by &mut each function would have to promise that they are the same slices still.
 pub fn ensure_distribution(
     s: Settings,
     f: PlanFacts,

@@ -16,7 +16,8 @@ fn unspecified(n: Node) -> bool
     is_set(n.tracked) && n.need == need::UNSPECIFIED
 }
 
-// Whether any of the `left` trees from `at` on is tracked, with nothing required of it.
+// Whether any of the `left` trees from `at` on is tracked, with nothing required of it. That so many trees stand there stays a clause here
+// and below, as in `past_tree`, with `left`: nothing else says how many there are.
 fn any_unspecified(rows: &[Row], at: usize, left: u64) -> bool
     requires { StandAll rows.now at left }
     ensures { SaysAll any_unspecified rows.now at left result }

@@ -16,7 +16,7 @@ use exchange::places::asked_children;
 use exchange::relationship::Unenforced;
 use exchange::row::{self, Place, Row};
 use exchange::settings::Settings;
-use exchange::status::{Asked, WIDTH};
+use exchange::status::Asked;
 use forms::decide::child_forms;
 
 // The forms of the children of the worked node that stands there, a place for each in `forms`.
@@ -29,13 +29,7 @@ fn worked_forms(s: Settings, f: PlanFacts, src: Place, forms: &mut [u64]) -> Res
         kind: row::node_at(src.rows, src.at).kind,
         facts: f.node,
     };
-    let no_child = Asked {
-        number: 0,
-        need: 0,
-        count: 0,
-        facts: [0; WIDTH],
-    };
-    let mut room = [no_child; 8];
+    let mut room = [Asked::default(); 8];
     let asks = &mut room[..f.children.len()];
     asked_children(src.rows, src.at + 1, f.children, &mut *asks);
     child_forms(s, w, f.masks, Asks { list: &*asks }, f.xs, forms)

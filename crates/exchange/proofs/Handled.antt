@@ -1,13 +1,15 @@
 -- The order handling of a child, by its marks; and how large a mask of kept entries is.
 -- Assumes nothing.
-use Prim.Native.Nat.{ℕ, zero, suc, ◌+◌, ◌-◌, ◌*◌, ◌/◌, ◌%◌, ◌≤◌, ◌<◌}
-use mathlib.Core.Path.{◌≡◌, refl, ap}
+use Prim.Native.Nat.{ℕ, zero, suc, ◌+◌, ◌-◌, ◌*◌, ◌/◌, ◌%◌, ◌^◌, ◌≤◌, ◌<◌}
+use mathlib.Core.Path.{◌≡◌, refl, ap, ◌∙◌}
 use mathlib.Core.Bool.{Bool, true, false, cond, not, ◌&&◌}
 use mathlib.Core.Option.{Option}
 use native.Mathlib.Omega.{arith}
-use borrow.Author.Tests.{ne_eqb}
 use lib.Dec.{eqb}
+use mir.Val.{bool_byte}
 use Rattle.exchange.specs.Trees.{Operator, Plan}
+use Rattle.std.proofs.lemmas.Nat.{shr-shr}
+use Rattle.std.proofs.Math.Nat.{div-one}
 use Rattle.exchange.specs.declared.settings.Settings.{Settings}
 use Rattle.exchange.specs.declared.order.Handling.{Handling}
 use Rattle.exchange.specs.Settings.{is_set}
@@ -52,11 +54,27 @@ module _ (n constants above : ℕ) (some : n ≡ 0 → ⊥) (e : above ≡ kept_
   unfolding kept_entries
   more = let z : n ≡ suc (n - 1) = omega arith in rw (z, ← e)
 
-  pub kept_constant : constants % 2 ≡ 1 → 2 * above ≡ kept_entries n constants
-  kept_constant h = rw (more, h) (omega arith)
+  one_more : (bit : ℕ) → bit ≡ bool_byte (not (eqb (constants % 2) 1)) → 2 * above + bit ≡ kept_entries n constants
+  one_more bit b = go (eqb (constants % 2) 1) refl
+    where
+      go : (t : Bool) → eqb (constants % 2) 1 ≡ t → 2 * above + bit ≡ kept_entries n constants
+      go true h = let z : bit ≡ 0 = rw h at b in rw (more, h) (omega arith)
+      go false h = let z : bit ≡ 1 = rw h at b in rw (more, h) (omega arith)
 
-  pub kept_more : (constants % 2 ≡ 1 → ⊥) → 1 + 2 * above ≡ kept_entries n constants
-  kept_more h = rw (more, ne_eqb (constants % 2) 1 h)
+pub kept_all : (n i constants : ℕ) → i ≡ 0 → {above : ℕ} → above ≡ kept_entries (n - i) (constants / 2 ^ i) → above ≡ kept_entries n constants
+kept_all n i constants z e =
+    let none : n - i ≡ n = omega arith in
+    let whole : constants / 2 ^ i ≡ constants = rw z (div-one constants) in
+    e ∙ rw (none, whole) refl
+
+-- the entry at i is read after those from i on
+pub kept_turn : (n i constants above bit : ℕ) → 0 < i → i ≤ n → above ≡ kept_entries (n - i) (constants / 2 ^ i) → bit ≡ bool_byte (not (eqb (constants / 2 ^ (i - 1) % 2) 1))
+    → 2 * above + bit ≡ kept_entries (n - (i - 1)) (constants / 2 ^ (i - 1))
+kept_turn n i constants above bit some most e b =
+    let back : n - (i - 1) - 1 ≡ n - i = omega arith in
+    let on : i - 1 + 1 ≡ i = omega arith in
+    let halved : constants / 2 ^ (i - 1) / 2 ≡ constants / 2 ^ i = shr-shr constants (i - 1) 1 ∙ ap (λ (k : ℕ). constants / 2 ^ k) on in
+    one_more (n - (i - 1)) (constants / 2 ^ (i - 1)) above (omega (arith, some, most)) (rw (back, halved) e) bit b
 
 -- ---- the handling of a child is what the definition makes of its tree
 

@@ -3,7 +3,7 @@
 use mathlib.Core.Path.{◌≡◌, refl, sym, ap, ◌∙◌}
 use mathlib.Core.List.{List, [], ◌∷◌, ◌++◌, map, append_assoc, append-nil}
 use native.Mathlib.Nat.{add-zero}
-use Prim.Native.Nat.{ℕ, zero, suc, ◌+◌, ◌≤◌, ◌<◌}
+use Prim.Native.Nat.{ℕ, suc, ◌+◌, ◌≤◌, ◌<◌}
 use native.Mathlib.Numerals.{add-one}
 use native.Mathlib.Omega.{arith}
 use lib.ListN.{length, take, drop, get_or, set}
@@ -15,7 +15,7 @@ use Rattle.exchange.specs.Trees.{none, ◌∷ᶠ◌, root, trees, Operator, Plan
 use Rattle.exchange.specs.Rows.{operator_of, node_at, flatten, flattens}
 use Rattle.exchange.specs.States.{children_from}
 use Rattle.exchange.specs.FactRows.{child_facts, asked_by}
-use Rattle.exchange.specs.Standings.{SameChildren, done, also, no_child}
+use Rattle.exchange.specs.Standings.{SameChildren, done, also, numbered_from}
 use Rattle.exchange.specs.Runs.{Stands}
 use Rattle.exchange.specs.Places.{places_of, needs_of, counts_of}
 use Rattle.exchange.proofs.Marking.{root_read, head_stands, tail_stands, PastTree}
@@ -165,16 +165,11 @@ same_from n (t ∷ᶠ ts) (f ∷ fs) e =
 pub same_children : (ts : Plans) (facts : List (List ℕ)) → length facts ≡ trees ts → SameChildren (asked_by 1 (needs_of ts) (counts_of ts) facts) (children_from 1 ts (map child_facts facts))
 same_children = same_from 1
 
-pub asked_long : (n : ℕ) (ts : Plans) (facts : List (List ℕ)) → length facts ≡ trees ts → length (asked_by n (needs_of ts) (counts_of ts) facts) ≡ length facts
-unfolding needs_of counts_of asked_by
-asked_long n none [] e = refl
-asked_long n none (f ∷ fs) e = absurd (omega arith)
-asked_long n (t ∷ᶠ ts) [] e = absurd (omega arith)
-asked_long n (t ∷ᶠ ts) (f ∷ fs) e = ap suc (asked_long (suc n) ts fs (omega arith))
-
-pub asked_number : (n : ℕ) (ts : Plans) (facts : List (List ℕ)) → length facts ≡ trees ts → (k : ℕ) → k < length facts → (get_or (asked_by n (needs_of ts) (counts_of ts) facts) k no_child).number ≡ n + k
-unfolding needs_of counts_of asked_by
-asked_number n none facts e k l = absurd (omega arith)
-asked_number n (t ∷ᶠ ts) [] e k l = absurd (omega arith)
-asked_number n (t ∷ᶠ ts) (f ∷ fs) e zero l = sym (add-zero n)
-asked_number n (t ∷ᶠ ts) (f ∷ fs) e (suc k) l = omega (arith, asked_number (suc n) ts fs (omega arith) k (omega arith))
+-- they have the numbers of their places
+pub asked_numbered : (n : ℕ) (needs counts : List ℕ) (facts : List (List ℕ)) → numbered_from n (asked_by n needs counts facts) ≡ asked_by n needs counts facts
+unfolding asked_by numbered_from
+asked_numbered n [] counts facts = refl
+asked_numbered n (need ∷ needs) [] facts = refl
+asked_numbered n (need ∷ needs) (count ∷ counts) [] = refl
+asked_numbered n (need ∷ needs) (count ∷ counts) (f ∷ fs) =
+    ap (λ (l : List Asked). record { number = n; need = need; count = count; facts = f } ∷ l) (asked_numbered (suc n) needs counts fs)

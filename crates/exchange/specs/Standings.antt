@@ -1,5 +1,5 @@
 -- The worked node and a child on its way, by their numbers, and a step's answer as a form.
-use Rattle.std.specs.Prelude.{ℕ, ◌+◌, ◌<◌, ◌≡◌, List, [], ◌∷◌, map, length, get_or, ⊤, Option as Answer, Some, None}
+use Rattle.std.specs.Prelude.{ℕ, suc, ◌≡◌, List, [], ◌∷◌, map, ⊤, Option as Answer, Some, None}
 use Rattle.std.proofs.Math.Option.{Option, some, none as nothing}
 use Rattle.exchange.specs.declared.status.Asked.{Asked}
 use Rattle.exchange.specs.declared.status.RepartitionRequirementStatus.{RepartitionRequirementStatus as Told}
@@ -73,9 +73,10 @@ pub data SameChildren : List Asked → List Child → Type 0 where
 abbrev pub no_child : Asked
 no_child = record { number = 0; need = 0; count = 0; facts = [] }
 
--- children numbered from 1
-abbrev pub Numbered : List Asked → Type 0
-Numbered asks = (k : ℕ) → k < length asks → (get_or asks k no_child).number ≡ k + 1
+-- the children by their places, numbered from there on, whatever number each has
+unfoldable pub numbered_from : ℕ → List Asked → List Asked
+numbered_from n [] = []
+numbered_from n (a ∷ asks) = record { number = n; need = a.need; count = a.count; facts = a.facts } ∷ numbered_from (suc n) asks
 
 abbrev pub asked_needs : List Asked → List ℕ
 asked_needs asks = map (λ a. a.need) asks

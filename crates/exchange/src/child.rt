@@ -13,7 +13,7 @@ use crate::form::{
 use crate::kind;
 use crate::mark::is_set;
 use crate::operator::{new_exchange, new_merge, split_operator};
-use crate::row::{self, Node, Row, Step};
+use crate::row::{self, Node, Place, Row, Step};
 use crate::settled::Settled;
 
 // The row of a child in a form, or one of zeros.
@@ -125,22 +125,19 @@ fn put_built(
     next + 1
 }
 
-// Writes the tree of the child that stands at `at`, as its form has it.
-pub fn build_child(
-    xs: FactRows,
-    c: ChildForm,
-    src: &[Row],
-    at: usize,
-    dst: &mut [Row],
-    to: usize,
-) -> Step
-    requires ready { Ready (built (map fact_row xs.rows.now) c.child (form_of c.form)) src.now at (length dst.old) to }
-    ensures { Maps (built (map fact_row xs.entry.rows.now) c.child (form_of c.form)) src.now at dst.old to dst.new result }
+// Writes the tree of the child that stands there, as its form has it.
+pub fn build_child(xs: FactRows, c: ChildForm, src: Place, dst: &mut [Row], to: usize) -> Step
+    requires ready { Ready (built (map fact_row xs.rows.now) c.child (form_of c.form)) src.rows.now src.at (length dst.old) to }
+    ensures { Maps (built (map fact_row xs.entry.rows.now) c.child (form_of c.form)) src.entry.rows.now src.entry.at dst.old to dst.new result }
 {
     let o = Settled {
-        node: row::node_at(src, at),
+        node: row::node_at(src.rows, src.at),
     };
-    let children = row::children_at(src, at);
+    let children = row::children_at(src.rows, src.at);
     let next = put_built(xs, c, o, children, &mut *dst, to);
-    row::copy_trees(src, at + 1, children, dst, next)
+    let below = Place {
+        at: src.at + 1,
+        ..src
+    };
+    row::copy_trees(below, children, dst, next)
 }

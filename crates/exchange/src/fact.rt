@@ -52,7 +52,7 @@ pub struct ChildForm {
     pub ghost within: { (1 ≤ child) × (child ≤ 8) × (form ≤ 15) },
 }
 
-// The X rows with their index.
+// The X rows with their index: a place plus 1 for each child and form, 0 for none. C lends the index as such numbers (`lochkave_decide_in`).
 #[derive(Clone, Copy)]
 pub struct FactRows<'a> {
     pub index: &'a [u64],

@@ -69,7 +69,7 @@ pub fn finish_child(
     requires ready_2 { Ready (finished_child (map fact_row w.now.xs.rows.now) c.at.child (form_of c.at.form) c.need (child_facts c.facts) w.now.settings (node_facts w.now.node) (operator_of w.now.worked.node) w.now.children) src.rows.now src.at (length dst.old) to }
     ensures { Maps (finished_child (map fact_row w.now.xs.rows.now) c.at.child (form_of c.at.form) c.need (child_facts c.facts) w.now.settings (node_facts w.now.node) (operator_of w.now.worked.node) w.now.children) src.entry.rows.now src.entry.at dst.old to dst.new result }
 {
-    let read = build_child(w.xs, c.at, src.rows, src.at, &mut *mid, 0);
+    let read = build_child(w.xs, c.at, src, &mut *mid, 0);
     let x = row_in(w.xs, c.at);
     let top = row::node_at(&*mid, 0);
     let h = handle_order(known(w, c, top.tracked, x));

@@ -8,7 +8,7 @@ pub const PLAIN: u64 = 0;
 // Split at its source.
 pub const SPLIT: u64 = 1;
 
-// What stands topmost. It stays a number, as the form that it is taken from: X rows are lent and hold any bits.
+// What stands topmost. It stays a number: it is two bits of the form, taken from it and put back into it, and the definitions take any number.
 pub const TOP_NONE: u64 = 0;
 
 pub const TOP_MERGE: u64 = 1;

@@ -1,4 +1,5 @@
-// The kinds of operators, by document 01's numbers.
+// The kinds of operators, by document 01's numbers. They stay numbers: an operator that no rule changes is written back with the number
+// that it came with, so an enum would have to carry any number as well, and the order of the kinds is compared (`MERGE <= kind`).
 ghost use Rattle.std.specs.Prelude.{◌≡◌};
 ghost use Rattle.exchange.specs.ReplaceRows.{exchanges as exchange_kind};
 

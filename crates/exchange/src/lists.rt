@@ -1,15 +1,13 @@
 // The children of the worked node in a row: what is asked of each, and the form of each.
 ghost use Rattle.std.specs.Prelude.{ℕ, ◌≤◌, ◌<◌, length, get_or};
-ghost use Rattle.exchange.specs.Standings.{Numbered};
 
 use crate::status::Asked;
 
-// What is asked of each child; they are numbered from 1. Where their forms are written, that these are as many stays a clause:
-// a struct that lends both would be put together anew at each call.
+// What is asked of each child; a child's number is its place, whatever number stands there. Where their forms are written, that these
+// are as many stays a clause: forms are lent by &mut, and of a struct of both each function would have to promise that they are as many still.
 #[derive(Clone, Copy)]
 pub struct Asks<'a> {
     pub list: &'a [Asked],
-    pub ghost numbered: { Numbered list.now },
     pub ghost few: { length list.now ≤ 8 },
 }
 

@@ -1,4 +1,5 @@
-// A mark of a row or a setting. Rows are lent and hold any bits, so a mark stays a number: it is set where it is 1.
+// A mark of a row or a setting, set where it is 1. It stays a number: a bool would ask more of callers than a number does, and the
+// definitions take any number.
 ghost use Rattle.std.specs.Prelude.{◌≡◌};
 ghost use Rattle.exchange.specs.Settings.{is_set as is_set_mark};
 

@@ -16,20 +16,16 @@ pub struct Handling {
     pub cleared: bool,
 }
 
-// The entries of a required order that are not constant: bit n for entry n+1. That n is at most 8 stays a clause: a type that says it
-// would be made anew at each entry.
+// The entries of a required order that are not constant: bit n for entry n+1.
 fn kept_entries(n: u64, constants: u64) -> u64
     requires { n ≤ 8 }
     ensures { result ≡ kept_entries n constants }
 {
-    if n == 0 {
-        return 0;
+    let mut kept = 0;
+    for i in (0..n).rev() {
+        kept = 2 * kept + u64::from((constants >> i) % 2 != 1);
     }
-    let above = kept_entries(n - 1, constants / 2);
-    if constants % 2 == 1 {
-        return 2 * above;
-    }
-    1 + 2 * above
+    kept
 }
 
 // A worked node with one child that keeps its order would no longer stream over an unordered child.
@@ -72,7 +68,7 @@ fn free_replaced(need: u64, maintains: bool, streaming: bool, output: bool) -> b
     !maintains || output
 }
 
-// What is known of a child, and of the worked node over it. All are numbers of lent rows and settings, which hold any bits.
+// What is known of a child, and of the worked node over it. All stay numbers, as marks (mark.rt) and kinds (kind.rt) do.
 // That the entries are at most 8 stays a clause below: the definitions of specs/ make a `Known` of any child.
 #[derive(Clone, Copy)]
 pub struct Known {

@@ -9,15 +9,15 @@ use crate::row::{self, Place, Row, Step};
 use crate::settled::Settled;
 use crate::{operator, replace};
 
-// The tree at `at`, its order-preserving operators replaced or not.
+// The tree that stands there, its order-preserving operators replaced or not.
 fn put_given_up(replaced: bool, src: Place, dst: &mut [Row], to: usize) -> Step
     requires { Ready (given_up replaced) src.rows.now src.at (length dst.old) to }
     ensures { Maps (given_up replaced) src.entry.rows.now src.entry.at dst.old to dst.new result }
 {
     if replaced {
-        return replace::replace_order_preserving_variants(src.rows, src.at, dst, to);
+        return replace::replace_order_preserving_variants(src, dst, to);
     }
-    row::copy_tree(src.rows, src.at, dst, to)
+    row::copy_tree(src, dst, to)
 }
 
 // The same below a sort by the handling's entries, if there are any, with the limit of `limiting`.

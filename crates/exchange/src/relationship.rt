@@ -1,7 +1,7 @@
 // A child's turn in a relationship round, and why the rounds may come to nothing.
 
-// A child's turn in a round: its number from 1, its need, its form, and its bit of the mask. Need and mask are lent and hold any bits,
-// and the definition of a turn (specs/Turns) takes any number and form, so these stay numbers.
+// A child's turn in a round: its number from 1, its need, its form, and its bit of the mask. They stay numbers, as needs
+// (kind.rt) and marks (mark.rt) do: the definition of a turn (specs/Turns) takes any number and form.
 #[derive(Clone, Copy)]
 pub struct Turn {
     pub number: u64,

@@ -1,4 +1,6 @@
 // Operators as rows of numbers, lent as slices: a tree is its rows in preorder.
+// Here and in child.rt, ordered.rt, finish.rt and replace.rt the rows to write and the place in them, `dst` and `to`, stay two:
+// of a struct that lends `dst` by &mut each function would have to promise that it is the same slice still.
 ghost use Rattle.std.specs.Prelude.{◌≡◌, List, [], ◌++◌, ℕ, ◌+◌, ◌<◌, length, get_or, set, drop};
 ghost use Rattle.exchange.specs.Trees.{Plan};
 ghost use Rattle.exchange.specs.Rows.{packed, unpacked, node_at, children_at, flatten};
@@ -32,12 +34,12 @@ pub const WIDTH: usize = 11;
 // The mark of a node without a limit.
 pub const NO_LIMIT: u64 = 0;
 
-// Kinds, marks and needs stay numbers: rows are lent by C and hold any bits.
+// Kinds and needs stay numbers, as kind.rt says, and marks, as mark.rt says.
 pub type Row = [u64; WIDTH];
 
-// An operator. An absent limit has `limited` 0 and `limit` 0. Kinds, marks and needs stay numbers: nodes are lent by C and hold any bits.
+// An operator. An absent limit has `limited` 0 and `limit` 0. Kinds, marks and needs stay numbers, as in `Row`.
 #[repr(C)]
-#[derive(Clone, Copy)]
+#[derive(Clone, Copy, Default)]
 pub struct Node {
     pub id: u64,
     pub kind: u64,
@@ -65,20 +67,22 @@ pub struct Step {
     pub to: usize,
 }
 
-pub fn unpack(x: Row) -> Node
-    ensures { result ≡ unpacked x }
-{
-    Node {
-        id: x[ID],
-        kind: x[KIND],
-        count: x[COUNT],
-        keeps: x[KEEPS],
-        limited: x[LIMITED],
-        limit: x[LIMIT],
-        order: x[ORDER],
-        mask: x[MASK],
-        tracked: x[TRACKED],
-        need: x[NEED],
+impl From<Row> for Node {
+    ghost from_gives = { λ x r. r ≡ unpacked x };
+
+    fn from(x: Row) -> Node {
+        Node {
+            id: x[ID],
+            kind: x[KIND],
+            count: x[COUNT],
+            keeps: x[KEEPS],
+            limited: x[LIMITED],
+            limit: x[LIMIT],
+            order: x[ORDER],
+            mask: x[MASK],
+            tracked: x[TRACKED],
+            need: x[NEED],
+        }
     }
 }
 
@@ -91,12 +95,13 @@ pub fn pack(n: Node, children: u64) -> Row
     ]
 }
 
-// That `at` is in range stays a clause here and below: a struct that says it would be made anew at each row.
+// That `at` is in range stays a clause here and below, and so does that a tree stands there: a loop passes the place past the last tree
+// too, which is the rows' length, so `Place` has to be there without the fact, and a struct with it would be a second for the same values.
 pub fn node_at(rows: &[Row], at: usize) -> Node
     requires { at < length rows.now }
     ensures { result ≡ node_at rows.now at }
 {
-    unpack(rows[at])
+    Node::from(rows[at])
 }
 
 pub fn children_at(rows: &[Row], at: usize) -> u64
@@ -121,7 +126,7 @@ pub fn set_mark(rows: &mut [Row], at: usize, m: u64)
     rows[at][TRACKED] = m;
 }
 
-// The place past the tree at `at`. That one stands there stays a clause: a struct that says it would be made anew at each tree.
+// The place past the tree at `at`. That one stands there stays a clause, as in `node_at`.
 pub fn past_tree(rows: &[Row], at: usize) -> usize
     requires { Stands rows.now at }
     ensures { (t : Plan) (rest : List (List ℕ)) → drop at rows.now ≡ flatten t ++ rest → result ≡ at + length (flatten t) }
@@ -136,18 +141,18 @@ pub fn past_tree(rows: &[Row], at: usize) -> usize
     a
 }
 
-// The `count` trees from `at` on, as they stand.
-pub fn copy_trees(src: &[Row], at: usize, count: u64, dst: &mut [Row], to: usize) -> Step
-    requires { Readys (λ ts. ts) src.now at count (length dst.old) to }
-    ensures { MapsAll (λ ts. ts) src.now at count dst.old to dst.new result }
+// The `count` trees from the place on, as they stand.
+pub fn copy_trees(src: Place, count: u64, dst: &mut [Row], to: usize) -> Step
+    requires { Readys (λ ts. ts) src.rows.now src.at count (length dst.old) to }
+    ensures { MapsAll (λ ts. ts) src.entry.rows.now src.entry.at count dst.old to dst.new result }
 {
-    let mut a = at;
+    let mut a = src.at;
     let mut b = to;
     let mut left = count;
     // No `for`: each row says how many are still to come.
     while left != 0 {
-        let below = children_at(src, a);
-        dst[b] = src[a];
+        let below = children_at(src.rows, a);
+        dst[b] = src.rows[a];
         a += 1;
         b += 1;
         left = left - 1 + below;
@@ -155,10 +160,10 @@ pub fn copy_trees(src: &[Row], at: usize, count: u64, dst: &mut [Row], to: usize
     Step { at: a, to: b }
 }
 
-// The tree at `at`, as it stands.
-pub fn copy_tree(src: &[Row], at: usize, dst: &mut [Row], to: usize) -> Step
-    requires { Ready (λ t. t) src.now at (length dst.old) to }
-    ensures { Maps (λ t. t) src.now at dst.old to dst.new result }
+// The tree that stands there, as it stands.
+pub fn copy_tree(src: Place, dst: &mut [Row], to: usize) -> Step
+    requires { Ready (λ t. t) src.rows.now src.at (length dst.old) to }
+    ensures { Maps (λ t. t) src.entry.rows.now src.entry.at dst.old to dst.new result }
 {
-    copy_trees(src, at, 1, dst, to)
+    copy_trees(src, 1, dst, to)
 }

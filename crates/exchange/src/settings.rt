@@ -1,4 +1,4 @@
-// The settings of a run, within their bounds.
+// The settings of a run, within their bounds. Those that are set or not are marks, and stay numbers as all marks do (mark.rt).
 ghost use Rattle.std.specs.Prelude.{◌≡◌};
 ghost use Rattle.exchange.specs.Settings.{checked};
 

@@ -16,7 +16,8 @@ pub const ENTRIES: usize = 6;
 
 pub const WIDTH: usize = 7;
 
-// Where the number of rows in an F row comes from; any other kind says that there is none.
+// Where the number of rows in an F row comes from; any other kind says that there is none. They stay numbers: an F row is an array of
+// numbers, and one function alone reads this one (`rows_gain` of `needs`).
 pub const ROWS_EXACT: u64 = 0;
 
 pub const ROWS_ESTIMATED: u64 = 1;
@@ -24,7 +25,7 @@ pub const ROWS_ESTIMATED: u64 = 1;
 pub type ChildRow = [u64; WIDTH];
 
 // A child of the worked node: its number from 1, need and count of its root, and its F row.
-#[derive(Clone, Copy)]
+#[derive(Clone, Copy, Default)]
 pub struct Asked {
     pub number: u64,
     pub need: u64,

@@ -4,8 +4,9 @@ use mathlib.Core.Path.{◌≡◌, refl, sym, ap, ◌∙◌}
 use mathlib.Core.Bool.{Bool, ◌||◌}
 use mathlib.Core.Option.{Option, none, some}
 use mathlib.Core.List.{List, [], ◌∷◌, ◌++◌, map, append_assoc, append-nil}
-use Prim.Native.Nat.{ℕ, ◌+◌, ◌<◌, ◌≤◌}
+use Prim.Native.Nat.{ℕ, zero, suc, ◌+◌, ◌<◌, ◌≤◌}
 use native.Mathlib.Numerals.{add-one}
+use native.Mathlib.Omega.{arith}
 use lib.ListN.{length, take, drop, get_or, set, drop_of_length-le}
 use lib.Seq.{drop-cons, take-suc-set}
 use Rattle.exchange.specs.declared.settings.Settings.{Settings}
@@ -18,7 +19,7 @@ use Rattle.exchange.specs.Facts.{NodeFacts, Row}
 use Rattle.exchange.specs.Status.{asks_alignment, needs_alignment, status_of, get_repartition_requirement_status}
 use Rattle.exchange.specs.Step.{ensure_child, ensure_children}
 use Rattle.exchange.specs.FactRows.{child_for}
-use Rattle.exchange.specs.Standings.{worked_for, node_for, formed, SameNode, SameChild, SameChildren, done, also, form_list, with_forms, each_form}
+use Rattle.exchange.specs.Standings.{worked_for, node_for, formed, SameNode, SameChild, SameChildren, done, also, no_child, numbered_from, form_list, with_forms, each_form}
 use Rattle.forms.proofs.Steps.{same_numbers}
 
 -- ---- what was written, before what is left
@@ -89,12 +90,31 @@ alignment_same s done = refl
 alignment_same s (also {a} {asks} {k} {ks} h hs) =
     ap (λ (t : Bool). t || needs_alignment s (map child_for asks)) (asks_same s a k h) ∙ ap (λ (t : Bool). asks_alignment s k || t) (alignment_same s hs)
 
+-- whether any asks goes by no number
+pub alignment_numbered : (s : Settings) (n : ℕ) (asks : List Asked) → needs_alignment s (map child_for asks) ≡ needs_alignment s (map child_for (numbered_from n asks))
+unfolding needs_alignment numbered_from
+alignment_numbered s n [] = refl
+alignment_numbered s n (a ∷ asks) = ap (λ (t : Bool). asks_alignment s (child_for a) || t) (alignment_numbered s (suc n) asks)
+
+pub numbered_long : (n : ℕ) (asks : List Asked) → length (numbered_from n asks) ≡ length asks
+unfolding numbered_from
+numbered_long n [] = refl
+numbered_long n (a ∷ asks) = ap suc (numbered_long (suc n) asks)
+
+-- the child at a place has the place's number
+pub numbered_at : (n m : ℕ) (asks : List Asked) (i : ℕ) → i < length asks → m ≡ i + n → get_or (numbered_from n asks) i no_child
+    ≡ record { number = m; need = (get_or asks i no_child).need; count = (get_or asks i no_child).count; facts = (get_or asks i no_child).facts }
+unfolding numbered_from
+numbered_at n m [] i h e = absurd (omega arith)
+numbered_at n m (a ∷ asks) zero h e = let same : m ≡ n = omega (arith, e) in rw same refl
+numbered_at n m (a ∷ asks) (suc i) h e = numbered_at (suc n) m asks i (omega arith) (omega arith)
+
 -- the forms of the children's steps, from their numbers
-pub children_same : (s : Settings) (rows : List Row) (aligned : Bool) (w : Worked) (o : Operator) (b : NodeFacts) {asks : List Asked} {ks : List Child}
-    → SameNode w o b → SameChildren asks ks → aligned ≡ needs_alignment s (map child_for asks)
-    → each_form (λ (a : Asked). formed (ensure_child s (worked_for w) (node_for w) rows (status_of s aligned (child_for a)))) asks
+pub children_same : (s : Settings) (rows : List Row) (aligned : Bool) (w : Worked) (o : Operator) (b : NodeFacts) (asks : List Asked) {ks : List Child}
+    → SameNode w o b → SameChildren (numbered_from 1 asks) ks → aligned ≡ needs_alignment s (map child_for asks)
+    → each_form (λ (a : Asked). formed (ensure_child s (worked_for w) (node_for w) rows (status_of s aligned (child_for a)))) (numbered_from 1 asks)
     ≡ form_list (ensure_children s o b rows (get_repartition_requirement_status s ks))
-children_same s rows aligned w o b {asks} {ks} n h e =
+children_same s rows aligned w o b asks {ks} n h e =
     each_same _ (λ (k : Child). formed (ensure_child s o b rows (status_of s aligned k))) (λ a k m. same_numbers s rows aligned w a o b k n m) h
     ∙ sym (each_formed (ensure_child s o b rows) (map (status_of s aligned) ks) ∙ each_map (λ t. formed (ensure_child s o b rows t)) (status_of s aligned) ks)
-    ∙ ap (λ (t : Bool). form_list (ensure_children s o b rows (map (status_of s t) ks))) (e ∙ alignment_same s h)
+    ∙ ap (λ (t : Bool). form_list (ensure_children s o b rows (map (status_of s t) ks))) (e ∙ alignment_numbered s 1 asks ∙ alignment_same s h)

@@ -4,9 +4,8 @@ use mathlib.Core.Path.{◌≡◌, refl, sym, ap, subst, ◌∙◌}
 use mathlib.Core.Bool.{Bool}
 use mathlib.Core.Option.{Option, none, some}
 use mathlib.Core.List.{List, [], ◌∷◌, map}
-use Prim.Native.Nat.{ℕ, suc, ◌+◌, ◌<◌}
+use Prim.Native.Nat.{ℕ, suc}
 use native.Mathlib.Omega.{arith}
-use lib.ListN.{length, get_or}
 use Rattle.exchange.specs.declared.settings.Settings.{Settings}
 use Rattle.exchange.specs.Trees.{Operator}
 use Rattle.exchange.specs.Forms.{form_number, form_of}
@@ -15,7 +14,7 @@ use Rattle.exchange.specs.States.{Child, ChildState, need_of, and_then, each_of}
 use Rattle.exchange.specs.Status.{status_of}
 use Rattle.exchange.specs.Step.{ensure_child, ensure_children}
 use Rattle.exchange.specs.declared.status.Asked.{Asked}
-use Rattle.exchange.specs.Standings.{SameChildren, done, also, no_child, asked_needs, form_numbers}
+use Rattle.exchange.specs.Standings.{SameChildren, done, also, numbered_from, asked_needs, form_numbers}
 use Rattle.exchange.specs.Turns.{Stand, nobody, next}
 use Rattle.exchange.proofs.Forms.{form_apart, form_small}
 use Rattle.exchange.proofs.Ensured.{Fresh, ensured_after}
@@ -40,15 +39,13 @@ module _ (s : Settings) (o : Operator) (b : NodeFacts) (rows : List Row) (aligne
       subst (λ (ds : List ChildState). Stand rows n (need ∷ needs) (form_numbers ds) ds) same
       (one_stands k n need needs y ys a d (ensured_after s o b rows (status_of s aligned k) y e) (h ys refl))
 
-  pub children_stand : (n : ℕ) (asks : List Asked) → ((k : ℕ) → k < length asks → (get_or asks k no_child).number ≡ k + n)
-      → (ks : List Child) → SameChildren asks ks → (cs : List ChildState)
+  pub children_stand : (n : ℕ) (asks : List Asked) (ks : List Child) → SameChildren (numbered_from n asks) ks → (cs : List ChildState)
       → ensure_children s o b rows (map (status_of s aligned) ks) ≡ some cs → Stand rows n (asked_needs asks) (form_numbers cs) cs
-  unfolding each_of
-  children_stand n [] numbered [] done cs e =
+  unfolding each_of numbered_from
+  children_stand n [] [] done cs e =
       let same : [] ≡ cs = cc in subst (λ (ds : List ChildState). Stand rows n [] (form_numbers ds) ds) same nobody
-  children_stand n (a ∷ asks) numbered (k ∷ ks) (also h hs) cs e =
-      let first : k.number ≡ n = omega (arith, h.number, numbered 0 (omega arith)) in
-      more_stand k n a.need (asked_needs asks) cs first h.need (ensure_child s o b rows (status_of s aligned k)) refl (each_of (ensure_child s o b rows) (map (status_of s aligned) ks))
-      (λ ys z. children_stand (suc n) asks (λ j l. omega (arith, numbered (suc j) (omega arith))) ks hs ys z) e
-  children_stand n [] numbered (k ∷ ks) z cs e = elim z [ ]
-  children_stand n (a ∷ asks) numbered [] z cs e = elim z [ ]
+  children_stand n (a ∷ asks) (k ∷ ks) (also h hs) cs e =
+      more_stand k n a.need (asked_needs asks) cs h.number h.need (ensure_child s o b rows (status_of s aligned k)) refl (each_of (ensure_child s o b rows) (map (status_of s aligned) ks))
+      (λ ys z. children_stand (suc n) asks ks hs ys z) e
+  children_stand n [] (k ∷ ks) z cs e = elim z [ ]
+  children_stand n (a ∷ asks) [] z cs e = elim z [ ]

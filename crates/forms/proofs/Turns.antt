@@ -22,7 +22,7 @@ use Rattle.exchange.proofs.FromEnd.{none_taken, one_taken}
 use Rattle.exchange.specs.States.{ChildState}
 use Rattle.exchange.specs.Step.{keyed_on}
 use Rattle.exchange.specs.declared.status.Asked.{Asked}
-use Rattle.exchange.specs.Standings.{form_by, Passed, no_child, Numbered, asked_needs}
+use Rattle.exchange.specs.Standings.{form_by, Passed, no_child, asked_needs}
 use Rattle.exchange.specs.FactRows.{child_facts, fact_row, operator_by}
 use Rattle.exchange.specs.Turns.{turn_givable, turn_form, turns_by, set_of}
 use Rattle.exchange.proofs.Forms.{form_whole}
@@ -30,13 +30,12 @@ use Rattle.forms.proofs.Formed.{formed_with}
 use Rattle.exchange.proofs.FactRows.{row_none, row_placed, row_some}
 
 module _ (asks : List Asked) (forms : List ℕ) (same : length forms ≡ length asks) (i m : ℕ) where
-  pub turns_turn : Numbered asks → i < length asks → (x : Turn)
-      → x ≡ record { number = (get_or asks i no_child).number; need = (get_or asks i no_child).need; form = get_or forms i 0; bit = m % 2 }
-      → turns_by (i + 1) m (asked_needs (drop i asks)) (drop i forms) ≡ x ∷ turns_by (i + 1 + 1) (m / 2) (asked_needs (drop (i + 1) asks)) (drop (i + 1) forms)
+  pub turns_turn : i < length asks → turns_by (i + 1) m (asked_needs (drop i asks)) (drop i forms)
+      ≡ record { number = i + 1; need = (get_or asks i no_child).need; form = get_or forms i 0; bit = m % 2 } ∷ turns_by (i + 1 + 1) (m / 2) (asked_needs (drop (i + 1) asks)) (drop (i + 1) forms)
   unfolding turns_by
-  turns_turn numbered h x e =
+  turns_turn h =
       let b : i < length forms = omega arith in
-      rw (e, drop-cons asks i no_child h, drop-cons forms i 0 b, add-one (i + 1), add-one i, numbered i h, add-one i)
+      rw (drop-cons asks i no_child h, drop-cons forms i 0 b, add-one (i + 1), add-one i)
 
   pub turns_end : length asks ≤ i → turns_by (i + 1) m (asked_needs (drop i asks)) (drop i forms) ≡ []
   unfolding turns_by

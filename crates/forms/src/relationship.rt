@@ -1,5 +1,5 @@
 // The relationship rounds: while children are unsatisfied together, those that can be are given a keyed exchange.
-ghost use Rattle.std.specs.Prelude.{◌≡◌, List, map, ℕ, ◌≤◌, ◌<◌, ◌%◌, length, get_or};
+ghost use Rattle.std.specs.Prelude.{◌≡◌, List, map, ℕ, ◌≤◌, ◌<◌, length, get_or};
 ghost use Rattle.exchange.specs.Forms.{form_number, form_of, with_relationship};
 ghost use Rattle.exchange.specs.Facts.{row_of, unsatisfied_at};
 ghost use Rattle.exchange.specs.States.{ChildState};
@@ -15,7 +15,6 @@ use exchange::lists::{Asks, Forms};
 use exchange::mark::is_set;
 use exchange::need;
 use exchange::relationship::{Turn, Unenforced};
-use exchange::status::Asked;
 
 // The mask of unsatisfied children for a set of children that were given an exchange.
 fn unsatisfied_at(masks: &[u64], set: u64) -> u64
@@ -45,18 +44,6 @@ fn already_target_hash(xs: FactRows, c: ChildForm) -> bool
     };
     let x = xs.rows[place];
     is_set(x[ATHASH]) && is_set(x[EXACT])
-}
-
-// The turn of a child whose bit is the lowest of the mask.
-fn turn(a: &Asked, form: u64, mask: u64) -> Turn
-    ensures { result ≡ record { number = a.now.number; need = a.now.need; form = form; bit = mask % 2 } }
-{
-    Turn {
-        number: a.number,
-        need: a.need,
-        form,
-        bit: mask % 2,
-    }
 }
 
 // A child that is asked is given one, unless it has it, its need is not keyed, or nothing would change.
@@ -96,7 +83,13 @@ fn any_givable(mask: u64, asks: Asks, forms: Forms, xs: FactRows) -> bool
 {
     let mut m = mask;
     for (i, a) in asks.list.iter().enumerate() {
-        let x = turn(a, forms.list[i], m);
+        let x = Turn {
+            // No From goes from usize to u64.
+            number: i as u64 + 1,
+            need: a.need,
+            form: forms.list[i],
+            bit: m % 2,
+        };
         if is_givable(x, xs) {
             return true;
         }
@@ -115,7 +108,13 @@ fn round(mask: u64, asks: Asks, forms: &mut [u64], xs: FactRows) -> Option<()>
 {
     let mut m = mask;
     for (i, a) in asks.list.iter().enumerate() {
-        let x = turn(a, forms[i], m);
+        let x = Turn {
+            // No From goes from usize to u64.
+            number: i as u64 + 1,
+            need: a.need,
+            form: forms[i],
+            bit: m % 2,
+        };
         forms[i] = give(x, xs)?;
         m /= 2;
     }

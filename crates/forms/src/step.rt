@@ -9,7 +9,7 @@ ghost use Rattle.exchange.specs.States.{Child, pass, and_then};
 ghost use Rattle.exchange.specs.Status.{rows_gain, status_of, get_repartition_requirement_status};
 ghost use Rattle.exchange.specs.Step.{add_roundrobin, add_merge_on_top, add_hash_on_top, add_roundrobin_on_top, satisfy_distribution, split_plan, ensure_child, ensure_children};
 ghost use Rattle.exchange.specs.FactRows.{child_facts, fact_row, child_for};
-ghost use Rattle.exchange.specs.Standings.{worked_for, node_for, state_for, formed, begun, Passed, SameNode, SameChild, SameChildren, resulting, form_list, each_form};
+ghost use Rattle.exchange.specs.Standings.{worked_for, node_for, state_for, formed, begun, Passed, SameNode, SameChild, SameChildren, numbered_from, resulting, form_list, each_form};
 
 use exchange::fact::{COUNT, ChildForm, Fact, FactRows};
 use exchange::form::{
@@ -23,6 +23,15 @@ use exchange::settings::Settings;
 use exchange::status::{Asked, SPLITS};
 use needs::partitioning::{add_roundrobin, needs_hash_repartition};
 use needs::status::{get_repartition_requirement_status, needs_alignment, rows_gain};
+
+// The worked node whose children take their steps: whether any of them asks to be hashed alike, and their X rows.
+#[derive(Clone, Copy)]
+pub struct Stepping<'a> {
+    pub settings: Settings,
+    pub worked: Worked,
+    pub aligned: bool,
+    pub xs: FactRows<'a>,
+}
 
 // A child on its way: what is asked of it, and how it stands.
 #[derive(Clone, Copy)]
@@ -83,34 +92,28 @@ fn add_roundrobin_on_top(target: u64, c: ChildState, xs: FactRows) -> Option<u64
 }
 
 // By the need: single, keyed, unspecified.
-fn satisfy_distribution(
-    s: Settings,
-    w: Worked,
-    aligned: bool,
-    c: ChildState,
-    xs: FactRows,
-) -> Option<u64>
-    ensures { result ≡ formed (satisfy_distribution s (worked_for w) (node_for w) (map fact_row xs.entry.rows.now) (status_of s aligned (child_for c.asked)) (state_for c.asked c.standing)) }
+fn satisfy_distribution(w: Stepping, c: ChildState) -> Option<u64>
+    ensures { result ≡ formed (satisfy_distribution w.entry.settings (worked_for w.entry.worked) (node_for w.entry.worked) (map fact_row w.entry.xs.rows.now) (status_of w.entry.settings w.entry.aligned (child_for c.asked)) (state_for c.asked c.standing)) }
 {
     let a = c.asked;
     if a.need == need::SINGLE {
-        return add_merge_on_top(c, xs);
+        return add_merge_on_top(c, w.xs);
     }
     if a.need != need::KEYED {
-        return satisfy_unspecified(s, w, c, xs);
+        return satisfy_unspecified(w, c);
     }
-    let t = get_repartition_requirement_status(s, aligned, a.need, a.count, a.facts);
-    if !t.necessary || !needs_hash_repartition(s, w, a, c.standing) {
+    let t = get_repartition_requirement_status(w.settings, w.aligned, a.need, a.count, a.facts);
+    if !t.necessary || !needs_hash_repartition(w.settings, w.worked, a, c.standing) {
         return Some(c.standing.form);
     }
-    add_hash_on_top(c, xs)
+    add_hash_on_top(c, w.xs)
 }
 
-fn satisfy_unspecified(s: Settings, w: Worked, c: ChildState, xs: FactRows) -> Option<u64>
-    ensures { (aligned : Bool) → result ≡ formed (cond (add_roundrobin s (worked_for w) (node_for w) (status_of s aligned (child_for c.asked))) (add_roundrobin_on_top (map fact_row xs.entry.rows.now) s.target (state_for c.asked c.standing)) (some (state_for c.asked c.standing))) }
+fn satisfy_unspecified(w: Stepping, c: ChildState) -> Option<u64>
+    ensures { (aligned : Bool) → result ≡ formed (cond (add_roundrobin w.entry.settings (worked_for w.entry.worked) (node_for w.entry.worked) (status_of w.entry.settings aligned (child_for c.asked))) (add_roundrobin_on_top (map fact_row w.entry.xs.rows.now) w.entry.settings.target (state_for c.asked c.standing)) (some (state_for c.asked c.standing))) }
 {
-    if add_roundrobin(s, w, c.asked) {
-        return add_roundrobin_on_top(s.target, c, xs);
+    if add_roundrobin(w.settings, w.worked, c.asked) {
+        return add_roundrobin_on_top(w.settings.target, c, w.xs);
     }
     Some(c.standing.form)
 }
@@ -122,72 +125,70 @@ fn splits_at_source(s: Settings, a: Asked) -> bool
 }
 
 // A child that is split at its source, from there on.
-fn ensure_split(s: Settings, w: Worked, aligned: bool, a: Asked, xs: FactRows) -> Option<u64>
+fn ensure_split(w: Stepping, a: Asked) -> Option<u64>
     requires numbered { (1 ≤ a.number) × (a.number ≤ 8) }
-    ensures { (x : Row) → result ≡ formed (and_then (pass (map fact_row xs.entry.rows.now) split_form split_plan (begun (child_for a) x)) (satisfy_distribution s (worked_for w) (node_for w) (map fact_row xs.entry.rows.now) (status_of s aligned (child_for a)))) }
+    ensures { (x : Row) → result ≡ formed (and_then (pass (map fact_row w.entry.xs.rows.now) split_form split_plan (begun (child_for a) x)) (satisfy_distribution w.entry.settings (worked_for w.entry.worked) (node_for w.entry.worked) (map fact_row w.entry.xs.rows.now) (status_of w.entry.settings w.entry.aligned (child_for a)))) }
 {
     let at = ChildForm {
         child: a.number,
         form: SPLIT,
     };
-    let Fact::Row { place } = xs.fact_row(at) else {
+    let Fact::Row { place } = w.xs.fact_row(at) else {
         return None;
     };
-    let x = xs.rows[place];
+    let x = w.xs.rows[place];
     let standing = Standing {
         form: SPLIT,
         count: x[COUNT],
         row: x,
     };
     let c = ChildState { asked: a, standing };
-    satisfy_distribution(s, w, aligned, c, xs)
+    satisfy_distribution(w, c)
 }
 
 // The form of the child after its step.
-pub fn ensure_child(s: Settings, w: Worked, aligned: bool, a: Asked, xs: FactRows) -> Option<u64>
+pub fn ensure_child(w: Stepping, a: Asked) -> Option<u64>
     requires numbered { (1 ≤ a.number) × (a.number ≤ 8) }
-    ensures { (o : Operator) (b : NodeFacts) (k : Child) → SameNode w o b → SameChild a k → result ≡ formed (ensure_child s o b (map fact_row xs.entry.rows.now) (status_of s aligned k)) }
+    ensures { (o : Operator) (b : NodeFacts) (k : Child) → SameNode w.entry.worked o b → SameChild a k → result ≡ formed (ensure_child w.entry.settings o b (map fact_row w.entry.xs.rows.now) (status_of w.entry.settings w.entry.aligned k)) }
 {
     let at = ChildForm {
         child: a.number,
         form: PLAIN,
     };
-    let Fact::Row { place } = xs.fact_row(at) else {
+    let Fact::Row { place } = w.xs.fact_row(at) else {
         return None;
     };
-    if splits_at_source(s, a) {
-        return ensure_split(s, w, aligned, a, xs);
+    if splits_at_source(w.settings, a) {
+        return ensure_split(w, a);
     }
     let standing = Standing {
         form: PLAIN,
         count: a.count,
-        row: xs.rows[place],
+        row: w.xs.rows[place],
     };
     let c = ChildState { asked: a, standing };
-    satisfy_distribution(s, w, aligned, c, xs)
+    satisfy_distribution(w, c)
 }
 
 // The forms of the children after their steps, one after the other.
 // That there are as many forms as asks stays a clause, as `Asks` says.
-fn ensure_each(
-    s: Settings,
-    w: Worked,
-    aligned: bool,
-    asks: Asks,
-    xs: FactRows,
-    forms: &mut [u64],
-) -> Option<()>
+fn ensure_each(w: Stepping, asks: Asks, forms: &mut [u64]) -> Option<()>
     requires { length forms.old ≡ length asks.list.now }
-    ensures { resulting result forms.new ≡ each_form (λ a. formed (ensure_child s (worked_for w) (node_for w) (map fact_row xs.entry.rows.now) (status_of s aligned (child_for a)))) asks.entry.list.now }
+    ensures { resulting result forms.new ≡ each_form (λ a. formed (ensure_child w.entry.settings (worked_for w.entry.worked) (node_for w.entry.worked) (map fact_row w.entry.xs.rows.now) (status_of w.entry.settings w.entry.aligned (child_for a)))) (numbered_from 1 asks.entry.list.now) }
 {
     for (i, a) in asks.list.iter().enumerate() {
-        forms[i] = ensure_child(s, w, aligned, *a, xs)?;
+        let child = Asked {
+            // No From goes from usize to u64.
+            number: i as u64 + 1,
+            ..*a
+        };
+        forms[i] = ensure_child(w, child)?;
     }
     Some(())
 }
 
 // The forms of the children after their steps, a place for each or more.
-// That there are as many places as asks stays a clause, as `Asks` says.
+// That there are at least as many places as asks stays a clause, as `Asks` says.
 pub fn ensure_children(
     s: Settings,
     w: Worked,
@@ -196,9 +197,14 @@ pub fn ensure_children(
     forms: &mut [u64],
 ) -> Option<()>
     requires { length asks.list.now ≤ length forms.old }
-    ensures { (o : Operator) (b : NodeFacts) (ks : List Child) → SameNode w o b → SameChildren asks.entry.list.now ks → resulting result (take (length asks.entry.list.now) forms.new) ≡ form_list (ensure_children s o b (map fact_row xs.entry.rows.now) (get_repartition_requirement_status s ks)) }
+    ensures { (o : Operator) (b : NodeFacts) (ks : List Child) → SameNode w o b → SameChildren (numbered_from 1 asks.entry.list.now) ks → resulting result (take (length asks.entry.list.now) forms.new) ≡ form_list (ensure_children s o b (map fact_row xs.entry.rows.now) (get_repartition_requirement_status s ks)) }
 {
-    let aligned = needs_alignment(s, asks.list);
+    let stepping = Stepping {
+        settings: s,
+        worked: w,
+        aligned: needs_alignment(s, asks.list),
+        xs,
+    };
     let forms = &mut forms[..asks.list.len()];
-    ensure_each(s, w, aligned, asks, xs, forms)
+    ensure_each(stepping, asks, forms)
 }

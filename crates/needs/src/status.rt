@@ -68,10 +68,5 @@ pub fn get_repartition_requirement_status(
 pub fn needs_alignment(s: Settings, asks: &[Asked]) -> bool
     ensures { result ≡ needs_alignment s (map child_for asks.now) }
 {
-    for a in asks {
-        if asks_alignment(s, *a) {
-            return true;
-        }
-    }
-    false
+    asks.iter().any(|a| asks_alignment(s, *a))
 }

@@ -14,18 +14,7 @@ use exchange::{operator, replace};
 pub fn zero() -> Node
     ensures { result ≡ zero_node }
 {
-    Node {
-        id: 0,
-        kind: 0,
-        count: 0,
-        keeps: 0,
-        limited: 0,
-        limit: 0,
-        order: 0,
-        mask: 0,
-        tracked: 0,
-        need: 0,
-    }
+    Node::default()
 }
 
 // The node of its operator: the mark of a limit is 0 or 1, and an absent limit has number 0.

@@ -1,9 +1,10 @@
 -- `worked_forms` meets its contract: what is asked is of the children that stand there, so the forms are those of their states (`told_worked`).
-use mathlib.Core.Path.{refl, ap}
+use mathlib.Core.Path.{◌≡◌, refl, ap, ◌∙◌}
+use lib.ListN.{length}
 use lib.Seq.{length-take-le}
 use native.Mathlib.Omega.{arith}
 use Rattle.exchange.specs.declared.row.Node.{Node}
-use Rattle.ensure.proofs.Forming.{stood_in, stood_below, told_worked, asks_fit}
+use Rattle.ensure.proofs.Forming.{stood_in, stood_below, told_worked}
 use Rattle.ensure.proofs.worked.worked_forms.Goals as goal
 
 pub overflow_add-src : goal.overflow_add-src
@@ -17,8 +18,8 @@ asked_children-requires c = record { stand_all = stood_below c.args.src.rows.now
 
 pub invariant_of-child_forms : goal.invariant_of-child_forms
 invariant_of-child_forms c = let a = c.args in
-    let fit = asks_fit a.s a.f.node a.f.children.now a.f.xs.rows.now a.f.masks.now a.src.rows.now a.src.at (record { kind = c.node_at.result.kind; facts = a.f.node }) (ap (λ (x : Node). x.kind) c.node_at.ensures) refl c.requires.stood c.asked_children.new.asks c.asked_children.ensures in
-    record { numbered = fit.1; few = omega (arith, fit.0, a.f.few) }
+    let long : length c.asked_children.new.asks ≡ length a.f.children.now = c.asked_children.auto.asks ∙ length-take-le _ _ a.f.few in
+    omega (arith, long, a.f.few)
 
 pub returns : goal.returns
 returns c = let a = c.args in

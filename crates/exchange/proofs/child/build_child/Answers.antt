@@ -15,8 +15,8 @@ invariant_of-o c = record { legal = rw c.node_at.ensures (built_legal _ _ _ _ _ 
 pub put_built-next-requires : goal.put_built-next-requires
 put_built-next-requires c = rw (c.node_at.ensures, c.children_at-children.ensures) (built_heads _ _ _ _ _ _ _ c.requires.ready)
 
-pub overflow_add-at : goal.overflow_add-at
-overflow_add-at c = omega (arith, built_row _ _ _ _ _ _ _ c.requires.ready)
+pub overflow_add-below : goal.overflow_add-below
+overflow_add-below c = omega (arith, built_row _ _ _ _ _ _ _ c.requires.ready)
 
 pub copy_trees-requires : goal.copy_trees-requires
 copy_trees-requires c = let e = rw (c.node_at.ensures, c.children_at-children.ensures) at c.put_built-next.ensures in

@@ -6,37 +6,37 @@ use Rattle.exchange.proofs.row.copy_trees.Goals as goal
 
 pub children_at-below-requires : goal.children_at-below-requires
 children_at-below-requires c =
-    let turn : Room c.args.src.now c.args.to c.requires.below c.loop-left.a c.loop-left.b c.loop-left.left = room _ _ _ _ _ c.requires.rest _ _ _ _ c.loop-left-test.true (c.loop-left.invariant.1 c.requires.below c.requires.rest c.requires.counted c.requires.stands) in
+    let turn : Room c.args.src.rows.now c.args.to c.requires.below c.loop-left.a c.loop-left.b c.loop-left.left = room _ _ _ _ _ c.requires.rest _ _ _ _ c.loop-left-test.true (c.loop-left.invariant.1 c.requires.below c.requires.rest c.requires.counted c.requires.stands) in
     omega (arith, turn)
 
 pub offset_bounds-src-a : goal.offset_bounds-src-a
 offset_bounds-src-a c =
-    let turn : Room c.args.src.now c.args.to c.requires.below c.loop-left.a c.loop-left.b c.loop-left.left = room _ _ _ _ _ c.requires.rest _ _ _ _ c.loop-left-test.true (c.loop-left.invariant.1 c.requires.below c.requires.rest c.requires.counted c.requires.stands) in
+    let turn : Room c.args.src.rows.now c.args.to c.requires.below c.loop-left.a c.loop-left.b c.loop-left.left = room _ _ _ _ _ c.requires.rest _ _ _ _ c.loop-left-test.true (c.loop-left.invariant.1 c.requires.below c.requires.rest c.requires.counted c.requires.stands) in
     omega (arith, turn)
 
 pub bounds-src-a : goal.bounds-src-a
 bounds-src-a c =
-    let turn : Room c.args.src.now c.args.to c.requires.below c.loop-left.a c.loop-left.b c.loop-left.left = room _ _ _ _ _ c.requires.rest _ _ _ _ c.loop-left-test.true (c.loop-left.invariant.1 c.requires.below c.requires.rest c.requires.counted c.requires.stands) in
+    let turn : Room c.args.src.rows.now c.args.to c.requires.below c.loop-left.a c.loop-left.b c.loop-left.left = room _ _ _ _ _ c.requires.rest _ _ _ _ c.loop-left-test.true (c.loop-left.invariant.1 c.requires.below c.requires.rest c.requires.counted c.requires.stands) in
     omega (arith, turn)
 
 pub bounds-dst-b : goal.bounds-dst-b
 bounds-dst-b c =
-    let turn : Room c.args.src.now c.args.to c.requires.below c.loop-left.a c.loop-left.b c.loop-left.left = room _ _ _ _ _ c.requires.rest _ _ _ _ c.loop-left-test.true (c.loop-left.invariant.1 c.requires.below c.requires.rest c.requires.counted c.requires.stands) in
+    let turn : Room c.args.src.rows.now c.args.to c.requires.below c.loop-left.a c.loop-left.b c.loop-left.left = room _ _ _ _ _ c.requires.rest _ _ _ _ c.loop-left-test.true (c.loop-left.invariant.1 c.requires.below c.requires.rest c.requires.counted c.requires.stands) in
     omega (arith, turn)
 
 pub overflow_add-a : goal.overflow_add-a
 overflow_add-a c =
-    let turn : Room c.args.src.now c.args.to c.requires.below c.loop-left.a c.loop-left.b c.loop-left.left = room _ _ _ _ _ c.requires.rest _ _ _ _ c.loop-left-test.true (c.loop-left.invariant.1 c.requires.below c.requires.rest c.requires.counted c.requires.stands) in
+    let turn : Room c.args.src.rows.now c.args.to c.requires.below c.loop-left.a c.loop-left.b c.loop-left.left = room _ _ _ _ _ c.requires.rest _ _ _ _ c.loop-left-test.true (c.loop-left.invariant.1 c.requires.below c.requires.rest c.requires.counted c.requires.stands) in
     omega (arith, turn)
 
 pub overflow_add-left : goal.overflow_add-left
 overflow_add-left c =
-    let turn : Room c.args.src.now c.args.to c.requires.below c.loop-left.a c.loop-left.b c.loop-left.left = room _ _ _ _ _ c.requires.rest _ _ _ _ c.loop-left-test.true (c.loop-left.invariant.1 c.requires.below c.requires.rest c.requires.counted c.requires.stands) in
+    let turn : Room c.args.src.rows.now c.args.to c.requires.below c.loop-left.a c.loop-left.b c.loop-left.left = room _ _ _ _ _ c.requires.rest _ _ _ _ c.loop-left-test.true (c.loop-left.invariant.1 c.requires.below c.requires.rest c.requires.counted c.requires.stands) in
     omega (arith, turn, c.children_at-below.ensures)
 
 pub loop-left-smaller : goal.loop-left-smaller
 loop-left-smaller c =
-    let turn : Room c.args.src.now c.args.to c.requires.below c.loop-left.a c.loop-left.b c.loop-left.left = room _ _ _ _ _ c.requires.rest _ _ _ _ c.loop-left-test.true (c.loop-left.invariant.1 c.requires.below c.requires.rest c.requires.counted c.requires.stands) in
+    let turn : Room c.args.src.rows.now c.args.to c.requires.below c.loop-left.a c.loop-left.b c.loop-left.left = room _ _ _ _ _ c.requires.rest _ _ _ _ c.loop-left-test.true (c.loop-left.invariant.1 c.requires.below c.requires.rest c.requires.counted c.requires.stands) in
     omega (arith, turn)
 
 pub loop-left-preserved : goal.loop-left-preserved

@@ -9,7 +9,7 @@ use Rattle.exchange.proofs.Copied.{Mid}
 use Rattle.exchange.proofs.row.copy_trees.Given as goal
 
 abbrev pub invariant-loop-left : goal.invariant-loop-left
-invariant-loop-left l = (length l.dst ≡ length l.initial.dst) × ((ts : Plans) (rest : List (List ℕ)) → trees ts ≡ l.count → drop l.at l.src ≡ flattens ts ++ rest → Mid l.src l.at l.to l.initial.dst ts rest l.dst l.a l.b l.left)
+invariant-loop-left l = (length l.dst ≡ length l.initial.dst) × ((ts : Plans) (rest : List (List ℕ)) → trees ts ≡ l.count → drop l.src.at l.src.rows.now ≡ flattens ts ++ rest → Mid l.src.rows.now l.src.at l.to l.initial.dst ts rest l.dst l.a l.b l.left)
 
 abbrev pub decreases-loop-left : goal.decreases-loop-left
-decreases-loop-left l = length l.src - l.a
+decreases-loop-left l = length l.src.rows.now - l.a

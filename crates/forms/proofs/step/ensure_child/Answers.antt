@@ -12,23 +12,23 @@ use Rattle.forms.proofs.Steps.{ensure_none, ensure_whole, ensure_split, same_num
 use Rattle.forms.proofs.step.ensure_child.Goals as goal
 
 pub returns-in_default : goal.returns-in_default
-returns-in_default c = λ o b k n m. let a = c.args in ensure_none a.s (worked_for a.w) (node_for a.w) (map fact_row a.xs.rows.now) a.aligned (child_for a.a) (row_none a.xs.rows.now a.a.number plain_form (ap found_of (sym c.in_default.is) ∙ c.fact_row.ensures))
-    ∙ same_numbers a.s (map fact_row a.xs.rows.now) a.aligned a.w a.a o b k n m
+returns-in_default c = λ o b k n m. let a = c.args in ensure_none a.w.settings (worked_for a.w.worked) (node_for a.w.worked) (map fact_row a.w.xs.rows.now) a.w.aligned (child_for a.a) (row_none a.w.xs.rows.now a.a.number plain_form (ap found_of (sym c.in_default.is) ∙ c.fact_row.ensures))
+    ∙ same_numbers a.w.settings (map fact_row a.w.xs.rows.now) a.w.aligned a.w.worked a.a o b k n m
 
 pub returns-then-splits_at_source : goal.returns-then-splits_at_source
-returns-then-splits_at_source c = λ o b k n m. let a = c.args in let x = fact_row (get_or a.xs.rows.now c.in-Row.place []) in
-    let e = row_some a.xs.rows.now a.a.number plain_form _ (ap found_of (sym c.in-Row.is) ∙ c.fact_row.ensures) in
-    ensure_split a.s (worked_for a.w) (node_for a.w) (map fact_row a.xs.rows.now) a.aligned (child_for a.a) x e _ (sym c.splits_at_source.ensures ∙ c.if-splits_at_source.true) (c.ensure_split.ensures x)
-    ∙ same_numbers a.s (map fact_row a.xs.rows.now) a.aligned a.w a.a o b k n m
+returns-then-splits_at_source c = λ o b k n m. let a = c.args in let x = fact_row (get_or a.w.xs.rows.now c.in-Row.place []) in
+    let e = row_some a.w.xs.rows.now a.a.number plain_form _ (ap found_of (sym c.in-Row.is) ∙ c.fact_row.ensures) in
+    ensure_split a.w.settings (worked_for a.w.worked) (node_for a.w.worked) (map fact_row a.w.xs.rows.now) a.w.aligned (child_for a.a) x e _ (sym c.splits_at_source.ensures ∙ c.if-splits_at_source.true) (c.ensure_split.ensures x)
+    ∙ same_numbers a.w.settings (map fact_row a.w.xs.rows.now) a.w.aligned a.w.worked a.a o b k n m
 
-pub offset_bounds-xs-place : goal.offset_bounds-xs-place
-offset_bounds-xs-place c = let a = c.args in omega (arith, row_placed a.xs.rows.now a.a.number plain_form _ (ap found_of (sym c.in-Row.is) ∙ c.fact_row.ensures))
+pub offset_bounds-w-place : goal.offset_bounds-w-place
+offset_bounds-w-place c = let a = c.args in omega (arith, row_placed a.w.xs.rows.now a.a.number plain_form _ (ap found_of (sym c.in-Row.is) ∙ c.fact_row.ensures))
 
-pub bounds-xs-place : goal.bounds-xs-place
-bounds-xs-place c = let a = c.args in row_placed a.xs.rows.now a.a.number plain_form _ (ap found_of (sym c.in-Row.is) ∙ c.fact_row.ensures)
+pub bounds-w-place : goal.bounds-w-place
+bounds-w-place c = let a = c.args in row_placed a.w.xs.rows.now a.a.number plain_form _ (ap found_of (sym c.in-Row.is) ∙ c.fact_row.ensures)
 
 pub returns : goal.returns
-returns c = λ o b k n m. let a = c.args in let x = fact_row (get_or a.xs.rows.now c.in-Row.place []) in
-    let e = row_some a.xs.rows.now a.a.number plain_form _ (ap found_of (sym c.in-Row.is) ∙ c.fact_row.ensures) in
-    ensure_whole a.s (worked_for a.w) (node_for a.w) (map fact_row a.xs.rows.now) a.aligned (child_for a.a) x e _ (sym c.splits_at_source.ensures ∙ c.if-splits_at_source.false) c.satisfy_distribution.ensures
-    ∙ same_numbers a.s (map fact_row a.xs.rows.now) a.aligned a.w a.a o b k n m
+returns c = λ o b k n m. let a = c.args in let x = fact_row (get_or a.w.xs.rows.now c.in-Row.place []) in
+    let e = row_some a.w.xs.rows.now a.a.number plain_form _ (ap found_of (sym c.in-Row.is) ∙ c.fact_row.ensures) in
+    ensure_whole a.w.settings (worked_for a.w.worked) (node_for a.w.worked) (map fact_row a.w.xs.rows.now) a.w.aligned (child_for a.a) x e _ (sym c.splits_at_source.ensures ∙ c.if-splits_at_source.false) c.satisfy_distribution.ensures
+    ∙ same_numbers a.w.settings (map fact_row a.w.xs.rows.now) a.w.aligned a.w.worked a.a o b k n m

@@ -10,4 +10,4 @@ use Rattle.forms.proofs.step.ensure_children.Goals as goal
 pub returns : goal.returns
 returns c = λ o b ks n h. let a = c.args in
     rw (take_at c.ensure_each.new.forms _ _ (c.ensure_each.auto.forms ∙ length-take-le _ _ c.requires))
-    (c.ensure_each.ensures ∙ children_same a.s (map fact_row a.xs.rows.now) _ a.w o b n h c.needs_alignment-aligned.ensures)
+    (c.ensure_each.ensures ∙ children_same a.s (map fact_row a.xs.rows.now) _ a.w o b a.asks.list.now n h c.needs_alignment.ensures)

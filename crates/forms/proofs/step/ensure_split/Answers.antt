@@ -13,17 +13,17 @@ use Rattle.forms.proofs.Steps.{cut, split_none, split_some, same_split}
 use Rattle.forms.proofs.step.ensure_split.Goals as goal
 
 pub returns-in_default : goal.returns-in_default
-returns-in_default c = λ x. let a = c.args in split_none a.s (worked_for a.w) (node_for a.w) (map fact_row a.xs.rows.now) a.aligned (child_for a.a) x (row_none a.xs.rows.now a.a.number split_form (ap found_of (sym c.in_default.is) ∙ c.fact_row.ensures))
+returns-in_default c = λ x. let a = c.args in split_none a.w.settings (worked_for a.w.worked) (node_for a.w.worked) (map fact_row a.w.xs.rows.now) a.w.aligned (child_for a.a) x (row_none a.w.xs.rows.now a.a.number split_form (ap found_of (sym c.in_default.is) ∙ c.fact_row.ensures))
 
-pub offset_bounds-xs-place : goal.offset_bounds-xs-place
-offset_bounds-xs-place c = let a = c.args in omega (arith, row_placed a.xs.rows.now a.a.number split_form _ (ap found_of (sym c.in-Row.is) ∙ c.fact_row.ensures))
+pub offset_bounds-w-place : goal.offset_bounds-w-place
+offset_bounds-w-place c = let a = c.args in omega (arith, row_placed a.w.xs.rows.now a.a.number split_form _ (ap found_of (sym c.in-Row.is) ∙ c.fact_row.ensures))
 
-pub bounds-xs-place : goal.bounds-xs-place
-bounds-xs-place c = let a = c.args in row_placed a.xs.rows.now a.a.number split_form _ (ap found_of (sym c.in-Row.is) ∙ c.fact_row.ensures)
+pub bounds-w-place : goal.bounds-w-place
+bounds-w-place c = let a = c.args in row_placed a.w.xs.rows.now a.a.number split_form _ (ap found_of (sym c.in-Row.is) ∙ c.fact_row.ensures)
 
 pub returns : goal.returns
-returns c = λ x. let a = c.args in let y = get_or a.xs.rows.now c.in-Row.place [] in
-    split_some a.s (worked_for a.w) (node_for a.w) (map fact_row a.xs.rows.now) a.aligned (child_for a.a) x _ (fact_row y) (row_some a.xs.rows.now a.a.number split_form _ (ap found_of (sym c.in-Row.is) ∙ c.fact_row.ensures))
+returns c = λ x. let a = c.args in let y = get_or a.w.xs.rows.now c.in-Row.place [] in
+    split_some a.w.settings (worked_for a.w.worked) (node_for a.w.worked) (map fact_row a.w.xs.rows.now) a.w.aligned (child_for a.a) x _ (fact_row y) (row_some a.w.xs.rows.now a.a.number split_form _ (ap found_of (sym c.in-Row.is) ∙ c.fact_row.ensures))
     (c.satisfy_distribution.ensures
-    ∙ same_split a.s (worked_for a.w) (node_for a.w) (map fact_row a.xs.rows.now) a.aligned (child_for a.a) (record { number = a.a.number; facts = child_facts a.a.facts; need = a.a.need; form = split_form; row = fact_row y; plan = node (operator_by 0 (get_or y 2 0) a.a.need) none }) (cut (child_for a.a) (fact_row y))
+    ∙ same_split a.w.settings (worked_for a.w.worked) (node_for a.w.worked) (map fact_row a.w.xs.rows.now) a.w.aligned (child_for a.a) (record { number = a.a.number; facts = child_facts a.a.facts; need = a.a.need; form = split_form; row = fact_row y; plan = node (operator_by 0 (get_or y 2 0) a.a.need) none }) (cut (child_for a.a) (fact_row y))
     (record { number = refl; need = refl; form = refl; row = refl; count = refl }))

@@ -1,32 +1,24 @@
--- `needs::status::needs_alignment` meets its contract: the children that are left ask as all of them do, since none before them asks.
-use mathlib.Core.Path.{◌≡◌, refl, sym, ◌∙◌}
-use mathlib.Core.Bool.{false, ◌||◌}
-use mathlib.Core.List.{List, map}
-use Prim.Native.Nat.{ℕ, ◌+◌, ◌<◌, ◌≤◌}
-use native.Mathlib.Numerals.{add-one}
-use lib.ListN.{length, drop, get_or, drop_of_length-le}
-use lib.Seq.{drop-cons}
+-- `needs::status::needs_alignment` meets its contract: a child of those numbers that asks is a child that asks.
+use Rattle.std.proofs.Common.{rules, ◌≡◌, ◌∙◌, true, refl, ap}
+use mathlib.Core.Bool.{Bool, ◌||◌}
+use mathlib.Core.List.{List, [], ◌∷◌, map}
+use Rattle.std.specs.Prelude.{IsTrue, ◌↔◌}
+use Rattle.std.specs.List.{Any, list_any}
+use Rattle.std.proofs.lemmas.List.Folds.{Any-from_list_any, list_any-from_Any}
 use Rattle.exchange.specs.declared.settings.Settings.{Settings}
 use Rattle.exchange.specs.declared.status.Asked.{Asked}
 use Rattle.exchange.specs.Status.{asks_alignment, needs_alignment}
 use Rattle.exchange.specs.FactRows.{child_for}
-use Rattle.exchange.proofs.Tests.{enough, besides}
+use Rattle.keys.proofs.Truths.{both_ways}
 use Rattle.needs.proofs.status.needs_alignment.Goals as goal
 
-ask_turn : (s : Settings) (asks : List Asked) (i : ℕ) (a : Asked) → i < length asks
-    → needs_alignment s (map child_for (drop i asks)) ≡ asks_alignment s (child_for (get_or asks i a)) || needs_alignment s (map child_for (drop (i + 1) asks))
+any_asks : (s : Settings) (asks : List Asked) → list_any (λ a. asks_alignment s (child_for a)) asks ≡ needs_alignment s (map child_for asks)
 unfolding needs_alignment
-ask_turn s asks i a h = rw (drop-cons asks i a h, add-one i)
-
-ask_end : (s : Settings) (asks : List Asked) (i : ℕ) → length asks ≤ i → needs_alignment s (map child_for (drop i asks)) ≡ false
-unfolding needs_alignment
-ask_end s asks i h = rw (drop_of_length-le asks {i = i} h)
-
-pub returns-then-asks_alignment : goal.returns-then-asks_alignment
-returns-then-asks_alignment c = sym (c.loop-a.invariant ∙ ask_turn _ _ _ _ c.loop-a-test.true ∙ sym (enough _ _ (sym c.if-asks_alignment.ensures)))
-
-pub loop-a-preserved : goal.loop-a-preserved
-loop-a-preserved c = c.loop-a.invariant ∙ ask_turn _ _ _ _ c.loop-a-test.true ∙ sym (besides _ _ _ (sym c.if-asks_alignment.ensures) refl)
+any_asks s [] = refl
+any_asks s (a ∷ asks) = ap (λ (t : Bool). asks_alignment s (child_for a) || t) (any_asks s asks)
 
 pub returns : goal.returns
-returns c = sym (c.loop-a.invariant ∙ ask_end _ _ _ c.loop-a-test.false)
+returns c =
+    let s = c.args.s in let asks = c.args.asks.now in let p : Asked → Bool = λ a. asks_alignment s (child_for a) in
+    let e : IsTrue c.any.result ↔ Any (λ a. p a ≡ true) asks = search rules in
+    both_ways c.any.result (list_any p asks) (λ h. list_any-from_Any p asks (e.0 h)) (λ h. e.1 (Any-from_list_any p asks h)) ∙ any_asks s asks
