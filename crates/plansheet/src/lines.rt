@@ -94,7 +94,7 @@ pub fn read_tree_lines(
     }
 }
 
-// The Y line at a place, and nothing after it. That there are at most eight children stays a condition: a struct for one number would be no plainer.
+// The Y line at a place, and nothing after it. That there are at most eight children stays a condition, here and below, as in `line`.
 fn read_masks(
     place: Place,
     children: usize,
