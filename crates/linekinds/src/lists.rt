@@ -68,7 +68,8 @@ impl SheetKind {
     }
 }
 
-// How long the list of a line is, packed, and the place after the line. The list stands at the front of the room lent.
+// How long the list of a line is, packed, and the place after the line. The list stands at the front of the room lent. `Judged` of
+// text counts a line's fields instead, three to an expression, and `Entries` of `plain` has the place of the LF.
 #[derive(Clone, Copy)]
 pub struct Packed {
     pub count: usize,

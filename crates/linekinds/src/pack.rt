@@ -10,12 +10,11 @@ fn pack_exprs(rows: &[[u64; 2]], from: usize, out: &mut [u64; 64]) -> usize
     requires { (from ≤ length rows.now) × (length rows.now ≤ 192) × (from ≤ 1) × Small (row_values rows.now) }
     ensures { (result ≤ 64) × (take result out.new ≡ take from out.old ++ packs (drop from (row_values rows.now))) }
 {
-    let mut n = from;
-    for [kind, name, index] in rows[from..].as_chunks::<3>().0 {
-        out[n] = Expr::pack(kind[1], name[1], index[1]).number;
-        n += 1;
+    let (entries, _) = rows[from..].as_chunks::<3>();
+    for (i, [kind, name, index]) in entries.iter().enumerate() {
+        out[from + i] = Expr::pack(kind[1], name[1], index[1]).number;
     }
-    n
+    from + entries.len()
 }
 
 fn copy_numbers(rows: &[[u64; 2]], out: &mut [u64; 64]) -> usize

@@ -13,7 +13,8 @@ pub struct Number {
     pub end: usize,
 }
 
-// How many entries, and the place of the LF. The entries stand at the front of the room lent.
+// How many entries, and the place of the LF. The entries stand at the front of the room lent, packed as a list's numbers are, so that `Packed`
+// counts the same; but there the place is that after the line.
 #[derive(Clone, Copy)]
 pub struct Entries {
     pub count: usize,
@@ -100,10 +101,7 @@ fn entry_at(s: &[u8], at: usize) -> Option<Number>
 fn line_end(s: &[u8], at: usize, n: usize) -> Option<Entries>
     ensures { EndFound s.now at n result }
 {
-    if !stands(s, at, b'\n') {
-        return None;
-    }
-    if at >= MOST_BYTES {
+    if !stands(s, at, b'\n') || at >= MOST_BYTES {
         return None;
     }
     Some(Entries { count: n, end: at })

@@ -115,6 +115,7 @@ pub fn put_pair(out: &mut [u8], at: usize, letter: u8, a: u64, b: u64) -> usize
 }
 
 // The expressions' line. Three lines as in `put_numbers`, of other fields: over a closure the promise would be longer than both.
+// So it is with the lengths and with the fields above: each of those loops has one line, and promises another text.
 pub fn put_exprs(out: &mut [u8], at: usize, letter: u8, list: &[u64]) -> usize
     requires { at + length (exprs_line letter (expressions list.now)) ≤ length out.old }
     ensures { Wrote out.old at (exprs_line letter (expressions list.now)) out.new result }

@@ -6,13 +6,15 @@ use mathlib.Core.Option.{Option, none, some}
 use mathlib.Core.Bool.{Bool, true, false, cond, not, ◌&&◌, ◌||◌}
 use Prim.Native.Nat.{ℕ, zero, suc, ◌+◌, ◌/◌, ◌^◌, ◌≤◌, ◌<◌}
 use native.Mathlib.Omega.{arith}
-use native.Mathlib.Numerals.{add-one}
 use Rattle.std.proofs.Math.Nat.{div-one, div-div-eq-div-mul, div-eq_of_lt, pow-succ'}
 use lib.Dec.{eqb, leb}
-use lib.ListN.{length, get_or, drop, drop_of_length-le}
-use lib.Seq.{drop-cons}
+use lib.ListN.{length, get_or}
 use borrow.Author.Tests.{eq-eqb, eqb-true, eqb-false, leb-true}
+use Rattle.std.specs.Prelude.{◌↔◌, IsTrue}
+use Rattle.std.specs.List.{AllPass, list_all}
 use Rattle.std.proofs.lemmas.Bool.{and_parts as both}
+use Rattle.std.proofs.lemmas.List.Sums.{AllPass-from_list_all, list_all-from_AllPass}
+use Rattle.keys.proofs.Truths.{both_ways}
 use Rattle.exchange.specs.declared.fact.Fact.{Fact}
 use Rattle.exchange.specs.declared.fact.Fact.TheVariants.{Row, Missing}
 use Rattle.exchange.specs.FactRows.{fact_row}
@@ -31,19 +33,16 @@ within_shifted (suc n) m = within_shifted n (m / 2) ∙ rw (div-div-eq-div-mul m
 pub within_wide : (n m : ℕ) → m < 2 ^ n → within_bits n m ≡ true
 within_wide n m h = within_shifted n m ∙ rw (div-eq_of_lt h)
 
-module _ (n : ℕ) (masks : List ℕ) (i : ℕ) where
-  module _ (h : i < length masks) where
-    pub masks_bad : within_bits n (get_or masks i 0) ≡ false → all_within_bits n (drop i masks) ≡ false
-    unfolding all_within_bits
-    masks_bad e = rw (drop-cons masks i 0 h, e)
+masks_list : (n : ℕ) (masks : List ℕ) → list_all (within_bits n) masks ≡ all_within_bits n masks
+unfolding all_within_bits
+masks_list n [] = refl
+masks_list n (m ∷ ms) = ap (λ (t : Bool). within_bits n m && t) (masks_list n ms)
 
-    pub masks_good : within_bits n (get_or masks i 0) ≡ true → all_within_bits n (drop i masks) ≡ all_within_bits n (drop (i + 1) masks)
-    unfolding all_within_bits
-    masks_good e = rw (add-one i, drop-cons masks i 0 h, e)
-
-  pub masks_end : length masks ≤ i → all_within_bits n (drop i masks) ≡ true
-  unfolding all_within_bits
-  masks_end h = rw (drop_of_length-le masks {i = i} h)
+-- what is true exactly where each mask fits
+pub masks_all : (n : ℕ) (b : Bool) (masks : List ℕ) → IsTrue b ↔ AllPass (within_bits n) masks → b ≡ all_within_bits n masks
+masks_all n b masks e =
+    both_ways b (list_all (within_bits n) masks) (λ h. list_all-from_AllPass (within_bits n) masks (e.0 h)) (λ h. e.1 (AllPass-from_list_all (within_bits n) masks h))
+    ∙ masks_list n masks
 
 -- ---- a row
 

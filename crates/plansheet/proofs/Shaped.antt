@@ -31,7 +31,6 @@ use Rattle.refusals.specs.declared.Refusal.TheVariants.{WrongLine, UndefinedCode
 use Rattle.linekinds.proofs.ReadLines.{row_values_lem}
 use Rattle.plansheet.specs.Shapes.{Shape, plain_shape, over_any, fixed_line, coming_line, tree_line, exchange_limited, rule_fits, most_children}
 use Rattle.plansheet.specs.ReadRows.{bound_of, Bounded, shape_of, misfit_number, shape_number, masks_number, tree_number, value_at, state_at, fields_row}
-use Rattle.plansheet.specs.PlanLines.{two_to, mask_line}
 use Rattle.plansheet.specs.PlanSheets.{operator_row}
 
 -- ---- of fields that are within their bounds
@@ -263,47 +262,6 @@ plain_fits (suc n) (f ∷ fs) =
 or_none : (a : Bool) → a || false ≡ a
 or_none true = refl
 or_none false = refl
-
-masks_codes : (n seen next : ℕ) (fs : List Field) → codes_number (mask_line n) seen next fs ≡ cond (ltb most_bytes next) 3 0
-unfolding over_any
-masks_codes n seen next fs = rw (or_none (ltb most_bytes next))
-
-pub masks_line :
-    (n seen next : ℕ) (fs : List Field) →
-    line_number (mask_line n) seen next (some fs) ≡ masks_number (two_to n) (length fs) (greatest 0 (map state_of fs)) (greatest 0 (map value_of fs)) next
-masks_line n seen next fs =
-    number_fixed (mask_line n) refl fs seen next ∙ rw (plain_fits (two_to n) fs, all_largest plain fs, masks_codes n seen next fs)
-
-module _ (sets count worst largest next : ℕ) where
-  abbrev M : ℕ
-  M = masks_number sets count worst largest next
-
-  pub masks_count : (count ≡ sets → ⊥) → 2 ≡ M
-  masks_count h = rw (ne_eqb count sets h)
-
-  module _ (a : count ≡ sets) where
-    module _ (b : worst ≤ 0) where
-      module _ (d : largest ≤ 65535) where
-        pub masks_fine : next ≤ most_bytes → 0 ≡ M
-        masks_fine h = rw (eq-eqb count sets a, le-leb worst 0 b, le-leb largest 65535 d, le-ltb most_bytes next h)
-
--- what `line_at` answered of a Y line
-module _ (n seen next : ℕ) (x : Option (List Field)) where
-  pub masks_wrong : None ≡ line_read next x → Refused WrongLine ≡ read_by (line_number (mask_line n) seen next x) next x
-  unfolding line_number
-  masks_wrong e = rw (wrong_none next x e)
-
-  module _ (f : Fields) (o : Opened next x f) (m sets : ℕ) (s : sets ≡ two_to n) (is : m ≡ masks_number sets f.count f.worst f.largest f.next) where
-    masks_is : line_number (mask_line n) seen next x ≡ m
-    masks_is =
-        ap (line_number (mask_line n) seen next) o.is ∙ masks_line n seen next o.fs
-        ∙ sym (is ∙ (λ i. masks_number (s i) (o.counts i) (o.states i) (o.values i) (o.goes i)))
-
-    pub masks_turned : (m ≡ 0 → ⊥) → Refused (refusal_of m) ≡ read_by (line_number (mask_line n) seen next x) next x
-    masks_turned h = rw (masks_is, ne_eqb m 0 h)
-
-    pub masks_read : m ≡ 0 → Line f.count f.next ≡ read_by (line_number (mask_line n) seen next x) next x
-    masks_read h = rw (masks_is, eq-eqb m 0 h, o.is) (λ i. Line (o.counts i) (o.goes i))
 
 -- ---- plain fields with codes
 

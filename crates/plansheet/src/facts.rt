@@ -1,5 +1,5 @@
 // Reads the F, X and Y lines of a D sheet into rows of numbers.
-ghost use Rattle.std.specs.Prelude.{◌≡◌, true, false, ℕ, ◌+◌, ◌≤◌, ◌<◌, length, get_or, set};
+ghost use Rattle.std.specs.Prelude.{◌≡◌, true, false, ℕ, ◌+◌, ◌≤◌, ◌<◌, length, get_or};
 ghost use Rattle.std.proofs.lemmas.List.Edits.{sets};
 ghost use Rattle.text.specs.Text.{line_at, after};
 ghost use Rattle.linekinds.specs.Lines.{line_number};
@@ -11,6 +11,7 @@ ghost use Rattle.plansheet.specs.PlainFacts.{FactFound, FactLeft};
 
 use crate::line::{child_line, fact_line};
 use crate::place::Place;
+use crate::rooms::put;
 use crate::tree::RowsRead;
 use exchange::fact::{ATHASH, CONST, FORD, FactRow, ORDER, WIDTH};
 use exchange::status::ChildRow;
@@ -27,15 +28,6 @@ fn numbers_of<const N: usize>(fields: &[[u64; 2]]) -> [u64; N]
     let mut row = [0; N];
     copy_values(fields, &mut row);
     row
-}
-
-// Stores a row where there is room.
-fn put_fact(rows: &mut [FactRow], i: usize, x: FactRow)
-    ensures { rows.new ≡ set rows.old i x }
-{
-    if i < rows.len() {
-        rows[i] = x;
-    }
 }
 
 // Each is 0 or 1.
@@ -73,7 +65,7 @@ fn judged_fact(s: &[u8], at: usize, n: usize, fields: &mut [[u64; 2]], rows: &mu
     let Read::Line { count, next } = r else {
         return r;
     };
-    put_fact(rows, n, numbers_of(&fields[..count]));
+    put(rows, n, numbers_of(&fields[..count]));
     Read::Line { count, next }
 }
 
@@ -118,11 +110,11 @@ pub fn read_children(
 {
     let mut p = place.at;
     let mut l = place.line;
-    for n in 0..children {
+    for row in &mut rows[..children] {
         // A `match`: `Read` is no `Result` (document 01 names it), and its refusal goes on with the number of the line.
         match child_line(place.s, p, &mut *fields) {
             Read::Line { count, next } => {
-                rows[n] = numbers_of(&fields[..count]);
+                *row = numbers_of(&fields[..count]);
                 p = next;
             }
             Read::Refused(refusal) => return Err(refusal.on_line(l)),
@@ -149,7 +141,8 @@ pub fn read_facts(
     let mut p = place.at;
     let mut l = place.line;
     let mut n: usize = 0;
-    // Ends at the line that is no X line: nothing says beforehand how many there are.
+    // Ends at the line that is no X line: nothing says beforehand how many there are. Rows are counted by a usize and lines by a u64, and no
+    // From goes between them, so that both are counted.
     loop {
         match read_fact(place.s, p, n, &mut *fields, &mut *rows) {
             Read::Line { next, .. } => p = next,

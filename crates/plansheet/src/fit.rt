@@ -30,12 +30,7 @@ fn within_bits(n: u64, mask: u64) -> bool
 pub fn masks_fit(n: u64, masks: &[u64]) -> bool
     ensures { result ≡ all_within_bits n masks.now }
 {
-    for mask in masks {
-        if !within_bits(n, *mask) {
-            return false;
-        }
-    }
-    true
+    masks.iter().all(|mask| within_bits(n, *mask))
 }
 
 // The count of a row by what is topmost in its form; of a child as it stands, its own count and order.

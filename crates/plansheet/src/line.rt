@@ -13,6 +13,7 @@ ghost use Rattle.plansheet.specs.ReadRows.{masks_number};
 
 use crate::description::LineShape;
 use crate::shape::{over_any, shaped_line};
+use exchange::fact;
 use exchange::status::{ROWS, WIDTH};
 use linekinds::line::Read;
 use linekinds::plain::{MOST_BYTES, PLAIN};
@@ -23,8 +24,8 @@ use text::line::{Fields, line_at};
 // No code and no size is asked: no number is larger.
 pub const ANY: u64 = LONG;
 
-// How many sets n children have. That there are at most eight stays a condition, here and below: a struct for one number would be no
-// plainer.
+// How many sets n children have. That there are at most eight stays a condition, here and in `lines`: the number comes out of a tree's row,
+// counts lines and cuts rooms, and stands in `Plan` as a number, so that a struct would be opened by each of its readers.
 pub fn sets_of(n: usize) -> usize
     requires { n ≤ 8 }
     ensures { result ≡ two_to n }
@@ -133,7 +134,7 @@ pub fn fact_line(s: &[u8], at: usize, fields: &mut [[u64; 2]]) -> Read
     ensures stored { fields.new ≡ stored_in fields.old (line_fields 88 (line (drop at s.now))) }
 {
     let codes = [ANY, ANY, ANY, ANY, 1, 1, 1, 1, 1, ANY, 1, 1];
-    plain_line(s, at, b'X', 13, &codes, fields)
+    plain_line(s, at, b'X', fact::WIDTH, &codes, fields)
 }
 
 // The Y line of a worked node with n children.
@@ -142,15 +143,5 @@ pub fn mask_line(s: &[u8], at: usize, n: usize, fields: &mut [[u64; 2]]) -> Read
     ensures answer { (seen : ℕ) → result ≡ read_by (line_number (mask_line n) seen (after s.now at) (line_at 89 s.now at)) (after s.now at) (line_at 89 s.now at) }
     ensures stored { fields.new ≡ stored_in fields.old (line_fields 89 (line (drop at s.now))) }
 {
-    let sets = sets_of(n);
-    let Some(f) = line_at(s, at, b'Y', fields) else {
-        return Read::Refused(Refusal::WrongLine);
-    };
-    if let Err(refusal) = judge_masks(sets, f) {
-        return Read::Refused(refusal);
-    }
-    Read::Line {
-        count: f.count,
-        next: f.next,
-    }
+    plain_line(s, at, b'Y', sets_of(n), &[], fields)
 }

@@ -94,7 +94,7 @@ pub fn read_tree_lines(
     }
 }
 
-// The Y line at a place, and nothing after it. That there are at most eight children stays a condition: a struct for one number would be no plainer.
+// The Y line at a place, and nothing after it. That there are at most eight children stays a condition, here and below, as in `line`.
 fn read_masks(
     place: Place,
     children: usize,
@@ -157,7 +157,7 @@ pub fn read_fact_lines(
     ensures answer { result ≡ facts_by (read_facts children place.entry.line place.entry.at (parts 10 (drop place.entry.at place.entry.s.now))) }
     ensures held { (g : FactLines) → read_facts children place.entry.line place.entry.at (parts 10 (drop place.entry.at place.entry.s.now)) ≡ sheet g → FactsHeld children g lent.old.node.now lent.new.node.now lent.old.facts.now lent.new.facts.now lent.old.xs.now lent.new.xs.now lent.old.masks.now lent.new.masks.now }
     ensures sizes { SameSizes lent.old lent.new }
-    ensures kept { (lent.old.head.now ≡ lent.new.head.now) × (lent.old.rows.now ≡ lent.new.rows.now) }
+    ensures kept { (lent.old.head.now ≡ lent.new.head.now) × (lent.old.rows.now ≡ lent.new.rows.now) × (lent.old.index.now ≡ lent.new.index.now) }
 {
     match node_line(place.s, place.at, &mut *lent.fields) {
         Read::Line { count, next } => {

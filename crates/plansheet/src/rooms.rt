@@ -1,5 +1,5 @@
 // The rooms lent for a sheet, and what its lines left in them.
-ghost use Rattle.std.specs.Prelude.{◌≡◌, ◌≤◌, length};
+ghost use Rattle.std.specs.Prelude.{◌≡◌, ◌≤◌, length, set};
 ghost use Rattle.plansheet.specs.PlanRooms.{Suffices};
 
 use exchange::fact::FactRow;
@@ -24,6 +24,8 @@ pub struct SheetRooms<'a> {
 }
 
 // The tree's rows in front and how many there are, the worked node's place, its children, and the F rows, X rows and masks in front; of the X rows, which may be more than there is room for, how many there are.
+// Of the F rows the first `children` count, and of the masks two to that many: `PlanRooms` speaks of the rooms as they are lent, so that they
+// are cut where they are judged.
 #[derive(Clone, Copy)]
 pub struct LinesRead<'a> {
     pub rows: &'a [Row],
@@ -37,4 +39,13 @@ pub struct LinesRead<'a> {
     pub ghost eight: { 8 ≤ length facts.now },
     pub ghost roomy: { Suffices count (length xs.now) },
     pub ghost masked: { 256 ≤ length masks.now },
+}
+
+// Stores a row where there is room.
+pub(crate) fn put<T: Copy>(rows: &mut [T], i: usize, x: T)
+    ensures { rows.new ≡ set rows.old i x }
+{
+    if i < rows.len() {
+        rows[i] = x;
+    }
 }

@@ -19,6 +19,7 @@ use text::bounds::{Misfit, fixed_at};
 pub fn over_any(largest: &[u64], fields: &[[u64; 2]]) -> bool
     ensures { result ≡ over_any largest.now (row_values fields.now) }
 {
+    // A loop, as in `text::bounds`: no law of std says what `any` finds over two slices side by side.
     for (most, field) in largest.iter().zip(fields) {
         if *most < field[1] {
             return true;
@@ -45,7 +46,7 @@ pub fn judge_shape(
     Ok(())
 }
 
-// Why a line is turned back whose fields are not within their bounds, or that is none of the letter.
+// Why a line is turned back whose fields are not within their bounds, or that is none of the letter. No From: both types are of other crates.
 pub fn misfit_refusal(m: Misfit) -> Refusal
     ensures { result ≡ refusal_of (misfit_number m) }
 {

@@ -1,5 +1,5 @@
 // Reads the lines of one tree: the line's description, the rule of kinds and children, the most lines, the place and the line's number are given.
-ghost use Rattle.std.specs.Prelude.{◌≡◌, cond, ◌+◌, ◌≤◌, ◌<◌, eqb, length, drop, set};
+ghost use Rattle.std.specs.Prelude.{◌≡◌, cond, ◌+◌, ◌≤◌, ◌<◌, eqb, length, drop};
 ghost use Rattle.refusals.specs.Refusals.{judged_by};
 ghost use Rattle.text.specs.Text.{line, line_fields, line_at, after};
 ghost use Rattle.text.specs.Read.{stored_in};
@@ -14,6 +14,7 @@ ghost use Rattle.plansheet.specs.ReadRows.{tree_number, fields_row, rows_by, Lef
 use crate::description::TreeShape;
 use crate::operator::{MOST_CHILDREN, operator_read, quick_rows, rule_fits};
 use crate::place::Place;
+use crate::rooms::put;
 use crate::shape::{judge_shape, misfit_refusal};
 use exchange::kind::{REPARTITION, REPARTITION_UNKNOWN};
 use exchange::row::{CHILDREN, Row};
@@ -39,10 +40,7 @@ fn judge_tree(h: TreeShape, seen: usize, next: usize, fields: &[[u64; 2]]) -> Re
     if exchange_limited(kind, fields[3][0]) {
         return Err(Refusal::MalformedField);
     }
-    if h.most <= seen {
-        return Err(Refusal::BeyondSize);
-    }
-    if MOST_CHILDREN < children {
+    if h.most <= seen || MOST_CHILDREN < children {
         return Err(Refusal::BeyondSize);
     }
     judge_shape(h.line.sizes, h.line.codes, next, fields)?;
@@ -57,7 +55,7 @@ fn judge_tree(h: TreeShape, seen: usize, next: usize, fields: &[[u64; 2]]) -> Re
 }
 
 // The tree line at a place, before which there are `seen`; its fields go into the rows lent.
-// That there is room for its fields stays a condition: a struct of description and room would be taken apart in each function.
+// That there is room for its fields stays a condition, here and below: a struct of description and room would be taken apart in each function.
 fn tree_line(s: &[u8], at: usize, seen: usize, h: TreeShape, fields: &mut [[u64; 2]]) -> Read
     requires { length h.line.bounds.now ≤ length fields.old }
     ensures answer { result ≡ read_by (line_number (tree_by h.entry) seen (after s.now at) (line_at h.entry.line.letter s.now at)) (after s.now at) (line_at h.entry.line.letter s.now at) }
@@ -97,15 +95,6 @@ fn operator_row(fields: &[[u64; 2]], id: u64) -> Row
     ]
 }
 
-// Stores a row where there is room.
-fn put_row(rows: &mut [Row], i: usize, x: Row)
-    ensures { rows.new ≡ set rows.old i x }
-{
-    if i < rows.len() {
-        rows[i] = x;
-    }
-}
-
 // How many children a row has, and the place after its line.
 #[derive(Clone, Copy)]
 pub struct TreeRow {
@@ -130,7 +119,7 @@ fn judged_row(
         Read::Line { count, next } => {
             // No From goes from usize to u64.
             let row = operator_row(&fields[..count], seen as u64 + 1);
-            put_row(rows, seen, row);
+            put(rows, seen, row);
             Ok(TreeRow {
                 children: row[CHILDREN],
                 next,
@@ -189,7 +178,7 @@ pub fn read_tree(
     let mut l = place.line;
     let mut n: usize = 0;
     let mut owed: u64 = 1;
-    // No `for`: the lines say themselves how many are still to come.
+    // No `for`: the lines say themselves how many are still to come. Rows and lines are both counted, as in `facts`.
     while owed != 0 {
         let here = Place {
             s: place.s,

@@ -29,13 +29,14 @@ fn read_lists(
     ensures kept { HeadKept lists.old counts.old lists.new counts.new }
 {
     let mut next = at;
-    let mut line: u64 = 2;
     for i in 1..n {
+        // No From goes from usize to u64.
+        let line = i as u64 + 1;
         let packed = read_list(s, next, k, i, rows, &mut lists[i]).map_err(|r| r.on_line(line))?;
         counts[i] = packed.count;
         next = packed.next;
-        line += 1;
     }
+    let line = n as u64 + 1;
     Ok(LinesRead { next, line })
 }
 
@@ -51,7 +52,8 @@ fn line_count(k: SheetKind, children: u64) -> usize
     }
 }
 
-// All lines of a sheet, and nothing after them: line i goes into list i. The first is no list.
+// All lines of a sheet, and nothing after them: line i goes into list i. The first is no list. That there is room for the kind's most lines is
+// asked here and in `sheets` by two numbers: no array has so many, since there are 17 of a K sheet and 8 of an I sheet.
 pub fn read_whole(
     s: &[u8],
     k: SheetKind,

@@ -26,6 +26,7 @@ pub fn rows_fit(bounds: &[[u64; 2]], rows: &[[u64; 2]]) -> bool
     if rows.len() != bounds.len() {
         return false;
     }
+    // A loop: no law of std says what `all` finds over two slices side by side.
     for (bound, row) in bounds.iter().zip(rows) {
         if bound[0] < row[0] || bound[1] < row[1] {
             return false;
@@ -49,10 +50,7 @@ pub fn fixed_at(
     let Some(Fields { count, next, .. }) = line_at(s, at, letter, out) else {
         return Err(Misfit::Wrong);
     };
-    if count != bounds.len() {
-        return Err(Misfit::Unfit);
-    }
-    if !rows_fit(bounds, &out[..count]) {
+    if count != bounds.len() || !rows_fit(bounds, &out[..count]) {
         return Err(Misfit::Unfit);
     }
     Ok(Judged { count, next })

@@ -22,11 +22,7 @@ impl Field {
     pub fn of_row(row: &[u64; 2]) -> Field
         ensures { result ≡ row_field row.now }
     {
-        match row[0] {
-            0 => Field::Number(row[1]),
-            1 => Field::Empty,
-            _ => Field::Malformed,
-        }
+        Field::from(row)
     }
 
     // The state of its row: 0 a number, 1 empty, 2 malformed.
@@ -48,6 +44,18 @@ impl Field {
             Field::Number(n) => n,
             Field::Empty => 0,
             Field::Malformed => 0,
+        }
+    }
+}
+
+impl From<&[u64; 2]> for Field {
+    ghost from_gives = { λ row r. r ≡ row_field row.now };
+
+    fn from(row: &[u64; 2]) -> Field {
+        match row[0] {
+            0 => Field::Number(row[1]),
+            1 => Field::Empty,
+            _ => Field::Malformed,
         }
     }
 }

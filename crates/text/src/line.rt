@@ -74,13 +74,7 @@ pub fn line_at(s: &[u8], at: usize, letter: u8, out: &mut [[u64; 2]]) -> Option<
     ensures answer { result ≡ line_read (after s.now at) (line_at letter s.now at) }
     ensures stored { out.new ≡ stored_in out.old (line_fields letter (line (drop at s.now))) }
 {
-    if s.len() <= at {
-        return None;
-    }
-    if s[at] == b'\n' {
-        return None;
-    }
-    if s[at] != letter {
+    if s.len() <= at || s[at] == b'\n' || s[at] != letter {
         return None;
     }
     let p = at + 1;

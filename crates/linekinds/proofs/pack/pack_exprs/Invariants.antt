@@ -6,6 +6,7 @@ use lib.ListN.{length, take, drop}
 use Rattle.linekinds.proofs.Packing.{packed_behind}
 use Rattle.linekinds.proofs.pack.pack_exprs.Given as goal
 
-abbrev pub invariant-loop-kind : goal.invariant-loop-kind
-invariant-loop-kind l =
-    (length l.out ≡ 64) × (l.n ≡ l.from + l.kind-index) × (take l.n l.out ++ drop l.n (packed_behind l.from l.initial.out l.kind-items) ≡ packed_behind l.from l.initial.out l.kind-items)
+abbrev pub invariant-loop-i : goal.invariant-loop-i
+invariant-loop-i l =
+    let n = l.from + l.i in
+    (length l.out ≡ 64) × (take n l.out ++ drop n (packed_behind l.from l.initial.out l.entries) ≡ packed_behind l.from l.initial.out l.entries)

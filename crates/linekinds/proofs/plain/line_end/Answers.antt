@@ -7,9 +7,6 @@ use Rattle.linekinds.proofs.plain.line_end.Goals as goal
 pub returns-then-not-stands : goal.returns-then-not-stands
 returns-then-not-stands c = tt
 
-pub returns-then-at-ge-MOST_BYTES : goal.returns-then-at-ge-MOST_BYTES
-returns-then-at-ge-MOST_BYTES c = tt
-
 pub returns : goal.returns
 returns c =
     let lf : StandsAt c.args.s.now c.args.at 10 = c.stands.ensures.0 c.if-not-stands.false in

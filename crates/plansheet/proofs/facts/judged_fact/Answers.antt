@@ -34,4 +34,4 @@ pub returns-clause-stored : goal.returns-clause-stored
 returns-clause-stored c =
     let a = c.args in let r = c.fact_line-r in
     let t = single fact_line refl 0 a.s.now a.at _ _ a.fields.now _ (sym c.in-Line.is ∙ r.ensures.answer 0) r.ensures.stored (omega (arith, c.requires)) in
-    c.put_fact.ensures ∙ ap (set a.rows.now a.n) (c.numbers_of.ensures ∙ t.vals ∙ ap (λ (x : Option (List Field)). values (fields_of x)) (sym t.took.is))
+    c.put.ensures ∙ ap (set a.rows.now a.n) (c.numbers_of.ensures ∙ t.vals ∙ ap (λ (x : Option (List Field)). values (fields_of x)) (sym t.took.is))

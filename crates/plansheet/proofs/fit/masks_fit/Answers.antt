@@ -1,13 +1,12 @@
--- `fit::masks_fit` meets its contract: the masks from the place on fit exactly where all do (`Fitting`).
-use mathlib.Core.Path.{sym, ◌∙◌}
-use Rattle.plansheet.proofs.Fitting.{masks_bad, masks_good, masks_end}
+-- `fit::masks_fit` meets its contract: that each mask fits is what is asked of all (`Fitting`).
+use Rattle.std.proofs.Common.{arith}
+use Rattle.std.specs.Prelude.{◌↔◌, IsTrue}
+use Rattle.std.specs.List.{AllPass}
+use Rattle.std.proofs.lemmas.Grind.{common_steps}
+use Rattle.std.proofs.lemmas.Bool.Decides.{nat_tests}
+use Rattle.exchange.specs.Fit.{within_bits}
+use Rattle.plansheet.proofs.Fitting.{masks_all}
 use Rattle.plansheet.proofs.fit.masks_fit.Goals as goal
 
-pub returns-then-not-within_bits : goal.returns-then-not-within_bits
-returns-then-not-within_bits c = let l = c.loop-mask in let a = c.args in sym (l.invariant ∙ masks_bad a.n a.masks.now l.mask-index c.loop-mask-test.true (sym c.within_bits.ensures ∙ c.if-not-within_bits.true))
-
-pub loop-mask-preserved : goal.loop-mask-preserved
-loop-mask-preserved c = let l = c.loop-mask in let a = c.args in l.invariant ∙ masks_good a.n a.masks.now l.mask-index c.loop-mask-test.true (sym c.within_bits.ensures ∙ c.if-not-within_bits.false)
-
 pub returns : goal.returns
-returns c = let l = c.loop-mask in let a = c.args in sym (l.invariant ∙ masks_end a.n a.masks.now l.mask-index c.loop-mask-test.false)
+returns c = let e : IsTrue c.all.result ↔ AllPass (within_bits c.args.n) c.args.masks.now = grind (arith, common_steps, nat_tests) in masks_all _ _ _ e

@@ -8,15 +8,18 @@ use Rattle.refusals.proofs.Judging.{judged_ok, judged_err}
 use Rattle.plansheet.specs.ReadRows.{shape_number}
 use Rattle.plansheet.proofs.Shaped.{tree_limited, tree_most, tree_wide, tree_shape, tree_kind, tree_fit, tree_unfit}
 use Rattle.plansheet.proofs.tree.judge_tree.Goals as goal
+use Rattle.plansheet.proofs.tree.judge_tree.Goals.{then-h-seen-via-then-h-seen, then-h-seen-via-else-h-seen+then-children-gt-MOST_CHILDREN}
 
 pub returns-then-exchange_limited : goal.returns-then-exchange_limited
 returns-then-exchange_limited c = let a = c.args in ap judged_by (tree_limited a.h.line.sizes.now a.h.line.codes.now a.h.rules.now a.h.most a.seen a.next a.fields.now (sym c.exchange_limited.ensures ∙ c.if-exchange_limited.true))
 
 pub returns-then-h-seen : goal.returns-then-h-seen
-returns-then-h-seen c = let a = c.args in ap judged_by (tree_most a.h.line.sizes.now a.h.line.codes.now a.h.rules.now a.h.most a.seen a.next a.fields.now (sym c.exchange_limited.ensures ∙ c.if-exchange_limited.false) c.if-h-seen.true)
-
-pub returns-then-children-gt-MOST_CHILDREN : goal.returns-then-children-gt-MOST_CHILDREN
-returns-then-children-gt-MOST_CHILDREN c = let a = c.args in ap judged_by (tree_wide a.h.line.sizes.now a.h.line.codes.now a.h.rules.now a.h.most a.seen a.next a.fields.now (sym c.exchange_limited.ensures ∙ c.if-exchange_limited.false) c.if-h-seen.false c.if-children-gt-MOST_CHILDREN.true)
+returns-then-h-seen c =
+    let a = c.args in
+    elim c.then-h-seen.branch [
+      | then-h-seen-via-then-h-seen w ↦ ap judged_by (tree_most a.h.line.sizes.now a.h.line.codes.now a.h.rules.now a.h.most a.seen a.next a.fields.now (sym c.exchange_limited.ensures ∙ c.if-exchange_limited.false) w.if-h-seen.true)
+      | then-h-seen-via-else-h-seen+then-children-gt-MOST_CHILDREN w ↦ ap judged_by (tree_wide a.h.line.sizes.now a.h.line.codes.now a.h.rules.now a.h.most a.seen a.next a.fields.now (sym c.exchange_limited.ensures ∙ c.if-exchange_limited.false) w.if-h-seen.false w.if-children-gt-MOST_CHILDREN.true)
+    ]
 
 pub returns-in_err-judge_shape : goal.returns-in_err-judge_shape
 returns-in_err-judge_shape c =

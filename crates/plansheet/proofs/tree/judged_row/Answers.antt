@@ -58,4 +58,4 @@ returns-in-Line-clause-stored c =
     let t = single k refl a.seen a.s.now a.at _ _ a.fields.now _ (sym c.in-Line.is ∙ r.ensures.answer) r.ensures.stored (omega (arith, c.requires, length-map a.h.line.bounds.now bound_of)) in
     let row_is : c.operator_row-row.result ≡ operator_row (a.seen + 1) (fields_of (line_at k.letter a.s.now a.at)) =
     c.operator_row-row.ensures ∙ ap (fields_row (a.seen + 1)) t.rows ∙ fields_row_lem (a.seen + 1) t.took.fs ∙ ap (λ (x : Option (List Field)). operator_row (a.seen + 1) (fields_of x)) (sym t.took.is) in
-    λ z. c.put_row.ensures ∙ ap (set a.rows.now a.seen) row_is
+    λ z. c.put.ensures ∙ ap (set a.rows.now a.seen) row_is
