@@ -63,13 +63,13 @@ pub fn follow(sheet: HeldJoin<'_>) -> Attempt
         mode: head[1],
         left: sheet.list(1),
         right: sheet.list(2),
+        left_rewriting: rule_rows(sheet.list(6)),
+        right_rewriting: rule_rows(sheet.list(7)),
         left_input: Input {
             list: sheet.list(4),
-            rewriting: rule_rows(sheet.list(6)),
         },
         right_input: Input {
             list: sheet.list(5),
-            rewriting: rule_rows(sheet.list(7)),
         },
     })
 }
