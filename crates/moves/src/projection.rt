@@ -32,7 +32,17 @@ fn names_from(first: usize, a: &[u64], out: &mut [u64; 128], at: usize) -> usize
     at + 2 * a.len()
 }
 
-// The group names at their places, and the aggregate names after them, in the front of the room lent, and how many numbers; only an aggregate that acts has a projection.
+// The group names at their places, and the aggregate names after them, in the front of the room lent, and how many numbers.
+pub fn projected(places: &[u8], o: &[u64], a: &[u64], out: &mut [u64; 128]) -> usize
+    requires { (length o.now ≤ 32) × (length a.now ≤ 32) }
+    ensures few { result ≤ 128 }
+    ensures names { take result out.new ≡ projected_numbers (placed_names o.now places.now ++ names_from (length o.now) a.now) }
+{
+    let at = placed_names(o, places, &mut *out);
+    names_from(o.len(), a, out, at)
+}
+
+// The same of an outcome; only an aggregate that acts has a projection.
 pub fn projected_by(outcome: &Outcome, o: &[u64], a: &[u64], out: &mut [u64; 128]) -> usize
     requires { (length o.now ≤ 32) × (length a.now ≤ 32) }
     ensures few { result ≤ 128 }
@@ -41,6 +51,5 @@ pub fn projected_by(outcome: &Outcome, o: &[u64], a: &[u64], out: &mut [u64; 128
     let Outcome::Regrouped { places, .. } = outcome else {
         return 0;
     };
-    let at = placed_names(o, places.positions().list, &mut *out);
-    names_from(o.len(), a, out, at)
+    projected(places.positions().list, o, a, out)
 }
