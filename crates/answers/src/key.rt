@@ -42,11 +42,8 @@ fn text_fits(roomy: bool, room: usize, a: &KeyAnswer<'_>) -> bool
     requires { roomy ≡ true → length (whole_text a.now.lists a.now.children a.now.sheet.held) ≤ room }
     ensures { result ≡ leb (length (whole_text a.now.lists a.now.children a.now.sheet.held)) room }
 {
-    if roomy {
-        return true;
-    }
     let n = child_count(a.sheet.list(HeldKey::HEAD));
-    key_lists_length(&a.lists) + children_length(a.children, a.sheet.held, n) <= room
+    roomy || key_lists_length(&a.lists) + children_length(a.children, a.sheet.held, n) <= room
 }
 
 // The lists and the children's lists, where there is room for them; else refusal 12. Apart from `write_join`: it writes other lists, in another order.

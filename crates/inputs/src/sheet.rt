@@ -38,9 +38,9 @@ impl<'a> Input<'a> {
     pub fn keys(self) -> &'a [u64]
         ensures { PartOf self.entry.list (mark_length self.entry.list.now) (length self.entry.list.now) result }
     {
-        if self.list.is_empty() {
-            return self.list;
+        match self.list {
+            [] => self.list,
+            [_, keys @ ..] => keys,
         }
-        &self.list[1..]
     }
 }

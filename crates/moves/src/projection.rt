@@ -6,17 +6,16 @@ ghost use Rattle.sheet.specs.KeyAnswers.{projected_numbers};
 
 use keys::answer::Outcome;
 
-// The group names at their places; by index, since both places of a pair are written.
+// The group names at their places.
 fn placed_names(o: &[u64], places: &[u8], out: &mut [u64; 128]) -> usize
     requires { length o.now ≤ 32 }
     ensures { (result ≤ 64) × (take result out.new ≡ projected_numbers (placed_names o.now places.now)) }
 {
-    let n = o.len().min(places.len());
-    for i in 0..n {
-        out[2 * i] = o[i];
-        out[2 * i + 1] = u64::from(places[i]);
+    for (i, (&name, &place)) in o.iter().zip(places).enumerate() {
+        out[2 * i] = name;
+        out[2 * i + 1] = u64::from(place);
     }
-    2 * n
+    2 * o.len().min(places.len())
 }
 
 // The names at the places from the first on, from a place of the output on.
