@@ -13,7 +13,7 @@ use keys::inputs::Attempt;
 use lines::join_text::{JoinLists, join_lists_length, put_join_lists};
 use moves::chosen::followed_or;
 use moves::decide::follow;
-use moves::held::HeldJoin;
+use moves::held_join::HeldJoin;
 use moves::moved::{MovedPairs, PairRooms, pairs_at};
 use refusals::{Refusal, Refused};
 use sheet::held::Lists;
@@ -47,9 +47,9 @@ fn chosen<'a>(sheet: HeldJoin<'a>, o: &Attempt, moved: MovedPairs<'a>) -> JoinLi
         report: o.report(),
         followed: o.followed(),
         positions: moved.positions,
-        left: followed_or(o, moved.left, sheet.list(1)),
-        right: followed_or(o, moved.right, sheet.list(2)),
-        directions: followed_or(o, moved.directions, sheet.list(3)),
+        left: followed_or(o, moved.left, sheet.list(HeldJoin::LEFT)),
+        right: followed_or(o, moved.right, sheet.list(HeldJoin::RIGHT)),
+        directions: followed_or(o, moved.directions, sheet.list(HeldJoin::DIRECTIONS)),
     }
 }
 
@@ -69,7 +69,13 @@ fn answer_attempt(
         return write_join(roomy, &lists, out);
     }
     let mut rooms = PairRooms::EMPTY;
-    let moved = pairs_at(sheet.list(1), sheet.list(2), sheet.list(3), at, &mut rooms);
+    let moved = pairs_at(
+        sheet.list(HeldJoin::LEFT),
+        sheet.list(HeldJoin::RIGHT),
+        sheet.list(HeldJoin::DIRECTIONS),
+        at,
+        &mut rooms,
+    );
     let lists = chosen(sheet, o, moved);
     write_join(roomy, &lists, out)
 }

@@ -14,7 +14,7 @@ use lines::children::{Children, children_length, put_children};
 use lines::key_text::{KeyLists, key_lists_length, put_key_lists};
 use moves::chosen::{cleared_or, handed_list, moved_or, shifted_keys};
 use moves::decide::adjust;
-use moves::held::HeldKey;
+use moves::held_key::HeldKey;
 use moves::moved::{MovedPairs, PairRooms, pairs_at};
 use moves::projection::projected_by;
 use refusals::{Refusal, Refused};
@@ -34,7 +34,7 @@ fn child_count(h: &[u64]) -> usize
     requires { 7 ≤ length h.now }
     ensures { result ≡ get_or h.now 6 0 }
 {
-    h[6] as usize
+    h[HeldKey::CHILDREN] as usize
 }
 
 // Whether there is room for the lists and the children's lists; `roomy` says that there is for any answer, so that none is measured.
@@ -42,11 +42,8 @@ fn text_fits(roomy: bool, room: usize, a: &KeyAnswer<'_>) -> bool
     requires { roomy ≡ true → length (whole_text a.now.lists a.now.children a.now.sheet.held) ≤ room }
     ensures { result ≡ leb (length (whole_text a.now.lists a.now.children a.now.sheet.held)) room }
 {
-    if roomy {
-        return true;
-    }
-    let n = child_count(a.sheet.list(0));
-    key_lists_length(&a.lists) + children_length(a.children, a.sheet.held, n) <= room
+    let n = child_count(a.sheet.list(HeldKey::HEAD));
+    roomy || key_lists_length(&a.lists) + children_length(a.children, a.sheet.held, n) <= room
 }
 
 // The lists and the children's lists, where there is room for them; else refusal 12. Apart from `write_join`: it writes other lists, in another order.
@@ -57,7 +54,7 @@ fn write_key(roomy: bool, a: &KeyAnswer<'_>, out: &mut [u8]) -> Result<usize, Re
     if !text_fits(roomy, out.len(), a) {
         return Err(Refusal::OutputTooShort.on_line(0));
     }
-    let n = child_count(a.sheet.list(0));
+    let n = child_count(a.sheet.list(HeldKey::HEAD));
     let at = put_key_lists(&mut *out, &a.lists);
     Ok(put_children(out, at, a.children, a.sheet.held, n))
 }
@@ -75,9 +72,9 @@ fn chosen<'a>(
     ensures { whole_text result.lists result.children result.sheet.held ≡ key_answer_text (answer_of (held_key_sheet sheet.entry.held.lists.now sheet.entry.held.counts.now) x.now) }
 {
     let o = &x.outcome;
-    let required = sheet.list(1);
-    let mapped = sheet.list(8);
-    let columns = sheet.list(0)[3];
+    let required = sheet.list(HeldKey::REQUIRED);
+    let mapped = sheet.list(HeldKey::MAPPED);
+    let columns = sheet.list(HeldKey::HEAD)[HeldKey::COLUMNS];
     let n = shifted_keys(x.first, x.others, required, columns, &mut *shifts);
     let shifted = &shifts[..n];
     let lists = KeyLists {
@@ -85,9 +82,9 @@ fn chosen<'a>(
         report: o.report(),
         positions: moved.positions,
         required: cleared_or(x.cleared, required),
-        left: moved_or(o, moved.left, sheet.list(2)),
-        right: moved_or(o, moved.right, sheet.list(3)),
-        directions: moved_or(o, moved.directions, sheet.list(4)),
+        left: moved_or(o, moved.left, sheet.list(HeldKey::LEFT)),
+        right: moved_or(o, moved.right, sheet.list(HeldKey::RIGHT)),
+        directions: moved_or(o, moved.directions, sheet.list(HeldKey::DIRECTIONS)),
         projection,
     };
     let children = Children {
@@ -119,7 +116,12 @@ fn answer_pairs(
         return write_key(roomy, &answer, out);
     };
     let mut names = [0; 128];
-    let n = projected_by(&x.outcome, sheet.list(6), sheet.list(7), &mut names);
+    let n = projected_by(
+        &x.outcome,
+        sheet.list(HeldKey::GROUPS),
+        sheet.list(HeldKey::AGGREGATES),
+        &mut names,
+    );
     let answer = chosen(sheet, x, moved, &names[..n], &mut shifts);
     write_key(roomy, &answer, out)
 }
@@ -139,7 +141,13 @@ fn answer_adjusted(
         return answer_pairs(roomy, sheet, x, MovedPairs::NONE, out);
     }
     let mut rooms = PairRooms::EMPTY;
-    let moved = pairs_at(sheet.list(2), sheet.list(3), sheet.list(4), at, &mut rooms);
+    let moved = pairs_at(
+        sheet.list(HeldKey::LEFT),
+        sheet.list(HeldKey::RIGHT),
+        sheet.list(HeldKey::DIRECTIONS),
+        at,
+        &mut rooms,
+    );
     answer_pairs(roomy, sheet, x, moved, out)
 }
 

@@ -18,7 +18,7 @@ use text::write::{line_length, put_line};
 
 // A line that was found, with the place after it; all 0 where there is none.
 #[repr(C)]
-#[derive(Clone, Copy)]
+#[derive(Clone, Copy, Default)]
 pub struct Found {
     pub next: u64,
     pub count: u64,
@@ -32,12 +32,7 @@ pub extern "C" fn bench_line_at(s: &[u8], at: usize, letter: u8, out: &mut [[u64
     ensures stored { out.new ≡ stored_in out.old (line_fields letter (line (drop at s.now))) }
 {
     let Some(f) = line_at(s, at, letter, out) else {
-        return Found {
-            next: 0,
-            count: 0,
-            worst: 0,
-            largest: 0,
-        };
+        return Found::default();
     };
     // No From goes from usize to u64.
     Found {

@@ -7,4 +7,4 @@ use Rattle.inputs.specs.declared.sheet.Inputs.{Inputs}
 -- with the directions s, which no decision reads
 abbrev pub sheet_of : Inputs → List ℕ → JoinSheet
 sheet_of x s =
-    join_sheet x.op x.mode x.left.now x.right.now s x.left_input.list.now x.right_input.list.now x.left_input.rewriting.now x.right_input.rewriting.now
+    join_sheet x.op x.mode x.left.now x.right.now s x.left_input.list.now x.right_input.list.now x.left_rewriting.now x.right_rewriting.now

@@ -28,7 +28,7 @@ pub fn followed_keys<'a>(side: Option<Side>, left: Input<'a>, right: Input<'a>) 
 }
 
 // The report, the side and the positions, and the keys that were followed.
-pub fn reorder_join_keys_to_inputs<'a>(sheet: Inputs<'a>) -> Ordered<'a>
+pub fn reorder_join_keys_to_inputs<'a>(sheet: Inputs<'a, '_>) -> Ordered<'a>
     ensures handed { HandedBack (side_number (side_by result.attempt)) sheet.entry.left_input.list sheet.entry.right_input.list result.keys }
     ensures ordered { (s : List ℕ) → InputsOrdered (sheet_of sheet.entry s) (reorder_join_keys_to_inputs (sheet_of sheet.entry s) same_expr) sheet.entry.left.now (report_by result.attempt) (side_number (side_by result.attempt)) (positions_by result.attempt) result.keys.now }
 {

@@ -1,19 +1,21 @@
 // The numbers and lists of an I sheet that a decision reads.
 ghost use Rattle.std.specs.Prelude.{◌≡◌, ◌≤◌, length};
 
-// H or N: a mark and the keys after it, with the rewriting that they are tried under.
+// H or N: a mark and the keys after it.
 #[derive(Clone, Copy)]
 pub struct Input<'a> {
     pub list: &'a [u64],
-    pub rewriting: &'a [[u64; 2]],
 }
 
+// The inputs stand apart from the rest, since their keys are handed back. `op` and `mode` are the sheet's codes, which may be any number: `order_tried` reads them by From.
 #[derive(Clone, Copy)]
-pub struct Inputs<'a> {
+pub struct Inputs<'a, 'b> {
     pub op: u64,
     pub mode: u64,
-    pub left: &'a [u64],
-    pub right: &'a [u64],
+    pub left: &'b [u64],
+    pub right: &'b [u64],
+    pub left_rewriting: &'b [[u64; 2]],
+    pub right_rewriting: &'b [[u64; 2]],
     pub left_input: Input<'a>,
     pub right_input: Input<'a>,
     ghost few: { length left.now ≤ 32 },
@@ -36,9 +38,9 @@ impl<'a> Input<'a> {
     pub fn keys(self) -> &'a [u64]
         ensures { PartOf self.entry.list (mark_length self.entry.list.now) (length self.entry.list.now) result }
     {
-        if self.list.is_empty() {
-            return self.list;
+        match self.list {
+            [] => self.list,
+            [_, keys @ ..] => keys,
         }
-        &self.list[1..]
     }
 }

@@ -5,7 +5,7 @@ ghost use Rattle.keys.specs.Lists.{permute};
 use crate::expr::Expr;
 use crate::reorder::GONE;
 
-// An array and a count, as document 01 names it. Two structs, since no generic struct holds an array of its type parameter.
+// An array of thirty-two expressions and a count. Document 01 names this struct and what it holds, so it is one of its own, and no case of a generic one; `NumberList` is its sibling of bytes.
 #[derive(Clone, Copy)]
 pub struct KeyList {
     pub items: [Expr; 32],

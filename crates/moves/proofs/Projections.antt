@@ -1,8 +1,7 @@
 -- A turn of writing names with their places, two numbers to a name.
 -- Assumes nothing.
-use Prim.Native.Nat.{ℕ, zero, suc, ◌+◌, ◌*◌, ◌≤◌, ◌<◌, min}
+use Prim.Native.Nat.{ℕ, suc, ◌+◌, ◌*◌, ◌≤◌, ◌<◌}
 use mathlib.Core.Path.{◌≡◌, refl, ap}
-use mathlib.Core.Logic.{◌⊎◌, inl, inr}
 use mathlib.Core.List.{List, [], ◌∷◌, ◌++◌, append_assoc, append-nil}
 use native.Mathlib.Numerals.{add-one}
 use native.Mathlib.Omega.{arith}
@@ -23,29 +22,20 @@ no_places : (ns : List ℕ) → placed_names ns [] ≡ []
 no_places [] = refl
 no_places (n ∷ ns) = refl
 
-shorter : (a b : ℕ) → (a ≤ b) ⊎ (b ≤ a)
-shorter zero b = inl (omega arith)
-shorter (suc a) zero = inr (omega arith)
-shorter (suc a) (suc b) = elim (shorter a b) [ inl h ↦ inl (omega arith) | inr h ↦ inr (omega arith) ]
-
--- names and their places, each in a list of its own
-module _ (o places out all : List ℕ) (i : ℕ) (so : take (2 * i) out ++ projected_numbers (placed_names (drop i o) (drop i places)) ≡ all) where
+-- names and their places, each in a list of its own: what is left of either
+module _ (out all : List ℕ) (i : ℕ) where
   pub placed_turn :
-      i < length o → i < length places → 2 * i + 1 < length out →
-      take (2 * (i + 1)) (set (set out (2 * i) (get_or o i 0)) (2 * i + 1) (get_or places i 0)) ++ projected_numbers (placed_names (drop (i + 1) o) (drop (i + 1) places))
-      ≡ all
-  placed_turn h k r =
-      let e : 2 * (i + 1) ≡ 2 * i + 1 + 1 = omega arith in
-      rw (e, add-one i) (pair_turn out (2 * i) (get_or o i 0) (get_or places i 0) _ all (rw (drop-cons o i 0 h, drop-cons places i 0 k) at so) r)
+      (x p : ℕ) (xs ps : List ℕ) → take (2 * i) out ++ projected_numbers (placed_names (x ∷ xs) (p ∷ ps)) ≡ all → 2 * i + 1 < length out →
+      take (2 * (i + 1)) (set (set out (2 * i) x) (2 * i + 1) p) ++ projected_numbers (placed_names xs ps) ≡ all
+  placed_turn x p xs ps so r = let e : 2 * (i + 1) ≡ 2 * i + 1 + 1 = omega arith in rw e (pair_turn out (2 * i) x p _ all so r)
 
-  names_over : length o ≤ i → take (2 * i) out ≡ all
-  names_over h = rw (drop_of_length-le o h, append-nil) at so
+  pub names_over : (ns ps : List ℕ) → length ns ≡ 0 → take (2 * i) out ++ projected_numbers (placed_names ns ps) ≡ all → take (2 * i) out ≡ all
+  names_over [] ps h so = rw append-nil at so
+  names_over (n ∷ ns) ps h so = absurd (omega arith)
 
-  places_over : length places ≤ i → take (2 * i) out ≡ all
-  places_over h = rw (drop_of_length-le places h, no_places (drop i o), append-nil) at so
-
-  pub over : i ≡ min (length o) (length places) → take (2 * i) out ≡ all
-  over e = elim (shorter (length o) (length places)) [ inl h ↦ names_over (omega arith) | inr h ↦ places_over (omega arith) ]
+  pub places_over : (ns ps : List ℕ) → length ps ≡ 0 → take (2 * i) out ++ projected_numbers (placed_names ns ps) ≡ all → take (2 * i) out ≡ all
+  places_over ns [] h so = rw (no_places ns, append-nil) at so
+  places_over ns (p ∷ ps) h so = absurd (omega arith)
 
 -- names at the places from the first on
 module _ (first : ℕ) (a out all : List ℕ) (n i : ℕ) (so : take n out ++ projected_numbers (names_from (first + i) (drop i a)) ≡ all) where

@@ -75,7 +75,7 @@ pub fn shifted_keys(
     ensures few { result ≤ 32 }
     ensures shifted { expressions (take result out.new) ≡ shifted_for first others columns (expressions required.now) }
 {
-    if matches!(first, Handed::Shifted) || matches!(others, Handed::Shifted) {
+    if first == Handed::Shifted || others == Handed::Shifted {
         return shift_right_required(required, columns, out);
     }
     0

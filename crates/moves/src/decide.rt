@@ -7,7 +7,8 @@ ghost use Rattle.keys.specs.Inputs.{reorder_join_keys_to_inputs};
 ghost use Rattle.keys.specs.InputValues.{attempt_of};
 ghost use Rattle.sheet.specs.Held.{pair_rows, operator_of, held_key_sheet, held_join_sheet};
 
-use crate::held::{HeldJoin, HeldKey};
+use crate::held_join::HeldJoin;
+use crate::held_key::HeldKey;
 use adjust::adjust::adjust_input_keys_ordering;
 use adjust::sheet::Sheet;
 use inputs::current::join_keys_to_inputs;
@@ -31,7 +32,7 @@ fn operator(h: &[u64]) -> Operator
         op: h[0],
         mode: h[1],
         join: h[2],
-        columns: h[3],
+        columns: h[HeldKey::COLUMNS],
         plain: h[4] == 1,
         partial: h[5] == 1,
     }
@@ -42,14 +43,14 @@ pub fn adjust(sheet: HeldKey<'_>) -> Option<Adjusted>
     ensures { let s = held_key_sheet sheet.entry.held.lists.now sheet.entry.held.counts.now in adjusted_of s result ≡ adjust_input_keys_ordering same_expr s }
 {
     adjust_input_keys_ordering(&Sheet {
-        operator: operator(sheet.list(0)),
-        required: sheet.list(1),
-        left: sheet.list(2),
-        right: sheet.list(3),
-        rewriting: rule_rows(sheet.list(5)),
-        groups: sheet.list(6),
-        aggregates: sheet.list(7),
-        mapped: sheet.list(8),
+        operator: operator(sheet.list(HeldKey::HEAD)),
+        required: sheet.list(HeldKey::REQUIRED),
+        left: sheet.list(HeldKey::LEFT),
+        right: sheet.list(HeldKey::RIGHT),
+        rewriting: rule_rows(sheet.list(HeldKey::REWRITING)),
+        groups: sheet.list(HeldKey::GROUPS),
+        aggregates: sheet.list(HeldKey::AGGREGATES),
+        mapped: sheet.list(HeldKey::MAPPED),
     })
 }
 
@@ -57,19 +58,19 @@ pub fn adjust(sheet: HeldKey<'_>) -> Option<Adjusted>
 pub fn follow(sheet: HeldJoin<'_>) -> Attempt
     ensures { let s = held_join_sheet sheet.entry.held.lists.now sheet.entry.held.counts.now in attempt_of s result ≡ reorder_join_keys_to_inputs s same_expr }
 {
-    let head = sheet.list(0);
+    let head = sheet.list(HeldJoin::HEAD);
     join_keys_to_inputs(Inputs {
         op: head[0],
         mode: head[1],
-        left: sheet.list(1),
-        right: sheet.list(2),
+        left: sheet.list(HeldJoin::LEFT),
+        right: sheet.list(HeldJoin::RIGHT),
+        left_rewriting: rule_rows(sheet.list(HeldJoin::LEFT_REWRITING)),
+        right_rewriting: rule_rows(sheet.list(HeldJoin::RIGHT_REWRITING)),
         left_input: Input {
-            list: sheet.list(4),
-            rewriting: rule_rows(sheet.list(6)),
+            list: sheet.list(HeldJoin::LEFT_INPUT),
         },
         right_input: Input {
-            list: sheet.list(5),
-            rewriting: rule_rows(sheet.list(7)),
+            list: sheet.list(HeldJoin::RIGHT_INPUT),
         },
     })
 }

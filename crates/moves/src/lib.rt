@@ -3,6 +3,7 @@
 
 pub mod chosen;
 pub mod decide;
-pub mod held;
+pub mod held_join;
+pub mod held_key;
 pub mod moved;
 pub mod projection;

@@ -6,17 +6,16 @@ ghost use Rattle.sheet.specs.KeyAnswers.{projected_numbers};
 
 use keys::answer::Outcome;
 
-// The group names at their places; by index, since both places of a pair are written.
+// The group names at their places.
 fn placed_names(o: &[u64], places: &[u8], out: &mut [u64; 128]) -> usize
     requires { length o.now ≤ 32 }
     ensures { (result ≤ 64) × (take result out.new ≡ projected_numbers (placed_names o.now places.now)) }
 {
-    let n = o.len().min(places.len());
-    for i in 0..n {
-        out[2 * i] = o[i];
-        out[2 * i + 1] = u64::from(places[i]);
+    for (i, (&name, &place)) in o.iter().zip(places).enumerate() {
+        out[2 * i] = name;
+        out[2 * i + 1] = u64::from(place);
     }
-    2 * n
+    2 * o.len().min(places.len())
 }
 
 // The names at the places from the first on, from a place of the output on.
@@ -32,7 +31,17 @@ fn names_from(first: usize, a: &[u64], out: &mut [u64; 128], at: usize) -> usize
     at + 2 * a.len()
 }
 
-// The group names at their places, and the aggregate names after them, in the front of the room lent, and how many numbers; only an aggregate that acts has a projection.
+// The group names at their places, and the aggregate names after them, in the front of the room lent, and how many numbers.
+pub fn projected(places: &[u8], o: &[u64], a: &[u64], out: &mut [u64; 128]) -> usize
+    requires { (length o.now ≤ 32) × (length a.now ≤ 32) }
+    ensures few { result ≤ 128 }
+    ensures names { take result out.new ≡ projected_numbers (placed_names o.now places.now ++ names_from (length o.now) a.now) }
+{
+    let at = placed_names(o, places, &mut *out);
+    names_from(o.len(), a, out, at)
+}
+
+// The same of an outcome; only an aggregate that acts has a projection.
 pub fn projected_by(outcome: &Outcome, o: &[u64], a: &[u64], out: &mut [u64; 128]) -> usize
     requires { (length o.now ≤ 32) × (length a.now ≤ 32) }
     ensures few { result ≤ 128 }
@@ -41,6 +50,5 @@ pub fn projected_by(outcome: &Outcome, o: &[u64], a: &[u64], out: &mut [u64; 128
     let Outcome::Regrouped { places, .. } = outcome else {
         return 0;
     };
-    let at = placed_names(o, places.positions().list, &mut *out);
-    names_from(o.len(), a, out, at)
+    projected(places.positions().list, o, a, out)
 }

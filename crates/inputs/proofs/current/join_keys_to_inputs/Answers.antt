@@ -8,4 +8,4 @@ pub returns-then-not-order_tried : goal.returns-then-not-order_tried
 returns-then-not-order_tried c = λ s. order_untried (sheet_of c.args.sheet s) (sym c.order_tried.ensures ∙ c.if-not-order_tried.true)
 
 pub returns : goal.returns
-returns c = λ s. order_tried_lem (sheet_of c.args.sheet s) _ (sym c.order_tried.ensures ∙ c.if-not-order_tried.false) (c.reorder_current_join_keys.ensures s)
+returns c = λ s. order_tried_lem (sheet_of c.args.sheet s) _ (sym c.order_tried.ensures ∙ c.if-not-order_tried.false) (c.reorder_current_join_keys.ensures c.args.sheet.op c.args.sheet.mode s)
