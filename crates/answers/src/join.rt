@@ -81,7 +81,7 @@ fn answer_attempt(
 }
 
 // The decision on an I sheet and its answer's bytes; `roomy` says that the answer fits.
-pub fn answer_join_sheet(roomy: bool, held: Lists<'_>, out: &mut [u8]) -> Result<usize, Refused>
+pub fn answer_join_sheet(roomy: bool, held: Lists<'_, '_>, out: &mut [u8]) -> Result<usize, Refused>
     requires held { JoinHeld held.lists.now held.counts.now }
     requires fits { roomy ≡ true → length (join_answer_text (reorder_join_keys_to_inputs (held_join_sheet held.lists.now held.counts.now) same_expr)) ≤ length out.old }
     ensures { Writes (within (length out.old) (wrote (join_answer_text (reorder_join_keys_to_inputs (held_join_sheet held.entry.lists.now held.entry.counts.now) same_expr)))) result out.old out.new }

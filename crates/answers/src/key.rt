@@ -152,7 +152,7 @@ fn answer_adjusted(
 }
 
 // The decision on a K sheet and its answer's bytes; `roomy` says that the answer fits.
-pub fn answer_key_sheet(roomy: bool, held: Lists<'_>, out: &mut [u8]) -> Result<usize, Refused>
+pub fn answer_key_sheet(roomy: bool, held: Lists<'_, '_>, out: &mut [u8]) -> Result<usize, Refused>
     requires held { KeyHeld held.lists.now held.counts.now }
     requires fits { roomy ≡ true → FitsIn (length out.old) (adjusted (adjust_input_keys_ordering same_expr (held_key_sheet held.lists.now held.counts.now))) }
     ensures { Writes (within (length out.old) (adjusted (adjust_input_keys_ordering same_expr (held_key_sheet held.entry.lists.now held.entry.counts.now)))) result out.old out.new }

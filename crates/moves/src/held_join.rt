@@ -8,7 +8,7 @@ use sheet::held::Lists;
 // Apart from `HeldKey`: its bounds are those of other lines, and so is what its `list` asks.
 #[derive(Clone, Copy)]
 pub struct HeldJoin<'a> {
-    pub held: Lists<'a>,
+    pub held: Lists<'a, 'a>,
     pub ghost bounds: { JoinHeld held.lists.now held.counts.now } by { JoinHeld-prop held.lists.now held.counts.now },
 }
 

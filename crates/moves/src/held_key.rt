@@ -8,7 +8,7 @@ use sheet::held::Lists;
 // Apart from `HeldJoin`: its bounds are those of other lines, and so is what its `list` asks.
 #[derive(Clone, Copy)]
 pub struct HeldKey<'a> {
-    pub held: Lists<'a>,
+    pub held: Lists<'a, 'a>,
     pub ghost bounds: { KeyHeld held.lists.now held.counts.now } by { KeyHeld-prop held.lists.now held.counts.now },
 }
 

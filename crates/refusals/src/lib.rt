@@ -21,11 +21,11 @@ pub enum Refusal {
     OutputTooShort,
 }
 
-impl Refusal {
-    pub fn number(self) -> u64
-        ensures { result ≡ refusal_number self }
-    {
-        match self {
+impl From<Refusal> for u64 {
+    ghost from_gives = { λ refusal number. number ≡ refusal_number refusal };
+
+    fn from(refusal: Refusal) -> u64 {
+        match refusal {
             Refusal::WrongLine => 1,
             Refusal::MalformedField => 2,
             Refusal::BeyondSize => 3,
@@ -40,7 +40,9 @@ impl Refusal {
             Refusal::OutputTooShort => 12,
         }
     }
+}
 
+impl Refusal {
     // The refusal on a line; on line 0 where it is of the whole sheet.
     pub fn on_line(self, line: u64) -> Refused
         ensures { result ≡ record { refusal = self; line = line } }
@@ -65,7 +67,7 @@ impl Refused {
         requires { self.line < 2 ^ 32 }
         ensures { result ≡ refused_word self }
     {
-        self.refusal.number() * 0x1_0000_0000 + self.line
+        u64::from(self.refusal) * 0x1_0000_0000 + self.line
     }
 }
 
