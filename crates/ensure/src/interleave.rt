@@ -18,7 +18,8 @@ fn layout_in(xs: FactRows, c: ChildForm) -> u64
     x[LAYOUT]
 }
 
-// Whether every child has the layout.
+// Whether every child has the layout. An `all` was tried: its closure knows no bound of `i`, so that the child is at most 8 was refused,
+// and with clauses of its own it would be longer than the loop.
 fn all_layouts(layout: u64, xs: FactRows, forms: Forms) -> bool
     ensures { result ≡ same_layouts layout (layouts_by (map fact_row xs.entry.rows.now) 1 forms.entry.list.now) }
 {
@@ -39,12 +40,12 @@ fn all_layouts(layout: u64, xs: FactRows, forms: Forms) -> bool
 fn can_interleave(xs: FactRows, forms: Forms) -> bool
     ensures { result ≡ hashed_alike (layouts_by (map fact_row xs.entry.rows.now) 1 forms.entry.list.now) }
 {
-    if forms.list.is_empty() {
+    let Some(first) = forms.list.first() else {
         return false;
-    }
+    };
     let c = ChildForm {
         child: 1,
-        form: forms.list[0],
+        form: *first,
     };
     let layout = layout_in(xs, c);
     layout != 0 && all_layouts(layout, xs, forms)

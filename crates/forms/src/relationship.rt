@@ -126,8 +126,8 @@ fn given_set(forms: Forms) -> u64
     ensures { result ≡ set_of forms.entry.list.now }
 {
     let mut set: u64 = 0;
-    for form in forms.list.iter().rev() {
-        set = relationship_of(*form) + 2 * set;
+    for &form in forms.list.iter().rev() {
+        set = relationship_of(form) + 2 * set;
     }
     set
 }
