@@ -11,7 +11,8 @@ use keys::expr::{COLUMN, OTHER, PLACEHOLDER};
 use refusals::Refusal;
 use text::line::Fields;
 
-const MOST_CHILDREN: u64 = 8;
+// The most children of an operator.
+pub const MOST_CHILDREN: u64 = 8;
 
 // What is asked of a line's fields: the K line, the I line, expressions, rules, a mark and expressions, directions, names.
 #[derive(Clone, Copy, PartialEq, Eq, Debug)]

@@ -12,6 +12,7 @@ ghost use Rattle.plansheet.specs.ReadPlans.{tree_run, TreeLeft, facts_by, whole_
 use crate::description::{LineShape, TreeShape};
 use crate::facts::{copy_values, read_children, read_facts};
 use crate::line::{ANY, mask_line, node_line, settings_line};
+use crate::operator::MOST_CHILDREN;
 use crate::place::Place;
 use crate::rooms::SheetRooms;
 use crate::tree::{RowsRead, read_tree};
@@ -43,7 +44,7 @@ pub fn read_plan_tree(
     bounds[LIMIT] = [1, LONG];
     let codes = [ANY, ANY, 1, ANY, ANY, 1, 2];
     let rules = [
-        [0, 8],
+        [0, MOST_CHILDREN],
         [1, 1],
         [1, 1],
         [1, 1],
@@ -52,7 +53,7 @@ pub fn read_plan_tree(
         [2, 2],
         [1, 1],
         [1, 1],
-        [0, 8],
+        [0, MOST_CHILDREN],
         [1, 1],
         [1, 1],
     ];

@@ -9,7 +9,7 @@ use linekinds::plain::PLAIN;
 use numberlines::operator::operator_at;
 use numberlines::row::Unread;
 
-pub const MOST_CHILDREN: u64 = 8;
+pub const MOST_CHILDREN: u64 = linekinds::kind::MOST_CHILDREN;
 
 // Whether no bound is below a plain field's largest number.
 fn wide_bounds(bounds: &[[u64; 2]]) -> bool

