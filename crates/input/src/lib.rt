@@ -31,7 +31,7 @@ pub fn read_full<R: Read>(input: &mut R, room: &mut [u8]) -> io::Result<usize>
     Ok(done)
 }
 
-// A refusal by its number, and its line.
+// A refusal by its number, and its line: a word that C could have handed over holds any number, and this crate sees no other.
 #[derive(Clone, Copy, Debug, PartialEq, Eq)]
 pub struct Refused {
     pub number: u64,
