@@ -16,7 +16,7 @@ use crate::operator::{new_exchange, new_merge, split_operator};
 use crate::row::{self, Node, Place, Row, Step};
 use crate::settled::Settled;
 
-// The row of a child in a form, or one of zeros.
+// The row of a child in a form, or one of zeros. Here and below the X rows and the child in its form stay two: the rows are all children's.
 pub fn row_in(xs: FactRows, c: ChildForm) -> FactRow
     ensures { fact_row result ≡ row_in (map fact_row xs.entry.rows.now) c.child (form_of c.form) }
 {

@@ -97,6 +97,7 @@ pub fn pack(n: Node, children: u64) -> Row
 
 // That `at` is in range stays a clause here and below, and so does that a tree stands there: a loop passes the place past the last tree
 // too, which is the rows' length, so `Place` has to be there without the fact, and a struct with it would be a second for the same values.
+// They take `rows` and `at` and no `Place`: what calls them has these two by themselves, mostly with another place or after a write.
 pub fn node_at(rows: &[Row], at: usize) -> Node
     requires { at < length rows.now }
     ensures { result ≡ node_at rows.now at }

@@ -16,8 +16,8 @@ pub const ENTRIES: usize = 6;
 
 pub const WIDTH: usize = 7;
 
-// Where the number of rows in an F row comes from; any other kind says that there is none. They stay numbers: an F row is an array of
-// numbers, and one function alone reads this one (`rows_gain` of `needs`).
+// Where the number of rows in an F row comes from; any other kind says that there is none. They stay numbers: one function
+// reads this one (`rows_gain` of `needs`), by two tests, and any other number is the third kind.
 pub const ROWS_EXACT: u64 = 0;
 
 pub const ROWS_ESTIMATED: u64 = 1;

@@ -51,7 +51,8 @@ pub fn exprs_length(list: &[u64]) -> usize
     length
 }
 
-// A number, and a comma before it.
+// A number, and a comma before it. Here and below the bytes to write and the place in them stay two: of a struct that lends `out` by &mut
+// each function would have to promise that it is the same slice still.
 fn put_number_field(out: &mut [u8], at: usize, n: u64) -> usize
     requires { at + length (number_field n) ≤ length out.old }
     ensures { Wrote out.old at (number_field n) out.new result }

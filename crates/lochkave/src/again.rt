@@ -45,7 +45,7 @@ pub(crate) fn rewrite_key_sheet(sheet: &[u8], out: &mut [u8]) -> Result<usize, R
     // Beside rooms of 64 numbers, how many of each are the line's: see `Lists`.
     let mut counts = [0usize; 17];
     read_sheet(sheet, SheetKind::Key, &mut rows, &mut lists, &mut counts)?;
-    // No From goes from u64 to usize.
+    // Nine lines, and one for each child, which the head counts. No From goes from u64 to usize.
     let n = 9 + lists[0][6] as usize;
     let held = Lists {
         lists: &lists,
@@ -54,7 +54,8 @@ pub(crate) fn rewrite_key_sheet(sheet: &[u8], out: &mut [u8]) -> Result<usize, R
     put_again(sheet.len(), SheetKind::Key, n, held, out)
 }
 
-// As `rewrite_key_sheet`, of a sheet that has eight lines: what each promises has a definition of its own (`key_again`, `join_again`).
+// As `rewrite_key_sheet`, but for how many lines there are: eight, where a K sheet's head says it. One function of both would choose that
+// number, and what it promises, by the kind, and have nothing of its own beside.
 pub(crate) fn rewrite_join_sheet(sheet: &[u8], out: &mut [u8]) -> Result<usize, Refused>
     ensures { Writes (within (length out.old) (join_again (read_join_sheet sheet.now))) result out.old out.new }
 {

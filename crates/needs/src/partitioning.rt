@@ -79,8 +79,8 @@ pub fn add_roundrobin(s: Settings, w: Worked, a: Asked) -> bool
         && !preserve_partial_aggregate_partitioning(s, w, a)
 }
 
-// The row's answer to the keyed need, with subsets where they are allowed. Here and below `s`, `w`, `a` and `c` stay four: most calls
-// take some of them alone, so each function would take a struct of them apart again.
+// The row's answer to the keyed need, with subsets where they are allowed. Here and below `s`, `w`, `a` and `c` stay four: each
+// function calls one that takes fewer of them, so a struct would have to be one for each run of them.
 pub fn partitioning_satisfied(s: Settings, w: Worked, a: Asked, c: Standing) -> bool
     ensures { (aligned : Bool) → result ≡ partitioning_satisfied s (worked_for w) (status_of s aligned (child_for a)) (state_for a c) }
 {

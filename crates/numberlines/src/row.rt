@@ -60,7 +60,8 @@ pub(crate) fn last_to(from: Comma<'_>, place: &mut u64) -> Result<usize, Unread>
     Ok(number.end)
 }
 
-// The line of a letter, with a number for each place of the row; and the place of its LF.
+// The line of a letter, with a number for each place of the row; and the place of its LF. Text and place stay two here, in child.rt and in
+// operator.rt: a `Comma` says that one stands there, which these have to find out.
 pub fn row_at(s: &[u8], at: usize, letter: u8, row: &mut [u64]) -> Result<usize, Unread>
     requires { 0 < length row.old }
     ensures { RowFound letter s.now at row.old result row.new }

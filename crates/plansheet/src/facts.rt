@@ -55,7 +55,8 @@ fn fact_at(s: &[u8], at: usize, row: &mut FactRow) -> Result<usize, Unread>
     Ok(end)
 }
 
-// The X line at a place by its fields, each judged, as row n where there is room for it.
+// The X line at a place by its fields, each judged, as row n where there is room for it. Text and place stay two where one line is read:
+// a `Place` has the number of the line too.
 fn judged_fact(s: &[u8], at: usize, n: usize, fields: &mut [[u64; 2]], rows: &mut [FactRow]) -> Read
     requires { 256 ≤ length fields.old }
     ensures answer { (seen : ℕ) → result ≡ read_by (line_number fact_line seen (after s.now at) (line_at 88 s.now at)) (after s.now at) (line_at 88 s.now at) }
@@ -141,8 +142,8 @@ pub fn read_facts(
     let mut p = place.at;
     let mut l = place.line;
     let mut n: usize = 0;
-    // Ends at the line that is no X line: nothing says beforehand how many there are. Rows are counted by a usize and lines by a u64, and no
-    // From goes between them, so that both are counted.
+    // Ends at the line that is no X line: nothing says beforehand how many there are. The line's number goes up beside the count of rows: made
+    // from the count at each refusal, it would be a cast and a sum.
     loop {
         match read_fact(place.s, p, n, &mut *fields, &mut *rows) {
             Read::Line { next, .. } => p = next,

@@ -80,15 +80,8 @@ pub fn settings_line(s: &[u8], at: usize, fields: &mut [[u64; 2]]) -> Read
     ensures answer { (seen : ℕ) → result ≡ read_by (line_number settings_line seen (after s.now at) (line_at 68 s.now at)) (after s.now at) (line_at 68 s.now at) }
     ensures stored { fields.new ≡ stored_in fields.old (line_fields 68 (line (drop at s.now))) }
 {
-    let bounds = [[0, PLAIN]; 9];
     let codes = [ANY, 1, 1, ANY, 1, ANY, ANY, 1, 1];
-    let shape = LineShape {
-        letter: b'D',
-        bounds: &bounds,
-        sizes: &[],
-        codes: &codes,
-    };
-    shaped_line(s, at, shape, fields)
+    plain_line(s, at, b'D', 9, &codes, fields)
 }
 
 // The B line.
@@ -97,15 +90,7 @@ pub fn node_line(s: &[u8], at: usize, fields: &mut [[u64; 2]]) -> Read
     ensures answer { (seen : ℕ) → result ≡ read_by (line_number node_line seen (after s.now at) (line_at 66 s.now at)) (after s.now at) (line_at 66 s.now at) }
     ensures stored { fields.new ≡ stored_in fields.old (line_fields 66 (line (drop at s.now))) }
 {
-    let bounds = [[0, PLAIN]; 4];
-    let codes = [1; 4];
-    let shape = LineShape {
-        letter: b'B',
-        bounds: &bounds,
-        sizes: &[],
-        codes: &codes,
-    };
-    shaped_line(s, at, shape, fields)
+    plain_line(s, at, b'B', 4, &[1; 4], fields)
 }
 
 // An F line.

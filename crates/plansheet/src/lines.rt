@@ -70,7 +70,7 @@ pub fn read_plan_tree(
     read_tree(place, shape, fields, rows)
 }
 
-// The D line, and the T lines after it.
+// The D line, and the T lines after it. The head's nine places stay a condition: see `read_plan`.
 pub fn read_tree_lines(
     s: &[u8],
     fields: &mut [[u64; 2]],

@@ -33,7 +33,7 @@ pub struct Plan {
     pub rows: usize,
 }
 
-// The D line's numbers as settings, within their bounds.
+// The D line's numbers as settings, within their bounds. That they are nine stays a condition, here and below: see `read_plan`.
 fn checked_settings(head: &[u64]) -> Option<Settings>
     requires { 9 ≤ length head.now }
     ensures { result ≡ checked (settings_of head.now) }

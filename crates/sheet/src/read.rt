@@ -53,7 +53,7 @@ fn line_count(k: SheetKind, children: u64) -> usize
 }
 
 // All lines of a sheet, and nothing after them: line i goes into list i. The first is no list. That there are lists and counts for the most
-// lines stays a condition, here and in `sheets`: the kind says how many, 17 or 8, and no one array has both lengths.
+// lines stays a condition, here and in `sheets`: C lends the lists, as a slice of any length.
 pub fn read_whole(
     s: &[u8],
     k: SheetKind,

@@ -1,5 +1,5 @@
 -- `decide_lists` meets its contract: what was read, and what is answered of it (`Entries`).
-use mathlib.Core.Path.{subst, ◌∙◌}
+use mathlib.Core.Path.{subst}
 use borrow.Author.Tests.{leb-true}
 use lib.ListN.{length}
 use Rattle.std.proofs.lemmas.Result.{err_from_is_err_and}
