@@ -13,6 +13,7 @@ pub mod LinesOnce
 pub mod AnswersOnce
 pub mod KeysGuaranteed
 pub mod SheetsOnce
+pub mod PlacesTaken
 pub mod KeyNeeded
 pub mod BadKeyPlanners
 pub mod PlanAnswersOnce
