@@ -16,7 +16,7 @@ from pathlib import Path
 TOP = Path(__file__).resolve().parent.parent
 SOURCES = Path(os.environ.get("LOCHKAVE_SOURCES", TOP / "../shared/docs/src")).resolve()
 WORK = TOP / "target/mutants"
-SHEETS = ["--sheets", "8000", "8000"]
+SHEETS = ["--sheets", "20000", "20000"]
 
 DISTRIBUTION = "src/ensure_requirements/enforce_distribution.rs"
 UTILS = "src/utils.rs"
