@@ -1,4 +1,4 @@
--- What `position` gives on keys or names, as the leftmost place of one; and what `find` gives on rules, as a key rewritten.
+-- What `position` gives on keys or names, as the leftmost place of one.
 -- Assumes nothing.
 use Prim.Native.Nat.{ℕ, zero, ◌+◌}
 use mathlib.Core.Path.{◌≡◌, refl, ap, sym, ◌∙◌}
@@ -8,12 +8,11 @@ use mathlib.Core.Option.{some}
 use mathlib.Core.List.{List, [], ◌∷◌, map}
 use native.Mathlib.Nat.{add-zero}
 use lib.Dec.{eqb}
-use Rattle.std.specs.Prelude.{Option, Some, None, position, find, slice_index}
+use Rattle.std.specs.Prelude.{Some, position}
 use Rattle.std.specs.List.{position_from}
 use Rattle.std.proofs.lemmas.Iterator.Adapters.{position_from-zero}
 use Rattle.keys.specs.Lists.{next, place_of}
-use Rattle.keys.specs.Reorder.{rewrite_one}
-use Rattle.keys.specs.Values.{found, number_rules}
+use Rattle.keys.specs.Values.{found}
 use Rattle.keys.proofs.Lists.{from, from_zero, from_next}
 
 module _ {A : Type 0} (number : A → ℕ) (key : ℕ) where
@@ -32,21 +31,3 @@ module _ {A : Type 0} (number : A → ℕ) (key : ℕ) where
 
   pub found_position : (xs : List A) → found (position passes xs) ≡ place_of eqb key (map number xs)
   found_position xs = ap found (position_from-zero passes xs) ∙ found_from 0 xs ∙ from_zero (place_of eqb key (map number xs))
-
-module _ (x : ℕ) where
-  abbrev pub starts : List ℕ → Bool
-  starts rule = eqb (slice_index rule 0) x
-
-  abbrev pub rewritten_by : Option (List ℕ) → ℕ
-  rewritten_by None = x
-  rewritten_by (Some rule) = slice_index rule 1
-
-  pub rule_found : (w : List (List ℕ)) → rewritten_by (find starts w) ≡ rewrite_one eqb (number_rules w) x
-  rule_found [] = refl
-  rule_found (r ∷ rs) = go (starts r) (rule_found rs)
-    where
-      go :
-          (b : Bool) → rewritten_by (find starts rs) ≡ rewrite_one eqb (number_rules rs) x →
-          rewritten_by (cond b (Some r) (find starts rs)) ≡ cond b (slice_index r 1) (rewrite_one eqb (number_rules rs) x)
-      go true e = refl
-      go false e = e

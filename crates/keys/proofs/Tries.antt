@@ -1,14 +1,16 @@
 -- What the answers of the search come to, case by case, for any type of keys.
 -- Assumes nothing.
-use Prim.Native.Nat.{ℕ}
+use Prim.Native.Nat.{ℕ, ◌+◌, ◌<◌}
 use mathlib.Core.Path.{◌≡◌, refl, ap}
 use mathlib.Core.Bool.{Bool, true, false}
 use mathlib.Core.Option.{Option, none, some}
 use mathlib.Core.List.{List, [], ◌∷◌}
+use native.Mathlib.Numerals.{add-one}
 use borrow.Author.Tests.{eq-eqb, ne_eqb}
-use lib.ListN.{length}
+use lib.ListN.{length, get_or, drop}
+use lib.Seq.{drop-cons}
 use Rattle.keys.specs.Lists.{expected_expr_positions, or_else}
-use Rattle.keys.specs.Reorder.{Rule, met, moved_by, rewrite, meets, either_side, try_reorder}
+use Rattle.keys.specs.Reorder.{Rule, met, moved_by, rewrite_one, rewrite, meets, either_side, try_reorder}
 use Rattle.keys.specs.Searched.{searched_by}
 use Rattle.keys.specs.Arrange.{AllBelow}
 use Rattle.keys.proofs.Lists.{or_else_below, positions_below}
@@ -18,6 +20,14 @@ or_same none = refl
 or_same (some ps) = refl
 
 module _ {A : Type 0} (same : A → A → Bool) where
+  -- the first rule that fits, from the rule at i on
+  module _ (ws : List (Rule A)) (e : A) (i : ℕ) (d : Rule A) where
+    pub rule_fits : i < length ws → same (get_or ws i d).from e ≡ true → rewrite_one same (drop i ws) e ≡ (get_or ws i d).to
+    rule_fits h k = rw (drop-cons ws i d h, k)
+
+    pub rule_passes : i < length ws → same (get_or ws i d).from e ≡ false → rewrite_one same (drop i ws) e ≡ rewrite_one same (drop (i + 1) ws) e
+    rule_passes h k = rw (add-one, drop-cons ws i d h, k)
+
   no_rules : (es : List A) → rewrite same [] es ≡ es
   no_rules [] = refl
   no_rules (e ∷ es) = ap (λ (r : List A). e ∷ r) (no_rules es)

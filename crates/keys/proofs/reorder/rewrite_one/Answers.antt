@@ -1,22 +1,22 @@
--- The first rule of the key (`rule_found`).
-use Rattle.std.proofs.Common.{rules, tests, ◌≡◌, sym, ap, ◌∙◌}
-use Rattle.std.specs.Prelude.{option_map}
-use Rattle.std.proofs.lemmas.Iterator.{YieldsList-from_slice}
-use Rattle.std.proofs.lemmas.Iterator.Search.{find_from_yields_List}
+-- The rules from the next on rewrite the key as all the rules do (`rule_fits`, `rule_passes`).
+use mathlib.Core.Path.{◌≡◌, sym, ◌∙◌}
+use mathlib.Core.List.{List, []}
+use Prim.Native.Nat.{ℕ, ◌<◌}
+use borrow.Author.Tests.{eq-eqb, ne_eqb}
 use lib.Dec.{eqb}
-use Rattle.keys.specs.Reorder.{rewrite_one}
-use Rattle.keys.specs.Values.{number_rules}
-use Rattle.keys.proofs.Places.{starts, rewritten_by, rule_found}
+use lib.ListN.{length, get_or, length-map, get_or-map}
+use Rattle.keys.specs.Values.{number_rule, number_rules}
+use Rattle.keys.proofs.Tries.{rule_fits, rule_passes}
 use Rattle.keys.proofs.reorder.rewrite_one.Goals as goal
-use Rattle.keys.proofs.reorder.rewrite_one.Goals.{After-find}
 
-found : (c : After-find) → rewritten_by c.args.x (option_map (λ r. r.now) c.find.result) ≡ rewrite_one eqb (number_rules c.args.w.now) c.args.x
-found c =
-    ap (rewritten_by c.args.x) (find_from_yields_List (starts c.args.x) _ _ c.find.result c.find.ensures.ran (YieldsList-from_slice c.args.w.now cc) (λ x b q k. search (rules, tests)))
-    ∙ rule_found c.args.x c.args.w.now
+-- the rule at a place
+at : (w : List (List ℕ)) (i : ℕ) → get_or (number_rules w) i (number_rule []) ≡ number_rule (get_or w i [])
+at w i = get_or-map number_rule w i []
 
-pub returns-in-Some : goal.returns-in-Some
-returns-in-Some c = ap (λ o. rewritten_by c.args.x (option_map (λ r. r.now) o)) (sym c.in-Some.is) ∙ found (goal.at.returns-in-Some c).After-find
+pub returns-then-rule-x : goal.returns-then-rule-x
+returns-then-rule-x c = let w = c.args.w.now in let i = c.loop-rule.rule-index in let h : i < length (number_rules w) = rw (length-map w number_rule) c.loop-rule-test.true in
+    sym (c.loop-rule.invariant ∙ rule_fits eqb (number_rules w) c.args.x i (number_rule []) h (rw (at w i) (eq-eqb _ _ c.if-rule-x.true)) ∙ rw (at w i))
 
-pub returns-in-None : goal.returns-in-None
-returns-in-None c = ap (λ o. rewritten_by c.args.x (option_map (λ r. r.now) o)) (sym c.in-None.is) ∙ found (goal.at.returns-in-None c).After-find
+pub loop-rule-preserved : goal.loop-rule-preserved
+loop-rule-preserved c = let w = c.args.w.now in let i = c.loop-rule.rule-index in let h : i < length (number_rules w) = rw (length-map w number_rule) c.loop-rule-test.true in
+    c.loop-rule.invariant ∙ rule_passes eqb (number_rules w) c.args.x i (number_rule []) h (rw (at w i) (ne_eqb _ _ c.if-rule-x.false))
