@@ -15,7 +15,7 @@ fn put_given_up(replaced: bool, src: Place, dst: &mut [Row], to: usize) -> Step
     ensures { Maps (given_up replaced) src.entry.rows.now src.entry.at dst.old to dst.new result }
 {
     if replaced {
-        return replace::replace_order_preserving_variants(src, dst, to);
+        return replace::replace_order_preserving_variants(src.rows, src.at, dst, to);
     }
     row::copy_tree(src, dst, to)
 }

@@ -74,39 +74,34 @@ fn put_in_place(dst: &mut [Row], to: usize, n: Settled, children: u64) -> usize
     next + 1
 }
 
-// The step on the tree that stands there.
+// The step on the tree at `at`. Rows and place are two here and below: as one they would go through memory at each call.
 #[cycle(replace_children_replace_order_preserving_variants)]
-pub fn replace_order_preserving_variants(src: Place, dst: &mut [Row], to: usize) -> Step
-    requires { Ready replace_order_preserving_variants src.rows.now src.at (length dst.old) to }
-    ensures { Maps replace_order_preserving_variants src.entry.rows.now src.entry.at dst.old to dst.new result }
+pub fn replace_order_preserving_variants(src: &[Row], at: usize, dst: &mut [Row], to: usize) -> Step
+    requires { Ready replace_order_preserving_variants src.now at (length dst.old) to }
+    ensures { Maps replace_order_preserving_variants src.now at dst.old to dst.new result }
 {
     let n = Settled {
-        node: row::node_at(src.rows, src.at),
+        node: row::node_at(src, at),
     };
-    let children = row::children_at(src.rows, src.at);
+    let children = row::children_at(src, at);
     let next = put_in_place(dst, to, n, children);
-    let below = Place {
-        at: src.at + 1,
-        ..src
-    };
-    replace_children(below, children, dst, next)
+    replace_children(src, at + 1, children, dst, next)
 }
 
-// The step on the `left` trees from the place on, the children of one operator: those that are tracked are gone into.
+// The step on the `left` trees from `at` on, the children of one operator: those that are tracked are gone into.
 // Document 01 names it: a node function and a child-list function that call each other, so this is no loop in the first.
 #[cycle(replace_children_replace_order_preserving_variants)]
-fn replace_children(src: Place, left: u64, dst: &mut [Row], to: usize) -> Step
-    requires { Readys replace_tracked src.rows.now src.at left (length dst.old) to }
-    ensures { MapsAll replace_tracked src.entry.rows.now src.entry.at left dst.old to dst.new result }
+fn replace_children(src: &[Row], at: usize, left: u64, dst: &mut [Row], to: usize) -> Step
+    requires { Readys replace_tracked src.now at left (length dst.old) to }
+    ensures { MapsAll replace_tracked src.now at left dst.old to dst.new result }
 {
     if left == 0 {
-        return Step { at: src.at, to };
+        return Step { at, to };
     }
-    let s = if is_set(src.rows[src.at][row::TRACKED]) {
-        replace_order_preserving_variants(src, &mut *dst, to)
+    let s = if is_set(src[at][row::TRACKED]) {
+        replace_order_preserving_variants(src, at, &mut *dst, to)
     } else {
-        row::copy_tree(src, &mut *dst, to)
+        row::copy_tree(Place { rows: src, at }, &mut *dst, to)
     };
-    let next = Place { at: s.at, ..src };
-    replace_children(next, left - 1, dst, s.to)
+    replace_children(src, s.at, left - 1, dst, s.to)
 }

@@ -15,38 +15,38 @@ use Rattle.exchange.proofs.replace.+replace_children_replace_order_preserving_va
 pub replace_children-returns-then-left-eq0 : goal.replace_children-returns-then-left-eq0
 replace_children-returns-then-left-eq0 t c = none_wrote _ _ _ _ _ c.if-left-eq0.true
 
-pub replace_children-offset_bounds-src-src : goal.replace_children-offset_bounds-src-src
-replace_children-offset_bounds-src-src t c = omega (arith, first_row replace_tracked _ _ _ _ _ c.if-left-eq0.false c.requires)
+pub replace_children-offset_bounds-src-at : goal.replace_children-offset_bounds-src-at
+replace_children-offset_bounds-src-at t c = omega (arith, first_row replace_tracked _ _ _ _ _ c.if-left-eq0.false c.requires)
 
-pub replace_children-bounds-src-src : goal.replace_children-bounds-src-src
-replace_children-bounds-src-src t c = omega (arith, first_row replace_tracked _ _ _ _ _ c.if-left-eq0.false c.requires)
+pub replace_children-bounds-src-at : goal.replace_children-bounds-src-at
+replace_children-bounds-src-at t c = omega (arith, first_row replace_tracked _ _ _ _ _ c.if-left-eq0.false c.requires)
 
 pub replace_children-replace_order_preserving_variants-s-requires : goal.replace_children-replace_order_preserving_variants-s-requires
 replace_children-replace_order_preserving_variants-s-requires t c =
-    (omega (arith, c.decreases), rw (sym c.is_set.ensures ∙ c.if-is_set.true) at (first_ready (read_in_place c.args.src.rows.now c.args.src.at) replace_tracked replace_tracked _ _ _ c.if-left-eq0.false (first_replaced c.args.src.rows.now c.args.src.at) _ _ c.requires))
+    (omega (arith, c.decreases), rw (sym c.is_set.ensures ∙ c.if-is_set.true) at (first_ready (read_in_place c.args.src.now c.args.at) replace_tracked replace_tracked _ _ _ c.if-left-eq0.false (first_replaced c.args.src.now c.args.at) _ _ c.requires))
 
 pub replace_children-copy_tree-s-requires : goal.replace_children-copy_tree-s-requires
-replace_children-copy_tree-s-requires t c = rw (sym c.is_set.ensures ∙ c.if-is_set.false) at (first_ready (read_in_place c.args.src.rows.now c.args.src.at) replace_tracked replace_tracked _ _ _ c.if-left-eq0.false (first_replaced c.args.src.rows.now c.args.src.at) _ _ c.requires)
+replace_children-copy_tree-s-requires t c = rw (sym c.is_set.ensures ∙ c.if-is_set.false) at (first_ready (read_in_place c.args.src.now c.args.at) replace_tracked replace_tracked _ _ _ c.if-left-eq0.false (first_replaced c.args.src.now c.args.at) _ _ c.requires)
 
 pub replace_children-replace_children-requires : goal.replace_children-replace_children-requires
 replace_children-replace_children-requires t c =
-    let m : Maps (read_in_place c.args.src.rows.now c.args.src.at) c.args.src.rows.now c.args.src.at c.args.dst.now c.args.to c.if-is_set.dst c.if-is_set.s =
+    let m : Maps (read_in_place c.args.src.now c.args.at) c.args.src.now c.args.at c.args.dst.now c.args.to c.if-is_set.dst c.if-is_set.s =
     elim c.if-is_set.branch [
       | replace_children-then-is_set w ↦ rw (sym c.is_set.ensures ∙ w.if-is_set.true, w.dst-is, w.s-is) w.replace_order_preserving_variants-s.ensures
       | replace_children-else-is_set w ↦ rw (sym c.is_set.ensures ∙ w.if-is_set.false, w.dst-is, w.s-is) w.copy_tree-s.ensures
     ] in (
-      omega (arith, c.decreases, first_falls (read_in_place c.args.src.rows.now c.args.src.at) replace_tracked replace_tracked _ _ _ c.if-left-eq0.false (first_replaced c.args.src.rows.now c.args.src.at) _ _ _ _ m _ c.requires),
-      rw c.if-is_set.auto.dst (others_ready (read_in_place c.args.src.rows.now c.args.src.at) replace_tracked replace_tracked _ _ _ c.if-left-eq0.false (first_replaced c.args.src.rows.now c.args.src.at) _ _ _ _ m _ c.requires),
+      omega (arith, c.decreases, first_falls (read_in_place c.args.src.now c.args.at) replace_tracked replace_tracked _ _ _ c.if-left-eq0.false (first_replaced c.args.src.now c.args.at) _ _ _ _ m _ c.requires),
+      rw c.if-is_set.auto.dst (others_ready (read_in_place c.args.src.now c.args.at) replace_tracked replace_tracked _ _ _ c.if-left-eq0.false (first_replaced c.args.src.now c.args.at) _ _ _ _ m _ c.requires),
     )
 
 pub replace_children-returns : goal.replace_children-returns
 replace_children-returns t c =
-    let m : Maps (read_in_place c.args.src.rows.now c.args.src.at) c.args.src.rows.now c.args.src.at c.args.dst.now c.args.to c.if-is_set.dst c.if-is_set.s =
+    let m : Maps (read_in_place c.args.src.now c.args.at) c.args.src.now c.args.at c.args.dst.now c.args.to c.if-is_set.dst c.if-is_set.s =
     elim c.if-is_set.branch [
       | replace_children-then-is_set w ↦ rw (sym c.is_set.ensures ∙ w.if-is_set.true, w.dst-is, w.s-is) w.replace_order_preserving_variants-s.ensures
       | replace_children-else-is_set w ↦ rw (sym c.is_set.ensures ∙ w.if-is_set.false, w.dst-is, w.s-is) w.copy_tree-s.ensures
     ] in
-    many_wrote (read_in_place c.args.src.rows.now c.args.src.at) replace_tracked replace_tracked _ _ _ c.if-left-eq0.false (first_replaced c.args.src.rows.now c.args.src.at) _ _ _ _ m _ _ c.replace_children.ensures
+    many_wrote (read_in_place c.args.src.now c.args.at) replace_tracked replace_tracked _ _ _ c.if-left-eq0.false (first_replaced c.args.src.now c.args.at) _ _ _ _ m _ _ c.replace_children.ensures
 
 -- ---- the node function
 pub replace_order_preserving_variants-node_at-requires : goal.replace_order_preserving_variants-node_at-requires
@@ -61,8 +61,8 @@ replace_order_preserving_variants-invariant_of-n t c = record { legal = rw c.nod
 pub replace_order_preserving_variants-put_in_place-next-requires : goal.replace_order_preserving_variants-put_in_place-next-requires
 replace_order_preserving_variants-put_in_place-next-requires t c = rw (c.node_at.ensures, c.children_at-children.ensures) (Headed.ready_heads replace_order_preserving_variants heads replace_tracked rows_replace _ _ _ _ c.requires)
 
-pub replace_order_preserving_variants-overflow_add-below : goal.replace_order_preserving_variants-overflow_add-below
-replace_order_preserving_variants-overflow_add-below t c = omega (arith, Headed.ready_row replace_order_preserving_variants heads replace_tracked rows_replace _ _ _ _ c.requires)
+pub replace_order_preserving_variants-overflow_add-at : goal.replace_order_preserving_variants-overflow_add-at
+replace_order_preserving_variants-overflow_add-at t c = omega (arith, Headed.ready_row replace_order_preserving_variants heads replace_tracked rows_replace _ _ _ _ c.requires)
 
 pub replace_order_preserving_variants-replace_children-requires : goal.replace_order_preserving_variants-replace_children-requires
 replace_order_preserving_variants-replace_children-requires t c = let k = c.children_at-children.ensures in let e = rw (c.node_at.ensures, k) at c.put_in_place-next.ensures in

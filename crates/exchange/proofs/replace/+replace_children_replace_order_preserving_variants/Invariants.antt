@@ -4,7 +4,7 @@ use lib.ListN.{length}
 use Rattle.exchange.proofs.replace.+replace_children_replace_order_preserving_variants.Given as goal
 
 abbrev pub decreases-replace_children : goal.decreases-replace_children
-decreases-replace_children l = (length l.src.rows.now - l.src.at) + (length l.src.rows.now - l.src.at) + 1
+decreases-replace_children l = (length l.src.now - l.at) + (length l.src.now - l.at) + 1
 
 abbrev pub decreases-replace_order_preserving_variants : goal.decreases-replace_order_preserving_variants
-decreases-replace_order_preserving_variants l = (length l.src.rows.now - l.src.at) + (length l.src.rows.now - l.src.at)
+decreases-replace_order_preserving_variants l = (length l.src.now - l.at) + (length l.src.now - l.at)
