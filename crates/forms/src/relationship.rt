@@ -1,5 +1,5 @@
 // The relationship rounds: while children are unsatisfied together, those that can be are given a keyed exchange.
-ghost use Rattle.std.specs.Prelude.{◌≡◌, List, map, ℕ, ◌≤◌, ◌<◌, length, get_or};
+ghost use Rattle.std.specs.Prelude.{◌≡◌, List, map, ℕ, ◌+◌, ◌≤◌, ◌<◌, ◌%◌, length, get_or};
 ghost use Rattle.exchange.specs.Forms.{form_number, form_of, with_relationship};
 ghost use Rattle.exchange.specs.Facts.{row_of, unsatisfied_at};
 ghost use Rattle.exchange.specs.States.{ChildState};
@@ -46,6 +46,20 @@ fn already_target_hash(xs: FactRows, c: ChildForm) -> bool
     is_set(x[ATHASH]) && is_set(x[EXACT])
 }
 
+// The turn of the child at place i, whose bit is the lowest of the mask.
+fn turn(i: usize, need: u64, form: u64, mask: u64) -> Turn
+    requires { i < 8 }
+    ensures { result ≡ record { number = i + 1; need = need; form = form; bit = mask % 2 } }
+{
+    Turn {
+        // No From goes from usize to u64.
+        number: i as u64 + 1,
+        need,
+        form,
+        bit: mask % 2,
+    }
+}
+
 // A child that is asked is given one, unless it has it, its need is not keyed, or nothing would change.
 fn is_givable(x: Turn, xs: FactRows) -> bool
     requires numbered { (1 ≤ x.number) × (x.number ≤ 8) × (x.form ≤ 15) }
@@ -83,14 +97,7 @@ fn any_givable(mask: u64, asks: Asks, forms: Forms, xs: FactRows) -> bool
 {
     let mut m = mask;
     for (i, a) in asks.list.iter().enumerate() {
-        let x = Turn {
-            // No From goes from usize to u64.
-            number: i as u64 + 1,
-            need: a.need,
-            form: forms.list[i],
-            bit: m % 2,
-        };
-        if is_givable(x, xs) {
+        if is_givable(turn(i, a.need, forms.list[i], m), xs) {
             return true;
         }
         m /= 2;
@@ -108,14 +115,7 @@ fn round(mask: u64, asks: Asks, forms: &mut [u64], xs: FactRows) -> Option<()>
 {
     let mut m = mask;
     for (i, a) in asks.list.iter().enumerate() {
-        let x = Turn {
-            // No From goes from usize to u64.
-            number: i as u64 + 1,
-            need: a.need,
-            form: forms[i],
-            bit: m % 2,
-        };
-        forms[i] = give(x, xs)?;
+        forms[i] = give(turn(i, a.need, forms[i], m), xs)?;
         m /= 2;
     }
     Some(())

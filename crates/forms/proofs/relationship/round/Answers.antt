@@ -22,7 +22,7 @@ returns-in_err-forms-clause-forms_after c = let a = c.args in let l = c.loop-i i
     let rest = each_form f (turns_by (l.i + 1 + 1) (l.m / 2) (asked_needs (drop (l.i + 1) a.asks.list.now)) (drop (l.i + 1) l.forms)) in
     rw c.from_residual.ensures (each_missing _ (take l.i l.forms) rest
     (l.invariant.2 ∙ ap (λ (xs : List Turn). prepend (take l.i l.forms) (each_form f xs)) t
-    ∙ ap (λ (o : Answer ℕ). prepend (take l.i l.forms) (with_forms o rest)) (sym c.give.ensures ∙ c.in_err-forms.was)))
+    ∙ ap (λ (o : Answer ℕ). prepend (take l.i l.forms) (with_forms o rest)) (sym (rw c.turn.ensures at c.give.ensures) ∙ c.in_err-forms.was)))
 
 pub loop-i-preserved : goal.loop-i-preserved
 unfolding each_form
@@ -31,7 +31,7 @@ loop-i-preserved c = let a = c.args in let l = c.loop-i in let v = c.in_ok-forms
     let fits : l.i < length l.forms = omega (arith, l.invariant.0, c.requires.forms_len, c.loop-i-test.true) in
     let t = turns_turn a.asks.list.now l.forms (omega (arith, l.invariant.0, c.requires.forms_len)) l.i l.m c.loop-i-test.true in
     let rest : List ℕ → Option (List ℕ) = λ fs. each_form f (turns_by (l.i + 1 + 1) (l.m / 2) (asked_needs (drop (l.i + 1) a.asks.list.now)) fs) in
-    let made = sym c.give.ensures ∙ c.in_ok-forms.was in (
+    let made = sym (rw c.turn.ensures at c.give.ensures) ∙ c.in_ok-forms.was in (
       simp length-set l.invariant.0,
       small_set l.forms l.i v (turn_small (map fact_row a.xs.rows.now) _ v (l.invariant.1 l.i fits) made) fits l.invariant.1,
       each_turn _ l.forms l.i v fits (rest (drop (l.i + 1) l.forms))
