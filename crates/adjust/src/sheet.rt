@@ -23,7 +23,8 @@ pub struct Sheet<'a> {
     ghost named: { Below 65536 groups.now } by { Below-prop 65536 groups.now },
 }
 
-// Those that an aggregate's decision reads: whoever asks it has no pairs to lend. `Sheet` holds none of it, since the rules of every operator read `operator` and `required`, and would find them in the aggregate's part.
+// Those that an aggregate's decision reads: whoever asks it has no pairs to lend.
+// `Sheet` holds none of it: the rules of every operator read `operator` and `required`.
 #[derive(Clone, Copy)]
 pub struct AggregateSheet<'a> {
     pub operator: Operator,

@@ -46,7 +46,8 @@ fn text_fits(roomy: bool, room: usize, a: &KeyAnswer<'_>) -> bool
     roomy || key_lists_length(&a.lists) + children_length(a.children, a.sheet.held, n) <= room
 }
 
-// The lists and the children's lists, where there is room for them; else refusal 12. Apart from `write_join`: it writes other lists, in another order.
+// The lists and the children's lists, where there is room for them; else refusal 12.
+// Apart from `write_join`: it writes other lists, in another order.
 fn write_key(roomy: bool, a: &KeyAnswer<'_>, out: &mut [u8]) -> Result<usize, Refused>
     requires { roomy ≡ true → length (whole_text a.now.lists a.now.children a.now.sheet.held) ≤ length out.old }
     ensures { Writes (within (length out.old) (wrote (whole_text a.now.lists a.now.children a.now.sheet.held))) result out.old out.new }

@@ -7,7 +7,8 @@ pub struct Input<'a> {
     pub list: &'a [u64],
 }
 
-// The inputs stand apart from the rest, since their keys are handed back. `op` and `mode` are the sheet's codes, which may be any number: `order_tried` reads them by From.
+// The inputs stand apart from the rest, since their keys are handed back.
+// `op` and `mode` are the sheet's codes, which may be any number: `order_tried` reads them by From.
 #[derive(Clone, Copy)]
 pub struct Inputs<'a, 'b> {
     pub op: u64,

@@ -5,7 +5,8 @@ ghost use Rattle.keys.specs.Answers.{changed_by, reported_by, positions_by, plac
 use crate::list::{NumberList, Positions};
 use crate::reorder::Reordered;
 
-// The numbers of a K line; `columns` is its `left`. `op`, `mode` and `join` are codes, and a sheet may hold any number there: the definitions take it as it is, and each rule reads its own by From where it decides.
+// The numbers of a K line; `columns` is its `left`. `op`, `mode` and `join` are codes, and a sheet may hold any number there:
+// each rule reads its own by From where it decides.
 #[derive(Clone, Copy, PartialEq, Eq, Debug)]
 pub struct Operator {
     pub op: u64,

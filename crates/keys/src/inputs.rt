@@ -24,7 +24,8 @@ impl From<Side> for u64 {
     }
 }
 
-// No order was tried, a side was followed, or none could be: document 01's reports 0, 1 and 2, and 3. An Option of a Result would say the same without the names.
+// No order was tried, a side was followed, or none could be: document 01's reports 0, 1 and 2, and 3.
+// An Option of a Result would say the same without the names.
 #[derive(Clone, Copy)]
 pub enum Attempt {
     Untried,

@@ -5,7 +5,7 @@ ghost use Rattle.keys.specs.Lists.{permute};
 use crate::expr::Expr;
 use crate::reorder::GONE;
 
-// An array of thirty-two expressions and a count. Document 01 names this struct and what it holds, so it is one of its own, and no case of a generic one; `NumberList` is its sibling of bytes.
+// An array of thirty-two expressions and a count: document 01 names this struct and what it holds, so it is no case of a generic one.
 #[derive(Clone, Copy)]
 pub struct KeyList {
     pub items: [Expr; 32],
@@ -14,7 +14,7 @@ pub struct KeyList {
     ghost within: { count ≤ 32 },
 }
 
-// The same of positions: there is no heap, and a list outlives the function that finds it. A position takes a byte, so that a list is short enough to be handed over.
+// The same of positions, a byte each, so that a list is short enough to be handed over.
 #[derive(Clone, Copy)]
 pub struct NumberList {
     pub items: [u8; 32],

@@ -71,7 +71,8 @@ pub(crate) fn rewrite_join_sheet(sheet: &[u8], out: &mut [u8]) -> Result<usize, 
     put_again(sheet.len(), SheetKind::Join, 8, held, out)
 }
 
-// The same of a D sheet. `put_again`, this one and `write_plan` each put other lines: over a closure that puts them the promise would be longer than both.
+// The same of a D sheet. `put_again`, this one and `write_plan` each put other lines:
+// over a closure that puts them the promise would be longer than both.
 fn put_plan_again(bytes: usize, held: SheetRows, out: &mut [u8]) -> Result<usize, Refused>
     requires { bytes ≡ length (sheet_rows_text held.settings held.tree.now held.node held.children.now held.facts.now held.masks.now) }
     ensures { Writes (within (length out.old) (wrote (sheet_rows_text held.entry.settings held.entry.tree.now held.entry.node held.entry.children.now held.entry.facts.now held.entry.masks.now))) result out.old out.new }

@@ -1,4 +1,5 @@
-// The entry points of `lochkave` for C and Rust: target/staticlib/liblochkave.a, see include/lochkave.h. Each stands here again, since such a library holds its own crate's alone.
+// The entry points of `lochkave` for C and Rust: target/staticlib/liblochkave.a, see include/lochkave.h.
+// Each stands here again, since such a library holds its own crate's alone.
 #![tactic(auto)]
 
 ghost use Rattle.std.specs.Prelude.{◌≡◌, length};

@@ -23,7 +23,8 @@ fn rule_rows(list: &[u64]) -> &[[u64; 2]]
     list.as_chunks::<2>().0
 }
 
-// The numbers of a K line. The sheet's lists hold numbers alone, so a mark is one: set where it is 1, as `exchange::mark`, which this crate does not see, has it.
+// The numbers of a K line. The sheet's lists hold numbers alone, so a mark is one: set where it is 1,
+// as `exchange::mark`, which this crate does not see, has it.
 fn operator(h: &[u64]) -> Operator
     requires { 6 ≤ length h.now }
     ensures { result ≡ operator_of h.now }

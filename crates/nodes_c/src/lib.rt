@@ -1,4 +1,5 @@
-// The functions of `nodes` for C and Rust: target/staticlib/libnodes.a. Each stands here again, since such a library holds its own crate's alone. A node crosses as the struct of `exchange`.
+// The functions of `nodes` for C and Rust: target/staticlib/libnodes.a. A node crosses as the struct of `exchange`.
+// Each stands here again, since such a library holds its own crate's alone.
 #![tactic(auto)]
 
 ghost use Rattle.std.specs.Prelude.{◌≡◌};

@@ -2,7 +2,8 @@
 ghost use Rattle.std.specs.Prelude.{◌≤◌, length};
 ghost use Rattle.plansheet.specs.ReadRows.{Bounded};
 
-// A letter, a bound for each field (its largest state and value), the most of the first fields, the last codes of the first fields. Any numbers make one: that bounds are bounds is asked where lines are read by them.
+// A letter, a bound for each field (its largest state and value), the most of the first fields, the last codes of the first fields.
+// Any numbers make one: that bounds are bounds is asked where lines are read by them.
 #[derive(Clone, Copy)]
 pub struct LineShape<'a> {
     pub letter: u8,

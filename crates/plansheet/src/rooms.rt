@@ -23,7 +23,8 @@ pub struct SheetRooms<'a> {
     pub ghost masked: { 256 ≤ length masks.now },
 }
 
-// The tree's rows in front and how many there are, the worked node's place, its children, and the F rows, X rows and masks in front; of the X rows, which may be more than there is room for, how many there are.
+// The tree's rows in front and how many there are, the worked node's place, its children, and the F rows, X rows and masks in front;
+// of the X rows, which may be more than there is room for, how many there are.
 // Of the F rows the first `children` count, and of the masks two to that many: `PlanRooms` speaks of the rooms as they are lent, so that they
 // are cut where they are judged.
 #[derive(Clone, Copy)]
