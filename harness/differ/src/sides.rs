@@ -1,7 +1,7 @@
 //! The sides that are compared, each asked in the same way.
 
 use lochkave::{Question, Refusal, ask_into};
-use plain::Room;
+use plain::{Room, written};
 use std::panic::{AssertUnwindSafe, catch_unwind};
 
 pub const MOST: usize = 65536;
@@ -18,11 +18,6 @@ pub struct Sides {
     pub theirs: Vec<u8>,
 }
 
-fn refusal(result: u64) -> Option<(u64, u64)> {
-    let number = result >> 32;
-    (number > 0).then_some((number, result & 0xffffffff))
-}
-
 fn number(result: Result<usize, Refusal>) -> u64 {
     match result {
         Ok(length) => length as u64,
@@ -30,21 +25,9 @@ fn number(result: Result<usize, Refusal>) -> u64 {
     }
 }
 
-/// What the program prints for a result.
-pub fn printed(result: u64, out: &[u8]) -> Vec<u8> {
-    match refusal(result) {
-        None => out[..result as usize].to_vec(),
-        Some((number, line)) => format!("e,{number},{line}\n").into_bytes(),
-    }
-}
-
 /// Whether every byte behind the answer is as it was.
 fn untouched(result: u64, out: &[u8]) -> bool {
-    let written = match refusal(result) {
-        None => result as usize,
-        Some(_) => 0,
-    };
-    out[written..].iter().all(|b| *b == FILL)
+    out[written(result)..].iter().all(|b| *b == FILL)
 }
 
 impl Sides {
