@@ -6,7 +6,7 @@ use crate::sides::{MOST, Sides, files};
 use lochkave::Question;
 use plain::printed;
 use sheets::Random;
-use std::collections::HashMap;
+use std::collections::{HashMap, HashSet};
 use std::process::ExitCode;
 
 const SEED: u64 = 8;
@@ -45,14 +45,15 @@ fn candidate(random: &mut Random) -> (Vec<u8>, usize) {
     }
 }
 
-/// Candidates on which all sides agree, the shortest first, with what they show. A difference is the differential run's business; what is
-/// excused there isn't listed.
+/// Candidates on which all sides agree, each once, the shortest first, with what they show. A difference is the differential run's
+/// business; what is excused there isn't listed.
 fn candidates() -> Vec<(Case, Vec<String>)> {
     let (mut random, mut sides) = (Random::new(SEED), Sides::new());
-    let mut all = vec![];
+    let (mut all, mut drawn) = (vec![], HashSet::new());
     for _ in 0..CANDIDATES {
         let (sheet, room) = candidate(&mut random);
-        if sheet.len() > LONGEST || sheet.contains(&b'#') {
+        let fits = sheet.len() <= LONGEST && !sheet.contains(&b'#');
+        if !fits || !drawn.insert((sheet.clone(), room)) {
             continue;
         }
         let Ok(answer) = agreed(&mut sides, &sheet, room) else {
