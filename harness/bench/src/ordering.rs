@@ -46,10 +46,13 @@ fn positions(current: &[Expr], expected: &[Expr]) -> Option<Vec<usize>> {
     Some(places)
 }
 
+/// What an expression is by the first rule for it, or else the expression.
+fn by_rules(w: &[(Expr, Expr)], e: &Expr) -> Expr {
+    w.iter().find(|rule| rule.0 == *e).map_or(*e, |rule| rule.1)
+}
+
 fn rewritten(w: &[(Expr, Expr)], keys: &[Expr]) -> Vec<Expr> {
-    keys.iter()
-        .map(|e| w.iter().find(|rule| rule.0 == *e).map_or(*e, |rule| rule.1))
-        .collect()
+    keys.iter().map(|e| by_rules(w, e)).collect()
 }
 
 /// As the original has it, on vectors.
@@ -144,12 +147,7 @@ fn on_arrays(
     if w.is_empty() {
         found = places_in(l, r, &mut places) || places_in(g, r, &mut places);
     } else {
-        let new = |keys: &[Expr]| {
-            Keys::of(
-                keys.iter()
-                    .map(|e| w.iter().find(|rule| rule.0 == *e).map_or(*e, |rule| rule.1)),
-            )
-        };
+        let new = |keys: &[Expr]| Keys::of(keys.iter().map(|e| by_rules(w, e)));
         let (r2, l2, g2) = (new(r), new(l), new(g));
         if r2.slice() == l2.slice() || r2.slice() == g2.slice() {
             return 1;

@@ -98,6 +98,6 @@ pub fn try_reorder(
 pub fn decide(sheet: &[u8], out: &mut [u8]) -> u64 {
     match lochkave::decide_into(sheet, out) {
         Ok(length) => length as u64,
-        Err(refusal) => (refusal.number as u64) << 32 | refusal.line as u64,
+        Err(refusal) => plain::refused(refusal.number.into(), refusal.line as usize),
     }
 }

@@ -3,7 +3,7 @@
 use crate::excuses::EXCUSES;
 use crate::judge::judge;
 use crate::reach::Reach;
-use crate::sides::{MOST, Sides, WRONG_LINE_1, files};
+use crate::sides::{MOST, Sides, files};
 use lochkave::Question;
 use plain::printed;
 use std::collections::BTreeMap;
@@ -58,7 +58,7 @@ impl Run {
         let plain = self.sides.plain(question, sheet, length);
         let Some(plain) = plain else {
             self.differ("plain Rust alone", sheet, format!("{question:?}: it fails"));
-            return WRONG_LINE_1;
+            return plain::refused(1, 1);
         };
         let library = self.sides.library(question, sheet, length);
         if library != plain || !self.sides.same(length) {

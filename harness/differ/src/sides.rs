@@ -1,13 +1,12 @@
 //! The sides that are compared, each asked in the same way.
 
 use lochkave::{Question, Refusal, ask_into};
-use plain::{Room, written};
+use plain::{Room, refused, written};
 use std::panic::{AssertUnwindSafe, catch_unwind};
 
 pub const MOST: usize = 65536;
 /// What an output is filled with before a call.
 const FILL: u8 = 126;
-pub const WRONG_LINE_1: u64 = 1 << 32 | 1;
 
 /// Buffers and room, lent once.
 pub struct Sides {
@@ -21,7 +20,7 @@ pub struct Sides {
 fn number(result: Result<usize, Refusal>) -> u64 {
     match result {
         Ok(length) => length as u64,
-        Err(refusal) => (refusal.number as u64) << 32 | refusal.line as u64,
+        Err(refusal) => refused(refusal.number.into(), refusal.line as usize),
     }
 }
 

@@ -52,7 +52,8 @@ impl Room {
     }
 }
 
-fn refused(number: u64, line: usize) -> u64 {
+/// A refusal as a result.
+pub fn refused(number: u64, line: usize) -> u64 {
     number << 32 | line as u64
 }
 
