@@ -75,7 +75,7 @@ PLAIN = [
     ("an answer of exactly the room is refused", "write.rs", "length.0 > out.len()", "length.0 >= out.len()"),
     ("nine entries are taken", "exchange.rs", "entries > 8", "entries > 9"),
     ("257 lines are taken", "exchange.rs", "place >= MOST_NODES ||", "place > MOST_NODES ||"),
-    ("a limit on a repartition is taken", "exchange.rs", "(kind == 3 || kind == 4) && limit != ABSENT", "kind == 3 && limit != ABSENT"),
+    ("a limit on a repartition is taken", "exchange.rs", "(kind == REPARTITION || kind == UNKNOWN_REPARTITION) && limit != ABSENT", "kind == REPARTITION && limit != ABSENT"),
     ("a row's count isn't looked at", "exchange.rs", "(0, 1) => row.count == 1,", "(0, 1) => true,"),
     ("target 4097 is taken", "exchange.rs", "target > MOST_TARGET", "target > MOST_TARGET + 1"),
     ("files are kept only above their threshold", "tree.rs", "node.count >= s.files", "node.count > s.files"),

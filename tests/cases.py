@@ -11,6 +11,8 @@ Four sources, each a sheet with its answer:
 - tests/oracle.stdin and tests/oracle.stdout: the fixed list that `differ --list` of harness/ writes, cases as `replay` reads them, with
   the answers of the three files over stand-ins, and of plain Rust where a sheet isn't accepted.
 
+Of cases with the same entry point, room and sheet the first stands; the others must have its answer, and are left out.
+
 An answer stands on one line here, a space for each LF. `fixed` names a row of document 01's table (row 4), a decision of
 docs/DECISIONS.md (decision 9), or cites document 01.
 """
@@ -58,12 +60,22 @@ def fixed_list():
         ROWS.append((name, fixed, entry, int(room), sheet, answer))
 
 
-def written():
-    """What `replay` reads, and what it must write."""
-    stdin, stdout = [], []
+def once():
+    """The cases with their rooms as numbers, each entry point, room and sheet once."""
+    cases = {}
     for name, fixed, entry, room, sheet, answer in ROWS:
         if room in ("exact", "one less"):
             room, answer = (len(answer), answer) if room == "exact" else (len(answer) - 1, b"e,12,0\n")
+        first, _, expected = cases.setdefault((entry, room, sheet), (name, fixed, answer))
+        if answer != expected:
+            sys.exit(f"two answers to one case: {first}, {name}")
+    return cases
+
+
+def written(cases):
+    """What `replay` reads, and what it must write."""
+    stdin, stdout = [], []
+    for (entry, room, sheet), (name, fixed, answer) in cases.items():
         head = f"# {name}: {fixed}\n".encode()
         stdin += [head, f"{entry},{room},{len(sheet)}\n".encode(), sheet]
         stdout += [head, answer]
@@ -76,7 +88,8 @@ def main():
     examples()
     fixed_list()
     files = [TOP / "crates/replay/stdin", TOP / "crates/replay/stdout"]
-    texts = written()
+    cases = once()
+    texts = written(cases)
     if sys.argv[1:] == ["--check"]:
         stale = [str(path.relative_to(TOP)) for path, text in zip(files, texts) if path.read_bytes() != text]
         if stale:
@@ -84,7 +97,7 @@ def main():
     else:
         for path, text in zip(files, texts):
             path.write_bytes(text)
-    print(f"{len(ROWS)} cases, {edits} of them edits of base sheets")
+    print(f"{len(cases)} cases; {len(ROWS) - len(cases)} more repeat one of them and are left out; {edits} of all are edits of base sheets")
 
 
 main()

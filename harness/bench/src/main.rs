@@ -5,14 +5,14 @@ mod common;
 mod deciding;
 mod ordering;
 mod proved;
-mod race;
 mod reading;
+mod table;
 mod texts;
 mod tight;
 mod writing;
 
+use sheets::Random;
 use std::process::ExitCode;
-use texts::Random;
 
 const COMPARED: usize = 1_000_000;
 

@@ -1,8 +1,9 @@
 //! The proved `try_reorder` beside plain Rust on the same lists.
 
 use crate::proved;
-use crate::race::{Side, Table};
-use crate::texts::Random;
+use crate::table::{Named, Table, side};
+use sheets::Random;
+use timing::{End, Key, joined};
 
 #[derive(Clone, Copy, Debug, PartialEq, Eq)]
 struct Expr {
@@ -18,6 +19,11 @@ const NO_OP: Expr = Expr {
 };
 
 impl Expr {
+    fn of(key: &Key) -> Expr {
+        let [kind, name, index] = key.map(|n| n as u16);
+        Expr { kind, name, index }
+    }
+
     fn packed(self) -> u64 {
         (self.kind as u64) << 32 | (self.name as u64) << 16 | self.index as u64
     }
@@ -40,10 +46,13 @@ fn positions(current: &[Expr], expected: &[Expr]) -> Option<Vec<usize>> {
     Some(places)
 }
 
+/// What an expression is by the first rule for it, or else the expression.
+fn by_rules(w: &[(Expr, Expr)], e: &Expr) -> Expr {
+    w.iter().find(|rule| rule.0 == *e).map_or(*e, |rule| rule.1)
+}
+
 fn rewritten(w: &[(Expr, Expr)], keys: &[Expr]) -> Vec<Expr> {
-    keys.iter()
-        .map(|e| w.iter().find(|rule| rule.0 == *e).map_or(*e, |rule| rule.1))
-        .collect()
+    keys.iter().map(|e| by_rules(w, e)).collect()
 }
 
 /// As the original has it, on vectors.
@@ -83,11 +92,13 @@ struct Keys {
 }
 
 impl Keys {
+    const NONE: Keys = Keys {
+        items: [NO_OP; 32],
+        count: 0,
+    };
+
     fn of(keys: impl Iterator<Item = Expr>) -> Keys {
-        let mut out = Keys {
-            items: [NO_OP; 32],
-            count: 0,
-        };
+        let mut out = Keys::NONE;
         for e in keys {
             out.items[out.count] = e;
             out.count += 1;
@@ -136,12 +147,7 @@ fn on_arrays(
     if w.is_empty() {
         found = places_in(l, r, &mut places) || places_in(g, r, &mut places);
     } else {
-        let new = |keys: &[Expr]| {
-            Keys::of(
-                keys.iter()
-                    .map(|e| w.iter().find(|rule| rule.0 == *e).map_or(*e, |rule| rule.1)),
-            )
-        };
+        let new = |keys: &[Expr]| Keys::of(keys.iter().map(|e| by_rules(w, e)));
         let (r2, l2, g2) = (new(r), new(l), new(g));
         if r2.slice() == l2.slice() || r2.slice() == g2.slice() {
             return 1;
@@ -183,6 +189,10 @@ impl Case {
         }
     }
 
+    fn on_arrays(&self, [left, right]: &mut [Keys; 2]) -> u64 {
+        on_arrays(&self.w, &self.r, &self.l, &self.g, left, right)
+    }
+
     fn proved(&self, left: &mut [u64; 32], right: &mut [u64; 32]) -> u64 {
         let [r, l, g] = &self.packed;
         proved::try_reorder(&self.packed_w, r, l, g, left, right)
@@ -194,12 +204,12 @@ fn some_expr(random: &mut Random, names: usize) -> Expr {
         0 => NO_OP,
         1 => Expr {
             kind: 1,
-            name: random.below(names) as u16,
+            name: random.place(names) as u16,
             index: 0,
         },
         _ => Expr {
             kind: 0,
-            name: random.below(names) as u16,
+            name: random.place(names) as u16,
             index: random.below(2) as u16,
         },
     }
@@ -209,56 +219,67 @@ fn some_keys(random: &mut Random, n: usize, names: usize) -> Vec<Expr> {
     (0..n).map(|_| some_expr(random, names)).collect()
 }
 
-/// Compares reports and moved keys on random lists: few names, so that every outcome is frequent.
+/// Random lists: few names, so that every outcome is frequent.
+fn some_case(random: &mut Random) -> Case {
+    let most = if random.below(50) == 0 { 33 } else { 5 };
+    let n = random.place(most);
+    let names = 1 + random.place(4);
+    let l = some_keys(random, n, names);
+    let g = some_keys(random, n, names);
+    let mut r = if random.below(2) == 0 {
+        l.clone()
+    } else {
+        g.clone()
+    };
+    for _ in 0..random.below(3) {
+        if n > 0 {
+            let (i, j) = (random.place(n), random.place(n));
+            r.swap(i, j);
+        }
+    }
+    if random.below(3) == 0 {
+        let longer = n + random.place(2);
+        r = some_keys(random, longer.min(32), names);
+    }
+    let rules = random.below(3);
+    let w = (0..rules)
+        .map(|_| (some_expr(random, names), some_expr(random, names)))
+        .collect();
+    Case::new(w, r, l, g)
+}
+
+/// A room for packed keys that was filled with 7, once these keys are written into it.
+fn room_with(keys: &[Expr]) -> [u64; 32] {
+    let mut out = [7; 32];
+    for (place, e) in out.iter_mut().zip(keys) {
+        *place = e.packed();
+    }
+    out
+}
+
+/// Compares report and moved keys on the lists of a case. The report.
+fn compare_one(case: &Case) -> Result<u64, String> {
+    let (report, left, right) = on_vectors(&case.w, &case.r, &case.l, &case.g);
+    let (mut a, mut b) = (room_with(&[]), room_with(&[]));
+    let ours = case.proved(&mut a, &mut b);
+    let mut keys = [Keys::NONE; 2];
+    let third = case.on_arrays(&mut keys);
+    let moved_apart = report == 2 && (keys[0].slice() != left || keys[1].slice() != right);
+    let arrays_differ = third != report || moved_apart;
+    if ours != report || a != room_with(&left) || b != room_with(&right) || arrays_differ {
+        return Err(format!(
+            "ordering {:?} {:?} {:?} {:?}: proved {ours}, plain {report} {third}",
+            case.w, case.r, case.l, case.g
+        ));
+    }
+    Ok(report)
+}
+
+/// Compares reports and moved keys on random lists.
 pub fn compare(random: &mut Random, sheets: usize) -> Result<(), String> {
     let mut reports = [0usize; 4];
     for _ in 0..sheets {
-        let most = if random.below(50) == 0 { 33 } else { 5 };
-        let n = random.below(most);
-        let names = 1 + random.below(4);
-        let l = some_keys(random, n, names);
-        let g = some_keys(random, n, names);
-        let mut r = if random.below(2) == 0 {
-            l.clone()
-        } else {
-            g.clone()
-        };
-        for _ in 0..random.below(3) {
-            if n > 0 {
-                let (i, j) = (random.below(n), random.below(n));
-                r.swap(i, j);
-            }
-        }
-        if random.below(3) == 0 {
-            let longer = n + random.below(2);
-            r = some_keys(random, longer.min(32), names);
-        }
-        let rules = random.below(3);
-        let w = (0..rules)
-            .map(|_| (some_expr(random, names), some_expr(random, names)))
-            .collect();
-        let case = Case::new(w, r, l, g);
-        let (report, left, right) = on_vectors(&case.w, &case.r, &case.l, &case.g);
-        let (mut a, mut b) = ([7u64; 32], [7u64; 32]);
-        let ours = case.proved(&mut a, &mut b);
-        let expected = |keys: &[Expr]| {
-            let mut out = [7u64; 32];
-            for (place, e) in out.iter_mut().zip(keys) {
-                *place = e.packed();
-            }
-            out
-        };
-        let mut keys = (Keys::of([].into_iter()), Keys::of([].into_iter()));
-        let third = on_arrays(&case.w, &case.r, &case.l, &case.g, &mut keys.0, &mut keys.1);
-        let arrays_differ =
-            third != report || (report == 2 && (keys.0.slice() != left || keys.1.slice() != right));
-        if ours != report || a != expected(&left) || b != expected(&right) || arrays_differ {
-            return Err(format!(
-                "ordering {:?} {:?} {:?} {:?}: proved {ours}, plain {report} {third}",
-                case.w, case.r, case.l, case.g
-            ));
-        }
-        reports[report as usize] += 1;
+        reports[compare_one(&some_case(random))? as usize] += 1;
     }
     println!(
         "orders compared: {sheets} ({} met, {} moved, {} impossible), no difference",
@@ -267,105 +288,69 @@ pub fn compare(random: &mut Random, sheets: usize) -> Result<(), String> {
     Ok(())
 }
 
-fn columns(n: usize, from: u16) -> Vec<Expr> {
-    (0..n as u16)
-        .map(|i| Expr {
-            kind: 0,
-            name: from + i,
-            index: i,
-        })
-        .collect()
-}
-
-/// Lists of n pairs that end in the report; with rules, every key but the last two is looked up in vain.
-fn case(random: &mut Random, n: usize, report: u64, rules: bool) -> Case {
-    let l = columns(n, 100);
-    let g = columns(n, 500);
-    let mut r = l.clone();
-    if report != 1 {
-        for i in (1..n).rev() {
-            r.swap(i, random.below(i + 1));
-        }
-        if r == l {
-            r.swap(0, 1);
-        }
-    }
-    if report == 3 {
-        r[n - 1].name = 999;
-    }
-    let w = if rules {
-        vec![
-            (columns(1, 900)[0], columns(1, 901)[0]),
-            (columns(1, 902)[0], columns(1, 903)[0]),
-            (l[n - 1], columns(1, 950)[0]),
-            (l[n - 2], columns(1, 951)[0]),
-        ]
-    } else {
-        vec![]
-    };
-    Case::new(w, r, l, g)
-}
-
 const CASES: usize = 64;
 
+/// How the order ends, whether with rules, and the column's name.
+const COLUMNS: [(End, bool, &str); 6] = [
+    (End::Met, false, "met"),
+    (End::Moved, false, "moved"),
+    (End::Impossible, false, "impossible"),
+    (End::Met, true, "met, rules"),
+    (End::Moved, true, "moved, rules"),
+    (End::Impossible, true, "impossible, rules"),
+];
+
+fn timed_case(random: &mut Random, n: usize, end: End, rules: bool) -> Case {
+    let joined = joined(random, n, end, rules);
+    let exprs = |keys: &[Key]| keys.iter().map(Expr::of).collect::<Vec<Expr>>();
+    let rules = joined.rules.chunks(2);
+    let rules = rules.map(|pair| (Expr::of(&pair[0]), Expr::of(&pair[1])));
+    Case::new(
+        rules.collect(),
+        exprs(&joined.required),
+        exprs(&joined.left),
+        exprs(&joined.right),
+    )
+}
+
+/// Every side over the same cases; each is asked for its last key too.
+fn sides(cases: &[Case]) -> Vec<Named<'_>> {
+    let last = cases[0].l.len() - 1;
+    let mut keys = [Keys::NONE; 2];
+    let on_arrays = move |c: &Case| {
+        let report = c.on_arrays(&mut keys);
+        report + keys[0].items[last].name as u64
+    };
+    let on_vectors = |c: &Case| {
+        let (report, left, _) = on_vectors(&c.w, &c.r, &c.l, &c.g);
+        report + left.last().map_or(0, |e| e.name as u64)
+    };
+    let (mut a, mut b) = ([0u64; 32], [0u64; 32]);
+    let proved = move |c: &Case| c.proved(&mut a, &mut b) + a[last];
+    vec![
+        over("plain Rust, arrays, no allocation", cases, on_arrays),
+        over("plain Rust, vectors, as the original", cases, on_vectors),
+        over("proved", cases, proved),
+    ]
+}
+
+/// A side that takes one case after the other.
+fn over<'a>(
+    name: &'static str,
+    cases: &'a [Case],
+    mut run: impl FnMut(&Case) -> u64 + 'a,
+) -> Named<'a> {
+    side(name, move || cases.iter().map(&mut run).sum())
+}
+
 pub fn race(random: &mut Random) {
-    for (n, title) in [
-        (4, "try_reorder, 4 pairs: ns a call (ratio)"),
-        (32, "try_reorder, 32 pairs: ns a call (ratio)"),
-    ] {
+    for n in [4, 32] {
         let mut table = Table::new();
-        for (report, rules, name) in [
-            (1, false, "met"),
-            (2, false, "moved"),
-            (3, false, "impossible"),
-            (1, true, "met, rules"),
-            (2, true, "moved, rules"),
-            (3, true, "impossible, rules"),
-        ] {
-            let cases: Vec<Case> = (0..CASES).map(|_| case(random, n, report, rules)).collect();
-            let (mut a, mut b) = ([0u64; 32], [0u64; 32]);
-            let mut keys = (Keys::of([].into_iter()), Keys::of([].into_iter()));
-            table.column(
-                name,
-                CASES,
-                vec![
-                    Side {
-                        name: "plain Rust, arrays, no allocation",
-                        run: Box::new(|| {
-                            cases
-                                .iter()
-                                .map(|c| {
-                                    let report =
-                                        on_arrays(&c.w, &c.r, &c.l, &c.g, &mut keys.0, &mut keys.1);
-                                    report + keys.0.items[n - 1].name as u64
-                                })
-                                .sum()
-                        }),
-                    },
-                    Side {
-                        name: "plain Rust, vectors, as the original",
-                        run: Box::new(|| {
-                            cases
-                                .iter()
-                                .map(|c| {
-                                    let (report, left, _) = on_vectors(&c.w, &c.r, &c.l, &c.g);
-                                    report + left.last().map_or(0, |e| e.name as u64)
-                                })
-                                .sum()
-                        }),
-                    },
-                    Side {
-                        name: "proved",
-                        run: Box::new(|| {
-                            cases
-                                .iter()
-                                .map(|c| c.proved(&mut a, &mut b) + a[n - 1])
-                                .sum()
-                        }),
-                    },
-                ],
-            );
+        for (end, rules, name) in COLUMNS {
+            let case = |_| timed_case(random, n, end, rules);
+            let cases: Vec<Case> = (0..CASES).map(case).collect();
+            table.column(name, CASES, sides(&cases));
         }
-        table.print(title);
+        table.print(&format!("try_reorder, {n} pairs: ns a call (ratio)"));
     }
 }

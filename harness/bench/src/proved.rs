@@ -13,7 +13,7 @@ pub struct Found {
 }
 
 // A slice of Rattle is a pointer and a length in elements, two arguments one after the other.
-extern "C" {
+unsafe extern "C" {
     fn bench_line_at(
         s: *const u8,
         s_len: usize,
@@ -29,6 +29,20 @@ extern "C" {
         letter: u8,
         rows: *const [u64; 2],
         rows_len: usize,
+    ) -> u64;
+    fn bench_try_reorder(
+        w: *const [u64; 2],
+        w_len: usize,
+        r: *const u64,
+        r_len: usize,
+        l: *const u64,
+        l_len: usize,
+        g: *const u64,
+        g_len: usize,
+        left: *mut u64,
+        left_len: usize,
+        right: *mut u64,
+        right_len: usize,
     ) -> u64;
 }
 
@@ -50,23 +64,6 @@ pub fn put_line(out: &mut [u8], at: usize, letter: u8, rows: &[[u64; 2]]) -> u64
             rows.len(),
         )
     }
-}
-
-extern "C" {
-    fn bench_try_reorder(
-        w: *const [u64; 2],
-        w_len: usize,
-        r: *const u64,
-        r_len: usize,
-        l: *const u64,
-        l_len: usize,
-        g: *const u64,
-        g_len: usize,
-        left: *mut u64,
-        left_len: usize,
-        right: *mut u64,
-        right_len: usize,
-    ) -> u64;
 }
 
 /// The report (1 met, 2 moved, 3 impossible), and the moved keys in the room lent where it is 2.
@@ -101,6 +98,6 @@ pub fn try_reorder(
 pub fn decide(sheet: &[u8], out: &mut [u8]) -> u64 {
     match lochkave::decide_into(sheet, out) {
         Ok(length) => length as u64,
-        Err(refusal) => (refusal.number as u64) << 32 | refusal.line as u64,
+        Err(refusal) => plain::refused(refusal.number.into(), refusal.line as usize),
     }
 }

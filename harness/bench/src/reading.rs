@@ -1,9 +1,10 @@
 //! The proved line reader beside plain Rust.
 
 use crate::proved::Found;
-use crate::race::{Side, Table};
-use crate::texts::{lines, random_text, text, Random, Sort, LINES};
+use crate::table::{Named, Table, side};
+use crate::texts::{LINES, Sort, lines, random_text, text};
 use crate::{common, proved, tight};
+use sheets::Random;
 
 type LineAt = fn(&[u8], usize, u8, &mut [[u64; 2]]) -> Found;
 
@@ -20,7 +21,7 @@ pub fn compare(random: &mut Random, texts: usize) -> Result<(), String> {
     for _ in 0..texts {
         let at = random_text(random, &mut s);
         let room = if random.below(4) == 0 {
-            random.below(4)
+            random.place(4)
         } else {
             16
         };
@@ -42,21 +43,19 @@ pub fn compare(random: &mut Random, texts: usize) -> Result<(), String> {
     Ok(())
 }
 
-fn side<'a>(name: &'static str, line_at: LineAt, s: &'a [u8]) -> Side<'a> {
+/// A side that reads one line after the other.
+fn over<'a>(name: &'static str, line_at: LineAt, s: &'a [u8]) -> Named<'a> {
     let mut rows = [[0; 2]; ROOM];
-    Side {
-        name,
-        run: Box::new(move || {
-            let mut at = 0;
-            let mut sum = 0;
-            while at < s.len() {
-                let line = line_at(s, at, s[at], &mut rows);
-                sum += line.count + line.worst + line.largest % 16 + rows[0][1] % 16;
-                at = line.next as usize;
-            }
-            sum
-        }),
-    }
+    side(name, move || {
+        let mut at = 0;
+        let mut sum = 0;
+        while at < s.len() {
+            let line = line_at(s, at, s[at], &mut rows);
+            sum += line.count + line.worst + line.largest % 16 + rows[0][1] % 16;
+            at = line.next as usize;
+        }
+        sum
+    })
 }
 
 pub fn race(random: &mut Random) {
@@ -67,9 +66,9 @@ pub fn race(random: &mut Random) {
             name,
             s.len(),
             vec![
-                side("tight plain Rust", tight::line_at, &s),
-                side("proved, `line_at`", proved::line_at, &s),
-                side("`split` and `parse`", common::line_at, &s),
+                over("tight plain Rust", tight::line_at, &s),
+                over("proved, `line_at`", proved::line_at, &s),
+                over("`split` and `parse`", common::line_at, &s),
             ],
         );
     }

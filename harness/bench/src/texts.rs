@@ -1,36 +1,6 @@
 //! Lines to read and to write: for timing, and random ones for comparing.
 
-/// A small generator of random numbers; the same seed gives the same texts.
-pub struct Random(u64);
-
-impl Random {
-    pub fn new(seed: u64) -> Random {
-        Random(seed)
-    }
-
-    pub fn next(&mut self) -> u64 {
-        self.0 = self.0.wrapping_add(0x9e3779b97f4a7c15);
-        let mut z = self.0;
-        z = (z ^ (z >> 30)).wrapping_mul(0xbf58476d1ce4e5b9);
-        z = (z ^ (z >> 27)).wrapping_mul(0x94d049bb133111eb);
-        z ^ (z >> 31)
-    }
-
-    /// A number below `n`.
-    pub fn below(&mut self, n: usize) -> usize {
-        (self.next() % n as u64) as usize
-    }
-
-    /// A number of exactly so many digits, 1 to 20.
-    pub fn of_digits(&mut self, digits: u32) -> u64 {
-        if digits == 1 {
-            return self.next() % 10;
-        }
-        let least = 10u64.pow(digits - 1);
-        let most = least.checked_mul(10).map_or(u64::MAX, |n| n - 1);
-        least + self.next() % (most - least + 1)
-    }
-}
+use sheets::Random;
 
 /// So many lines a sample that the processor can't learn their branches by heart.
 pub const LINES: usize = 4096;
@@ -59,8 +29,8 @@ pub fn lines(random: &mut Random, sort: Sort, count: usize) -> Vec<Rows> {
         .map(|i| {
             let (letter, fields) = match i % 8 {
                 0 => (b'K', 7),
-                1 => (b'R', 3 * (1 + random.below(4))),
-                2 | 3 | 4 => (b'T', 8),
+                1 => (b'R', 3 * (1 + random.place(4))),
+                2..=4 => (b'T', 8),
                 _ => (b'X', 13),
             };
             let mut rows: Vec<[u64; 2]> = (0..fields)
@@ -97,15 +67,15 @@ pub fn text(line: &Rows) -> Vec<u8> {
 
 /// Up to `most` random rows, some of them empty or malformed.
 pub fn random_rows(random: &mut Random, most: usize) -> Vec<[u64; 2]> {
-    (0..random.below(most + 1))
+    (0..random.place(most + 1))
         .map(|_| match random.below(8) {
-            0 => [1 + random.next() % 2, 0],
-            1 => [0, u64::MAX - random.next() % 3],
+            0 => [1 + random.number() % 2, 0],
+            1 => [0, u64::MAX - random.number() % 3],
             2 | 3 => {
                 let digits = 1 + random.below(20) as u32;
                 [0, random.of_digits(digits)]
             }
-            _ => [0, random.next() % 10],
+            _ => [0, random.number() % 10],
         })
         .collect()
 }
@@ -135,7 +105,7 @@ pub fn random_text(random: &mut Random, text_out: &mut Vec<u8>) -> usize {
     let way = random.below(4);
     if way == 0 {
         for _ in 0..random.below(12) {
-            text_out.extend_from_slice(PIECES[random.below(PIECES.len())]);
+            text_out.extend_from_slice(random.of(&PIECES));
         }
         if random.below(2) == 0 {
             text_out.insert(0, b'K');
@@ -148,22 +118,22 @@ pub fn random_text(random: &mut Random, text_out: &mut Vec<u8>) -> usize {
     }
     if way >= 2 {
         for _ in 0..1 + random.below(3) {
-            let place = random.below(text_out.len() + 1);
+            let place = random.place(text_out.len() + 1);
             match random.below(4) {
                 0 => text_out.truncate(place),
                 1 if place < text_out.len() => {
                     text_out.remove(place);
                 }
-                2 if place < text_out.len() => text_out[place] = random.next() as u8,
+                2 if place < text_out.len() => text_out[place] = random.number() as u8,
                 _ => {
-                    let piece = PIECES[random.below(PIECES.len())];
+                    let piece = random.of(&PIECES);
                     text_out.splice(place..place, piece.iter().copied());
                 }
             }
         }
     }
     match random.below(8) {
-        0 => random.below(text_out.len() + 3),
+        0 => random.place(text_out.len() + 3),
         1 => text_out
             .iter()
             .position(|b| *b == b'\n')

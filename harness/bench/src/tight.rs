@@ -114,11 +114,7 @@ pub fn line_at(s: &[u8], at: usize, letter: u8, out: &mut [[u64; 2]]) -> Found {
 
 #[inline(always)]
 fn digits(n: u64) -> usize {
-    if n < 10 {
-        1
-    } else {
-        n.ilog10() as usize + 1
-    }
+    if n < 10 { 1 } else { n.ilog10() as usize + 1 }
 }
 
 fn line_length(rows: &[[u64; 2]]) -> usize {

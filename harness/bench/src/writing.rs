@@ -1,8 +1,9 @@
 //! The proved line writer beside plain Rust.
 
-use crate::race::{Side, Table};
-use crate::texts::{lines, random_rows, text, Random, Rows, Sort, LINES};
+use crate::table::{Named, Table, side};
+use crate::texts::{LINES, Rows, Sort, lines, random_rows, text};
 use crate::{common, proved, tight};
+use sheets::Random;
 
 type PutLine = fn(&mut [u8], usize, u8, &[[u64; 2]]) -> u64;
 
@@ -17,11 +18,11 @@ pub fn compare(random: &mut Random, texts: usize) -> Result<(), String> {
     let mut whole = 0;
     for _ in 0..texts {
         let rows = random_rows(random, 9);
-        let at = random.below(6);
+        let at = random.place(6);
         let room = if random.below(2) == 0 {
             256
         } else {
-            random.below(100)
+            random.place(100)
         };
         let mut out = [7u8; 256];
         let answer = proved::put_line(&mut out[..room], at, b'K', &rows);
@@ -42,18 +43,16 @@ pub fn compare(random: &mut Random, texts: usize) -> Result<(), String> {
     Ok(())
 }
 
-fn side<'a>(name: &'static str, put_line: PutLine, work: &'a [Rows], room: usize) -> Side<'a> {
+/// A side that writes one line after the other.
+fn over<'a>(name: &'static str, put_line: PutLine, work: &'a [Rows], room: usize) -> Named<'a> {
     let mut out = vec![0u8; room];
-    Side {
-        name,
-        run: Box::new(move || {
-            let mut at = 0;
-            for line in work {
-                at = put_line(&mut out, at, line.letter, &line.rows) as usize;
-            }
-            at as u64 + out[at / 2] as u64
-        }),
-    }
+    side(name, move || {
+        let mut at = 0;
+        for line in work {
+            at = put_line(&mut out, at, line.letter, &line.rows) as usize;
+        }
+        at as u64 + out[at / 2] as u64
+    })
 }
 
 pub fn race(random: &mut Random) {
@@ -66,21 +65,21 @@ pub fn race(random: &mut Random) {
             name,
             bytes,
             vec![
-                side("tight plain Rust", tight::put_line, &work, room),
-                side(
+                over("tight plain Rust", tight::put_line, &work, room),
+                over(
                     "the same, exact length first",
                     tight::put_line_exact,
                     &work,
                     room,
                 ),
-                side(
+                over(
                     "proved, `line_length` and `put_line`",
                     proved::put_line,
                     &work,
                     room,
                 ),
-                side("`write!`", common::put_line_write, &work, room),
-                side("`format!`", common::put_line_format, &work, room),
+                over("`write!`", common::put_line_write, &work, room),
+                over("`format!`", common::put_line_format, &work, room),
             ],
         );
     }

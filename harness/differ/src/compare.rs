@@ -3,10 +3,10 @@
 use crate::excuses::EXCUSES;
 use crate::judge::judge;
 use crate::reach::Reach;
-use crate::sides::{MOST, Sides, WRONG_LINE_1, files, printed};
+use crate::sides::{MOST, Sides, files};
 use lochkave::Question;
+use plain::printed;
 use std::collections::BTreeMap;
-use std::path::Path;
 
 /// A difference that nothing excuses, with the shortest sheet that shows it.
 struct Difference {
@@ -58,7 +58,7 @@ impl Run {
         let plain = self.sides.plain(question, sheet, length);
         let Some(plain) = plain else {
             self.differ("plain Rust alone", sheet, format!("{question:?}: it fails"));
-            return WRONG_LINE_1;
+            return plain::refused(1, 1);
         };
         let library = self.sides.library(question, sheet, length);
         if library != plain || !self.sides.same(length) {
@@ -114,8 +114,7 @@ impl Run {
 
     /// Compares plain Rust's refusal by 1 to 8, or that it has none, with that of the table of lines.
     fn judge(&mut self, sheet: &[u8], plain: u64) {
-        let refusal = Some((plain >> 32, plain & 0xffffffff));
-        let refusal = refusal.filter(|(number, _)| (1..=8).contains(number));
+        let refusal = plain::refusal(plain).filter(|(number, _)| (1..=8).contains(number));
         let judged = judge(sheet);
         if judged != refusal {
             let said = format!("table: {judged:?}, plain Rust: {refusal:?}");
@@ -162,21 +161,14 @@ impl Run {
 
     /// The sheets of examples/: all sides must give the answers derived by hand.
     pub fn examples(&mut self) {
-        let folder = Path::new(env!("CARGO_MANIFEST_DIR")).join("../../examples");
-        for entry in std::fs::read_dir(folder).unwrap() {
-            let path = entry.unwrap().path();
-            if path.extension().is_none_or(|e| e != "sheet") {
-                continue;
-            }
-            let sheet = std::fs::read(&path).unwrap();
-            let expected = std::fs::read(path.with_extension("answer")).unwrap();
-            let result = self.library(Question::Decide, &sheet, MOST);
+        for example in sheets::examples() {
+            let result = self.library(Question::Decide, &example.sheet, MOST);
             let answer = printed(result, &self.sides.theirs);
-            if answer != expected {
+            if answer != example.answer {
                 let said = String::from_utf8_lossy(&answer).into_owned();
-                self.differ("examples/ and plain Rust", &sheet, said);
+                self.differ("examples/ and plain Rust", &example.sheet, said);
             }
-            self.any("examples, answers derived by hand", &sheet, 100);
+            self.any("examples, answers derived by hand", &example.sheet, 100);
         }
     }
 

@@ -38,20 +38,16 @@ pub const EXCUSES: [Excuse; 1] = [(
 #[cfg(test)]
 mod tests {
     use super::output_requirement;
-    use std::{fs, path::Path};
+    use sheets::OUTPUT_REQUIREMENTS;
 
     fn example(name: &str) -> Vec<u8> {
-        let folder = Path::new(env!("CARGO_MANIFEST_DIR")).join("../../examples");
-        fs::read(folder.join(name).with_extension("sheet")).unwrap()
+        let mut examples = sheets::examples().into_iter();
+        examples.find(|example| example.name == name).unwrap().sheet
     }
 
     #[test]
     fn output_requirements_that_002_never_has() {
-        for name in [
-            "decision-28-gains",
-            "decision-28-maintains",
-            "decision-28-friendly",
-        ] {
+        for name in OUTPUT_REQUIREMENTS {
             assert!(output_requirement(&example(name)).is_some(), "{name}");
         }
     }

@@ -1,5 +1,4 @@
-//! Refusals 1 to 8 once more, by a table of lines: slow, with strings, and in no other way like `plain`. A third opinion on any bytes,
-//! and, until the library decides D sheets, the only second one on theirs.
+//! Refusals 1 to 8 once more, by a table of lines: slow, with strings, and in no other way like `plain`. A third opinion on any bytes.
 
 /// Number and line.
 pub type Refusal = (u64, u64);

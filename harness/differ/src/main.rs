@@ -3,7 +3,7 @@
 //!     cargo run --release --offline -p differ               the whole run
 //!     cargo run --release --offline -p differ -- --short    the gate's part of it
 //!     cargo run --release --offline -p differ -- --sheets ACCEPTED DAMAGED SEED
-//!     cargo run --release --offline -p differ -- --list     writes the fixed list, tests/oracle.txt
+//!     cargo run --release --offline -p differ -- --list     writes the fixed list, tests/oracle.stdin and tests/oracle.stdout
 //!     cargo run --release --offline -p differ -- --race     the benchmark
 //!
 //! The last line says how many differences no predicate excuses; the status is 1 where there is one, and where an outcome

@@ -5,32 +5,22 @@ use plain::Room;
 use sheets::{Line, Random, Sheet};
 use std::hint::black_box;
 use std::process::ExitCode;
-use std::time::Instant;
+use timing::{Joined, Key, Side, best, columns};
 
 const SHEETS: usize = 64;
 const ROUNDS: usize = 400;
 /// The files over stand-ins take so much longer that fewer rounds do.
 const FILE_ROUNDS: usize = 20;
 
-type Decide<'a> = Box<dyn FnMut(&[u8]) -> u64 + 'a>;
-
-/// The best time of each side over all sheets, in ns a sheet. Samples are interleaved.
-fn best(sheets: &[Vec<u8>], sides: &mut [(Decide, usize)]) -> Vec<f64> {
-    let mut best = vec![f64::INFINITY; sides.len()];
-    for round in 0..ROUNDS {
-        for ((decide, rounds), best) in sides.iter_mut().zip(&mut best) {
-            if round >= *rounds {
-                continue;
-            }
-            let start = Instant::now();
-            for sheet in sheets {
-                black_box(decide(black_box(sheet)));
-            }
-            let time = start.elapsed().as_nanos() as f64;
-            *best = best.min(time / sheets.len() as f64);
-        }
-    }
-    best
+/// A side that decides one sheet after the other.
+fn side<'a>(
+    rounds: usize,
+    sheets: &'a [Vec<u8>],
+    mut decide: impl FnMut(&[u8]) -> u64 + 'a,
+) -> Side<'a> {
+    let mut one = move |sheet: &Vec<u8>| black_box(decide(black_box(sheet)));
+    let run = Box::new(move || sheets.iter().map(&mut one).sum());
+    Side { rounds, run }
 }
 
 /// ns a sheet: plain Rust, plain Rust with the exact length first, the library in a lent room and in its own, the files.
@@ -40,29 +30,24 @@ fn race_one(sheets: &[Vec<u8>]) -> [f64; 5] {
     let mut lent_room = lochkave::Room::new();
     let (mut plain_room, mut exact_room) = (Room::new(), Room::new());
     let files = if oracle::AVAILABLE { FILE_ROUNDS } else { 0 };
-    let mut sides: Vec<(Decide, usize)> = vec![
-        (
-            Box::new(|s| plain::decide(s, &mut plain_out, &mut plain_room)),
-            ROUNDS,
-        ),
-        (
-            Box::new(|s| plain::decide_exact(s, &mut exact_out, &mut exact_room)),
-            ROUNDS,
-        ),
-        (
-            Box::new(|s| {
-                let result = lent_room.decide_into(s, &mut lent_out);
-                result.map_or(0, |n| n as u64)
-            }),
-            ROUNDS,
-        ),
-        (
-            Box::new(|s| lochkave::decide_into(s, &mut own_out).map_or(0, |n| n as u64)),
-            ROUNDS,
-        ),
-        (Box::new(|s| oracle::decide(s).len() as u64), files),
+    let mut sides = [
+        side(ROUNDS, sheets, |s| {
+            plain::decide(s, &mut plain_out, &mut plain_room)
+        }),
+        side(ROUNDS, sheets, |s| {
+            plain::decide_exact(s, &mut exact_out, &mut exact_room)
+        }),
+        side(ROUNDS, sheets, |s| {
+            let result = lent_room.decide_into(s, &mut lent_out);
+            result.map_or(0, |n| n as u64)
+        }),
+        side(ROUNDS, sheets, |s| {
+            lochkave::decide_into(s, &mut own_out).map_or(0, |n| n as u64)
+        }),
+        side(files, sheets, |s| oracle::decide(s).len() as u64),
     ];
-    best(sheets, &mut sides).try_into().unwrap()
+    let times: [f64; 5] = best(&mut sides).try_into().unwrap();
+    times.map(|time| time / sheets.len() as f64)
 }
 
 fn cell(time: f64, base: f64) -> String {
@@ -91,56 +76,43 @@ fn head(what: &str) {
     println!("|---|---|---|---|---|---|---|");
 }
 
-fn columns(n: usize, from: u64) -> Vec<u64> {
-    (0..n as u64).flat_map(|i| [0, from + i, i]).collect()
+/// Keys of a list in another order.
+fn moved(random: &mut Random, keys: &[Key]) -> Vec<Key> {
+    let mut keys = keys.to_vec();
+    random.shuffle(&mut keys);
+    keys
 }
 
-/// Keys of a list in another order.
-fn moved(random: &mut Random, keys: &[u64]) -> Vec<u64> {
-    let mut list: Vec<&[u64]> = keys.chunks(3).collect();
-    for i in (1..list.len()).rev() {
-        list.swap(i, random.place(i + 1));
-    }
-    list.concat()
+fn directions(random: &mut Random, n: usize) -> Vec<u64> {
+    (0..n).map(|_| random.below(4)).collect()
 }
 
 /// A sort-merge join of n pairs whose keys are asked for in another order, with so many rewriting pairs that match none.
 fn key_join(random: &mut Random, n: usize, rules: usize) -> Vec<u8> {
-    let (l, g) = (columns(n, 100), columns(n, 500));
-    let r = moved(random, &l);
-    let s: Vec<u64> = (0..n).map(|_| random.below(4)).collect();
-    let empty = |letter| Line::new(letter, []);
-    Sheet(vec![
-        Line::new(b'K', [2, 0, 0, 0, 0, 0, 2]),
-        Line::new(b'R', r),
-        Line::new(b'L', l),
-        Line::new(b'G', g),
-        Line::new(b'S', s),
-        Line::new(b'W', columns(2 * rules, 900)),
-        empty(b'O'),
-        empty(b'A'),
-        empty(b'M'),
-        empty(b'C'),
-        empty(b'C'),
-    ])
-    .text()
+    let (left, right) = (columns(n, 100), columns(n, 500));
+    let joined = Joined {
+        required: moved(random, &left),
+        left,
+        right,
+        rules: columns(2 * rules, 900),
+    };
+    joined.sheet(directions(random, n), &[])
 }
 
 /// The same as an I sheet: both sides hashed, the left one by other keys, the right one by its own in another order.
 fn input_join(random: &mut Random, n: usize, rules: usize) -> Vec<u8> {
-    let (l, g) = (columns(n, 100), columns(n, 500));
-    let h = [vec![1], columns(n, 700)].concat();
-    let r = [vec![1], moved(random, &g)].concat();
-    let s: Vec<u64> = (0..n).map(|_| random.below(4)).collect();
+    let (left, right) = (columns(n, 100), columns(n, 500));
+    let hashed = |keys: Vec<Key>| [vec![1], keys.concat()].concat();
+    let right_hashed = hashed(moved(random, &right));
     Sheet(vec![
         Line::new(b'I', [2, 0]),
-        Line::new(b'L', l),
-        Line::new(b'G', g),
-        Line::new(b'S', s),
-        Line::new(b'H', h),
-        Line::new(b'N', r),
-        Line::new(b'W', columns(2 * rules, 900)),
-        Line::new(b'V', columns(2 * rules, 900)),
+        Line::new(b'L', left.concat()),
+        Line::new(b'G', right.concat()),
+        Line::new(b'S', directions(random, n)),
+        Line::new(b'H', hashed(columns(n, 700))),
+        Line::new(b'N', right_hashed),
+        Line::new(b'W', columns(2 * rules, 900).concat()),
+        Line::new(b'V', columns(2 * rules, 900).concat()),
     ])
     .text()
 }

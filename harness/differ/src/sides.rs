@@ -1,13 +1,12 @@
 //! The sides that are compared, each asked in the same way.
 
 use lochkave::{Question, Refusal, ask_into};
-use plain::Room;
+use plain::{Room, refused, written};
 use std::panic::{AssertUnwindSafe, catch_unwind};
 
 pub const MOST: usize = 65536;
 /// What an output is filled with before a call.
 const FILL: u8 = 126;
-pub const WRONG_LINE_1: u64 = 1 << 32 | 1;
 
 /// Buffers and room, lent once.
 pub struct Sides {
@@ -18,33 +17,16 @@ pub struct Sides {
     pub theirs: Vec<u8>,
 }
 
-fn refusal(result: u64) -> Option<(u64, u64)> {
-    let number = result >> 32;
-    (number > 0).then_some((number, result & 0xffffffff))
-}
-
 fn number(result: Result<usize, Refusal>) -> u64 {
     match result {
         Ok(length) => length as u64,
-        Err(refusal) => (refusal.number as u64) << 32 | refusal.line as u64,
-    }
-}
-
-/// What the program prints for a result.
-pub fn printed(result: u64, out: &[u8]) -> Vec<u8> {
-    match refusal(result) {
-        None => out[..result as usize].to_vec(),
-        Some((number, line)) => format!("e,{number},{line}\n").into_bytes(),
+        Err(refusal) => refused(refusal.number.into(), refusal.line as usize),
     }
 }
 
 /// Whether every byte behind the answer is as it was.
 fn untouched(result: u64, out: &[u8]) -> bool {
-    let written = match refusal(result) {
-        None => result as usize,
-        Some(_) => 0,
-    };
-    out[written..].iter().all(|b| *b == FILL)
+    out[written(result)..].iter().all(|b| *b == FILL)
 }
 
 impl Sides {

@@ -287,18 +287,8 @@ mod tests {
 
     /// The sheets of examples/: of all three kinds, accepted and refused.
     fn sheets() -> Vec<Vec<u8>> {
-        let folder = concat!(env!("CARGO_MANIFEST_DIR"), "/../../examples");
-        let paths = std::fs::read_dir(folder)
-            .unwrap()
-            .map(|e| e.unwrap().path());
-        let mut paths: Vec<_> = paths
-            .filter(|path| path.extension().is_some_and(|e| e == "sheet"))
-            .collect();
-        paths.sort();
-        paths
-            .iter()
-            .map(|path| std::fs::read(path).unwrap())
-            .collect()
+        let examples = ::sheets::examples().into_iter();
+        examples.map(|example| example.sheet).collect()
     }
 
     /// The same result, and every byte of the output the same, with much room for the answer and with little.

@@ -7,7 +7,7 @@ mod rows;
 use proved::{Change, Node};
 use rows::{Row, node_of, row_of};
 use sheets::{Line, Random, Sheet};
-use std::{fs, path::Path, process::ExitCode};
+use std::process::ExitCode;
 
 const GENERATED: usize = 1000;
 const ANY: usize = 2000;
@@ -43,11 +43,8 @@ fn tree(sheet: &Sheet) -> Vec<Row> {
 }
 
 fn examples() -> Vec<Vec<Row>> {
-    let folder = Path::new(env!("CARGO_MANIFEST_DIR")).join("../../examples");
-    let paths = fs::read_dir(folder).unwrap().map(|e| e.unwrap().path());
-    paths
-        .filter(|path| path.extension().is_some_and(|e| e == "sheet"))
-        .map(|path| fs::read(path).unwrap())
+    let texts = sheets::examples().into_iter().map(|example| example.sheet);
+    texts
         .filter(|text| text.starts_with(b"D,") && !text.windows(2).any(|w| w == b"\n\n"))
         .map(|text| tree(&Sheet::read(&text)))
         .collect()

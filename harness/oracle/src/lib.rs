@@ -67,6 +67,12 @@ pub const AVAILABLE: bool = cfg!(files);
 pub const DISTRIBUTION: &str = env!("DISTRIBUTION");
 pub const COMPILED_DISTRIBUTION: &str = concat!(env!("OUT_DIR"), "/enforce_distribution.rs");
 
+/// Whether this is the answer to an accepted sheet: a decision, or refusal 9, 10 or 11.
+pub fn is_accepted(answer: &[u8]) -> bool {
+    let refusals = [&b"e,9,0\n"[..], b"e,10,0\n", b"e,11,0\n"];
+    answer[0] != b'e' || refusals.contains(&answer)
+}
+
 /// The answer to an accepted sheet, or `e,number,0` for refusals 9, 10 and 11.
 #[cfg(files)]
 pub fn decide(text: &[u8]) -> Vec<u8> {

@@ -1,46 +1,20 @@
 //! Cases in replay's form: the fixed list, and those derived by hand. The files give the answers that stand there to accepted sheets.
 
-use std::{fs, path::Path};
+use sheets::{Case, OUTPUT_REQUIREMENTS};
 
-fn line<'a>(text: &mut &'a [u8]) -> &'a str {
-    let end = text.iter().position(|b| *b == b'\n').unwrap();
-    let (line, rest) = text.split_at(end);
-    *text = &rest[1..];
-    std::str::from_utf8(line).unwrap()
+/// Whether the files are asked about a case: a sheet that is accepted, isn't written again, and has no answers that 002 never has.
+fn is_asked(case: &Case) -> bool {
+    let excused = OUTPUT_REQUIREMENTS.contains(&case.name.as_str());
+    oracle::is_accepted(&case.answer) && case.entry != b'w' && !excused
 }
 
-fn answer<'a>(text: &mut &'a [u8]) -> &'a [u8] {
-    line(text);
-    let end = (0..text.len()).find(|i| text[*i] == b'#' && (*i == 0 || text[*i - 1] == b'\n'));
-    let (answer, rest) = text.split_at(end.unwrap_or(text.len()));
-    *text = rest;
-    answer
-}
-
-/// Asks the files about each case that is decided or refused by 9, 10 or 11. How many there were.
-fn ask(stdin: &str, stdout: &str) -> usize {
-    let top = Path::new(env!("CARGO_MANIFEST_DIR")).join("../..");
-    let stdin = fs::read(top.join(stdin)).unwrap();
-    let stdout = fs::read(top.join(stdout)).unwrap();
-    let (mut cases, mut answers, mut asked) = (&stdin[..], &stdout[..], 0);
-    while !cases.is_empty() {
-        let name = line(&mut cases);
-        let head: Vec<&str> = line(&mut cases).split(',').collect();
-        let (sheet, rest) = cases.split_at(head[2].parse().unwrap());
-        cases = rest;
-        let expected = answer(&mut answers);
-        let refused = expected[0] == b'e';
-        let work = [&b"e,9,0\n"[..], b"e,10,0\n", b"e,11,0\n"].contains(&expected);
-        let written_again = head[0] == "w";
-        // Output requirements that 002 never has, see docs/DIFFERENCES.md.
-        let excused = name.starts_with("# decision-28-");
-        if (!refused || work) && !written_again && !excused {
-            assert_eq!(oracle::decide(sheet), expected, "{name}");
-            asked += 1;
-        }
+/// Asks the files about the cases. How many there were.
+fn ask(cases: Vec<Case>) -> usize {
+    let asked: Vec<Case> = cases.into_iter().filter(is_asked).collect();
+    for case in &asked {
+        assert_eq!(oracle::decide(&case.sheet), case.answer, "{}", case.name);
     }
-    assert!(answers.is_empty());
-    asked
+    asked.len()
 }
 
 #[test]
@@ -48,7 +22,7 @@ fn the_fixed_list() {
     if !oracle::AVAILABLE {
         return eprintln!("NOT run: the three files are not at hand");
     }
-    let asked = ask("tests/oracle.stdin", "tests/oracle.stdout");
+    let asked = ask(sheets::cases("tests/oracle.stdin", "tests/oracle.stdout"));
     assert!(asked > 150, "{asked} sheets");
 }
 
@@ -57,7 +31,7 @@ fn cases_derived_by_hand() {
     if !oracle::AVAILABLE {
         return eprintln!("NOT run: the three files are not at hand");
     }
-    let asked = ask("crates/replay/stdin", "crates/replay/stdout");
+    let asked = ask(sheets::replay_cases());
     assert!(asked > 200, "{asked} sheets");
     println!("{asked} sheets");
 }

@@ -4,10 +4,32 @@ use crate::line::{ABSENT, Line, NARROW, WIDE, line_at};
 use crate::write::{Answer, Sink};
 use crate::{MOST_BYTES, Room, refused};
 
+/// Kinds of operators.
+pub const OTHER: u64 = 0;
+pub const MERGE: u64 = 1;
+pub const COALESCE: u64 = 2;
+pub const REPARTITION: u64 = 3;
+pub const UNKNOWN_REPARTITION: u64 = 4;
+pub const HASH_JOIN: u64 = 5;
+pub const SORT_MERGE_JOIN: u64 = 6;
+pub const WINDOW: u64 = 7;
+pub const PARTIAL_AGGREGATE: u64 = 8;
+pub const UNION: u64 = 9;
+pub const OUTPUT_REQUIREMENT: u64 = 10;
+pub const SORT: u64 = 11;
+pub const KEYED_EXCHANGE: u64 = 12;
+pub const ROUND_ROBIN: u64 = 13;
+pub const INTERLEAVE: u64 = 14;
+
+/// What is required of a child.
+pub const UNSPECIFIED: u64 = 0;
+pub const SINGLE: u64 = 1;
+pub const KEYED: u64 = 2;
+
 pub const MOST_CHILDREN: usize = 8;
 const MOST_NODES: usize = 256;
 const FORMS: usize = 16;
-const LAST_KIND: u64 = 11;
+const LAST_KIND: u64 = SORT;
 const MOST_TARGET: u64 = 4096;
 
 /// A T line. What the decision changes is changed in place.
@@ -166,15 +188,15 @@ fn read_node(lines: &mut Lines, room: &mut Room, place: usize) -> Result<u64, u6
     lines.next(b'T', 8, Some(3), room)?;
     let [kind, count, keeps, limit, order, tracked, need, children] =
         room.fields[..8].try_into().unwrap();
-    if (kind == 3 || kind == 4) && limit != ABSENT {
+    if (kind == REPARTITION || kind == UNKNOWN_REPARTITION) && limit != ABSENT {
         return lines.refuse(2);
     }
     let too_large = place >= MOST_NODES || children > MOST_CHILDREN as u64;
-    let undefined = kind > LAST_KIND || !marks(&[keeps, tracked]) || need > 2;
+    let undefined = kind > LAST_KIND || !marks(&[keeps, tracked]) || need > KEYED;
     lines.judge(too_large, undefined)?;
     let fit = match kind {
-        0 | 9 => true,
-        5 | 6 => children == 2,
+        OTHER | UNION => true,
+        HASH_JOIN | SORT_MERGE_JOIN => children == 2,
         _ => children == 1,
     };
     if !fit {
@@ -213,7 +235,9 @@ fn read_nodes(lines: &mut Lines, room: &mut Room) -> Result<(), u64> {
         x.nodes[i].end = end;
     }
     x.worked = 0;
-    while x.nodes[x.worked].limit == ABSENT && (1..=4).contains(&x.nodes[x.worked].kind) {
+    while x.nodes[x.worked].limit == ABSENT
+        && (MERGE..=UNKNOWN_REPARTITION).contains(&x.nodes[x.worked].kind)
+    {
         x.worked += 1;
     }
     let mut at = x.worked + 1;

@@ -52,8 +52,31 @@ impl Room {
     }
 }
 
-fn refused(number: u64, line: usize) -> u64 {
+/// A refusal as a result.
+pub fn refused(number: u64, line: usize) -> u64 {
     number << 32 | line as u64
+}
+
+/// Number and line of a result that is a refusal.
+pub fn refusal(result: u64) -> Option<(u64, u64)> {
+    let number = result >> 32;
+    (number > 0).then_some((number, result & 0xffffffff))
+}
+
+/// How many bytes of the output a result says were written.
+pub fn written(result: u64) -> usize {
+    match refusal(result) {
+        None => result as usize,
+        Some(_) => 0,
+    }
+}
+
+/// What the program prints for a result.
+pub fn printed(result: u64, out: &[u8]) -> Vec<u8> {
+    match refusal(result) {
+        None => out[..written(result)].to_vec(),
+        Some((number, line)) => format!("e,{number},{line}\n").into_bytes(),
+    }
 }
 
 #[inline(always)]

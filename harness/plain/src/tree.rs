@@ -1,25 +1,13 @@
 //! D sheets: `ensure_distribution`.
 
-use crate::exchange::{self, Child, Exchange, MOST_CHILDREN, Node, Row, put_limit};
+use crate::exchange::{
+    self, COALESCE, Child, Exchange, HASH_JOIN, INTERLEAVE, KEYED, KEYED_EXCHANGE, MERGE,
+    MOST_CHILDREN, Node, OUTPUT_REQUIREMENT, PARTIAL_AGGREGATE, REPARTITION, ROUND_ROBIN, Row,
+    SINGLE, SORT, SORT_MERGE_JOIN, UNION, UNKNOWN_REPARTITION, UNSPECIFIED, WINDOW, put_limit,
+};
 use crate::line::ABSENT;
 use crate::write::{Answer, Sink, answered};
 use crate::{Room, refused};
-
-const MERGE: u64 = 1;
-const COALESCE: u64 = 2;
-const REPARTITION: u64 = 3;
-const UNKNOWN_REPARTITION: u64 = 4;
-const WINDOW: u64 = 7;
-const PARTIAL_AGGREGATE: u64 = 8;
-const UNION: u64 = 9;
-const OUTPUT_REQUIREMENT: u64 = 10;
-const SORT: u64 = 11;
-const KEYED_EXCHANGE: u64 = 12;
-const ROUND_ROBIN: u64 = 13;
-const INTERLEAVE: u64 = 14;
-
-const SINGLE: u64 = 1;
-const KEYED: u64 = 2;
 
 /// Bits of a form.
 const SPLIT: usize = 1;
@@ -91,7 +79,7 @@ struct Tree<'a> {
     states: [State; MOST_CHILDREN],
 }
 
-/// The fields that differ from child to child in what is put on it.
+/// What is asked of a child, and whether some child must be hashed.
 struct Asked {
     need: u64,
     hash_necessary: bool,
@@ -157,8 +145,8 @@ impl Tree<'_> {
         let files_met = s.files > 0 && node.count >= s.files;
         let kind = self.worked().kind;
         let allow_subset = (node.count >= s.subset || files_met && node.count < s.target)
-            && kind != 5
-            && kind != 6
+            && kind != HASH_JOIN
+            && kind != SORT_MERGE_JOIN
             && !(node.need == KEYED && child.grouping == 1);
         let [_, _, aggexact, aggsubset] = self.x.facts;
         let answered = if allow_subset { aggsubset } else { aggexact } == 1;
@@ -229,7 +217,7 @@ impl Tree<'_> {
                 }
             }
             KEYED if self.needs_exchange(i, asked, &row) => KEYED_EXCHANGE,
-            0 if asked.add_roundrobin && row.count < self.settings.target => ROUND_ROBIN,
+            UNSPECIFIED if asked.add_roundrobin && row.count < self.settings.target => ROUND_ROBIN,
             _ => return Ok(()),
         };
         let form = match kind {
@@ -303,7 +291,7 @@ impl Tree<'_> {
             && row.fplain == 1;
         if child.entries == 0 {
             let replaced = match need {
-                0 => child.maintains == 0 || kind == OUTPUT_REQUIREMENT,
+                UNSPECIFIED => child.maintains == 0 || kind == OUTPUT_REQUIREMENT,
                 _ => child.maintains == 0 && !streams,
             };
             if replaced {

@@ -23,12 +23,6 @@ fn some_keys(random: &mut Random, n: usize, names: u64) -> Vec<Expr> {
     (0..n).map(|_| some_expr(random, names)).collect()
 }
 
-fn shuffle<T>(random: &mut Random, list: &mut [T]) {
-    for i in (1..list.len()).rev() {
-        list.swap(i, random.place(i + 1));
-    }
-}
-
 /// A list that fits the keys of a side, or most of them, in another order or another altogether.
 fn asked(random: &mut Random, l: &[Expr], g: &[Expr], names: u64) -> Vec<Expr> {
     let mut r = match random.below(2) {
@@ -37,7 +31,7 @@ fn asked(random: &mut Random, l: &[Expr], g: &[Expr], names: u64) -> Vec<Expr> {
     };
     match random.below(4) {
         0 => {}
-        1 => shuffle(random, &mut r),
+        1 => random.shuffle(&mut r),
         _ => {
             for _ in 0..random.below(3) {
                 if !r.is_empty() {
@@ -130,7 +124,7 @@ fn required(
         _ if random.below(10) == 0 => vec![],
         3 if o.len() > 1 && random.below(4) == 0 => {
             let mut r = columns;
-            shuffle(random, &mut r);
+            random.shuffle(&mut r);
             let place = 1 + random.place(r.len() - 1);
             r[place] = PLACEHOLDER;
             r

@@ -1,14 +1,16 @@
 //! Sheets to compare on: accepted ones of every kind, small and large, with and without the facts that no plan gives; and damaged
-//! copies. The same seed gives the same sheets.
+//! copies. The same seed gives the same sheets. And those that stand in the repository with their answers.
 
 mod damage;
 mod exchanges;
 mod keys;
+mod known;
 mod random;
 
 pub use damage::damage;
 pub use exchanges::exchange_sheet;
 pub use keys::{input_sheet, key_sheet, short_key_sheets};
+pub use known::{Case, Example, OUTPUT_REQUIREMENTS, cases, examples, replay_cases, top};
 pub use random::Random;
 
 /// A line: its letter and its fields, nothing for an empty one.

@@ -28,17 +28,25 @@ impl Random {
         list[self.place(list.len())]
     }
 
+    /// Brings a list into another order, or by chance the same.
+    pub fn shuffle<T>(&mut self, list: &mut [T]) {
+        for i in (1..list.len()).rev() {
+            list.swap(i, self.place(i + 1));
+        }
+    }
+
     /// A mark that is 1 so many times in 8.
     pub fn mark(&mut self, eighths: u64) -> u64 {
         (self.below(8) < eighths) as u64
     }
 
-    /// A number of exactly so many digits, 1 to 19.
+    /// A number of exactly so many digits, 1 to 20.
     pub fn of_digits(&mut self, digits: u32) -> u64 {
         if digits == 1 {
             return self.below(10);
         }
         let least = 10u64.pow(digits - 1);
-        least + self.below(9 * least)
+        let most = least.checked_mul(10).map_or(u64::MAX, |n| n - 1);
+        least + self.below(most - least + 1)
     }
 }
