@@ -10,6 +10,7 @@ use Rattle.linekinds.specs.Reading.{row_value, row_values, packs, Small}
 use Rattle.std.specs.Prelude.{slice_index, slice_index_or}
 use lib.Seq.{take-length, length-take-le, drop_at}
 use Rattle.std.specs.Simd.{first_chunks}
+use Rattle.linekinds.proofs.Threes.{by_threes}
 use Rattle.std.proofs.lemmas.List.{drop-map, get_or-append_right}
 
 pub small_at : (ns : List ℕ) (i : ℕ) → Small ns → i < length ns → get_or ns i 0 < 65536
@@ -24,14 +25,9 @@ pack_three rs = packed (slice_index (slice_index_or rs 0 []) 1) (slice_index (sl
 -- all rows, three by three
 pub threes_packed : (k : ℕ) (rs : List (List ℕ)) → k ≡ length rs / 3 → map pack_three (first_chunks 3 k rs) ≡ packs (row_values rs)
 unfolding packs
-threes_packed zero [] h = refl
-threes_packed zero (a ∷ []) h = refl
-threes_packed zero (a ∷ b ∷ []) h = refl
-threes_packed zero (a ∷ b ∷ c ∷ rs) h = absurd (omega arith)
-threes_packed (suc k) [] h = absurd (omega arith)
-threes_packed (suc k) (a ∷ []) h = absurd (omega arith)
-threes_packed (suc k) (a ∷ b ∷ []) h = absurd (omega arith)
-threes_packed (suc k) (a ∷ b ∷ c ∷ rs) h = ap (λ (ns : List ℕ). pack_three (a ∷ b ∷ c ∷ []) ∷ ns) (threes_packed k rs (omega arith))
+threes_packed =
+    by_threes (λ k rs. map pack_three (first_chunks 3 k rs) ≡ packs (row_values rs)) refl (λ a. refl) (λ a b. refl)
+    (λ k a b c rs e. ap (λ (ns : List ℕ). pack_three (a ∷ b ∷ c ∷ []) ∷ ns) e)
 
 -- whose numbers are small
 abbrev pub SmallThree : List (List ℕ) → Type 0

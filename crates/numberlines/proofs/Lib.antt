@@ -1,4 +1,3 @@
 pub mod Closed
 pub mod Numbers
 pub mod Operators
-pub mod Children

@@ -20,7 +20,7 @@ use Rattle.linekinds.proofs.PlainLines.{small_wide, line_text_lem, line_is, afte
 use Rattle.numberlines.specs.NumberLines.{Begins, OperatorLine, OperatorFound}
 use Rattle.numberlines.specs.Runs.{CommaAt, BegunTo, NumbersTo, EmptyTo, LastTo}
 use Rattle.numberlines.specs.declared.comma.Comma.{Comma}
-use Rattle.numberlines.proofs.Numbers.{up_small, goes_on, ends_there, longer_text, longer_within}
+use Rattle.numberlines.proofs.Numbers.{goes_on, ends_there, longer_text, longer_small}
 use Rattle.std.specs.Prelude.{Result, Ok, Err}
 use Rattle.numberlines.specs.declared.row.Unread.{Unread}
 use Rattle.numberlines.specs.declared.row.Unread.TheVariants.{Unusual}
@@ -95,14 +95,14 @@ module _ (letter : ℕ) (s : List ℕ) (at : ℕ) (row : List ℕ) (eleven : len
 
   pub operator_found :
       (from p' p q c : Comma) (xs ds es : List ℕ) (g : ℕ) → BegunTo s at letter (Ok from) → length xs ≡ 3 → length ds ≡ 1 → length es ≡ 2 →
-      NumbersTo 65535 from (Ok p') xs → EmptyTo p' (Ok p) → NumbersTo 65535 p (Ok q) ds → NumbersTo 65535 q (Ok c) es → (r : Result ℕ Unread) → LastTo c r g → OperatorFound letter s at row r (row_of row xs ds es g)
+      NumbersTo from (Ok p') xs → EmptyTo p' (Ok p) → NumbersTo p (Ok q) ds → NumbersTo q (Ok c) es → (r : Result ℕ Unread) → LastTo c r g → OperatorFound letter s at row r (row_of row xs ds es g)
   operator_found from p' p q c xs ds es g b i j k t a u v (Ok end) w =
-      let x = goes_on 65535 s (at + 1) from p' xs b.0 t in
+      let x = goes_on s (at + 1) from p' xs b.0 t in
       let here : CommaAt s (p'.at + 1) p = (a.0 ∙ x.0.0, a.1) in
-      let y = goes_on 65535 s (p'.at + 1) p q ds here u in
-      let z = goes_on 65535 s q.at q c es y.0 v in
+      let y = goes_on s (p'.at + 1) p q ds here u in
+      let z = goes_on s q.at q c es y.0 v in
       let n = ends_there s c.at c end g z.0 w in
-      let l = longer_text 65535 s q.at es c.at z.1 g end 10 n in
-      line_of b.2 b.1 xs ds es g p'.at end i j k x.1.text x.1.ends (more_fields s ds (es ++ (g ∷ [])) (p'.at + 1) q.at end y.1.text l) n.ends (up_small xs x.1.within)
-      (small_append ds (es ++ (g ∷ [])) (up_small ds y.1.within) (up_small (es ++ (g ∷ [])) (longer_within 65535 s q.at es c.at z.1 g end 10 n))) w.1
+      let l = longer_text s q.at es c.at z.1 g end 10 n in
+      line_of b.2 b.1 xs ds es g p'.at end i j k x.1.text x.1.ends (more_fields s ds (es ++ (g ∷ [])) (p'.at + 1) q.at end y.1.text l) n.ends x.1.small
+      (small_append ds (es ++ (g ∷ [])) y.1.small (longer_small s q.at es c.at z.1 g end 10 n)) w.1
   operator_found from p' p q c xs ds es g b i j k t a u v (Err e) w = operator_unusual (Err e) _ (ap Err w)

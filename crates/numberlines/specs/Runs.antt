@@ -15,9 +15,9 @@ BegunTo s at letter (Ok c) = CommaAt s (at + 1) c × Begins s at letter × (lett
 BegunTo s at letter (Err u) = u ≡ Other
 
 -- numbers, and the comma after them
-abbrev pub NumbersTo : ℕ → Comma → Result Comma Unread → List ℕ → Type 0
-NumbersTo most from (Ok c) ns = (c.s.now ≡ from.s.now) × NumbersAt most from.s.now from.at ns c.at
-NumbersTo most from (Err u) ns = u ≡ Unusual
+abbrev pub NumbersTo : Comma → Result Comma Unread → List ℕ → Type 0
+NumbersTo from (Ok c) ns = (c.s.now ≡ from.s.now) × NumbersAt from.s.now from.at ns c.at
+NumbersTo from (Err u) ns = u ≡ Unusual
 
 -- the next comma, with nothing between them
 abbrev pub EmptyTo : Comma → Result Comma Unread → Type 0
@@ -26,5 +26,5 @@ EmptyTo from (Err u) = u ≡ Unusual
 
 -- the last number, and the LF after it
 abbrev pub LastTo : Comma → Result ℕ Unread → ℕ → Type 0
-LastTo from (Ok end) last = NumberAt 65535 from.s.now (from.at + 1) last end 10 × (end < 65536)
+LastTo from (Ok end) last = NumberAt from.s.now (from.at + 1) last end 10 × (end < 65536)
 LastTo from (Err u) last = u ≡ Unusual
