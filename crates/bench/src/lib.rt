@@ -11,8 +11,9 @@ ghost use Rattle.keys.specs.Lists.{permute};
 ghost use Rattle.keys.specs.Expressions.{gone_number};
 ghost use Rattle.bench.specs.Orders.{report_for, left_for, right_for};
 
+use keys::expr::GONE;
 use keys::list::{Positions, entry};
-use keys::reorder::{GONE, Pairs, Reordered, try_reorder};
+use keys::reorder::{Pairs, Reordered, try_reorder};
 use text::line::line_at;
 use text::write::{line_length, put_line};
 

@@ -11,7 +11,7 @@ use crate::held_join::HeldJoin;
 use crate::held_key::HeldKey;
 use adjust::adjust::adjust_input_keys_ordering;
 use adjust::sheet::Sheet;
-use inputs::current::join_keys_to_inputs;
+use inputs::followed::reorder_join_keys_to_inputs;
 use inputs::sheet::{Input, Inputs};
 use keys::answer::{Adjusted, Operator};
 use keys::inputs::Attempt;
@@ -59,7 +59,7 @@ pub fn follow(sheet: HeldJoin<'_>) -> Attempt
     ensures { let s = held_join_sheet sheet.entry.held.lists.now sheet.entry.held.counts.now in attempt_of s result ≡ reorder_join_keys_to_inputs s same_expr }
 {
     let head = sheet.list(HeldJoin::HEAD);
-    join_keys_to_inputs(Inputs {
+    let ordered = reorder_join_keys_to_inputs(Inputs {
         op: head[0],
         mode: head[1],
         left: sheet.list(HeldJoin::LEFT),
@@ -72,5 +72,6 @@ pub fn follow(sheet: HeldJoin<'_>) -> Attempt
         right_input: Input {
             list: sheet.list(HeldJoin::RIGHT_INPUT),
         },
-    })
+    });
+    ordered.attempt
 }

@@ -21,7 +21,7 @@ use Rattle.linekinds.specs.declared.kind.Codes.{Codes}
 use Rattle.linekinds.specs.declared.kind.Codes.TheVariants as C
 use Rattle.linekinds.specs.declared.lists.SheetKind.{SheetKind}
 use Rattle.linekinds.specs.declared.lists.SheetKind.TheVariants.{Key, Join}
-use Rattle.sheet.specs.KeySheets.{Reading, sheet, turned, ended, mark, row, head_of, pairs_serve, serves, unused_keys, key_lists_fit, join_lists_fit, key_whole, join_whole, read_key_sheet, read_join_sheet}
+use Rattle.sheet.specs.KeySheets.{Reading, sheet, turned, ended, mark, row, head_of, serves, unused_keys, key_lists_fit, join_lists_fit, key_whole, join_whole, read_key_sheet, read_join_sheet}
 use Rattle.sheet.specs.Held.{held_at, pair_rows, child_count, held_key_sheet, held_join_sheet, KeyHeld, JoinHeld, held_text}
 use Rattle.sheet.specs.SheetLines.{most_lists, whole_lines, refused_on, lines_by, ended_by, HeldLine, HeldLines}
 use Rattle.sheet.specs.ListFits.{direction_counts, key_counts_fit, input_counts, join_counts_fit, lists_fit, sheet_by, KeyRead, JoinRead, SheetRead}
@@ -112,7 +112,7 @@ module _ (lists : List (List ℕ)) (counts : List ℕ) (long : (i : ℕ) → i <
       let w : length (rules (pair_rows (held_at lists counts 5))) ≡ get_or counts 5 0 / 2
       = length-map (pair_rows (held_at lists counts 5)) rule ∙ pair_length (held_at lists counts 5) ∙ ap (λ (n : ℕ). n / 2) (sym (long 5 (omega arith))) in
       rw (e 2 (omega arith), e 3 (omega arith), ← long 4 (omega arith), w, ← long 6 (omega arith), ← long 7 (omega arith), e 8 (omega arith))
-      (regrouped (eqb (get_or counts 2 0) (get_or counts 3 0)) (direction_counts op (get_or counts 4 0) (get_or counts 2 0)) (serves (pairs_serve op mode) (get_or counts 2 0)) (serves (pairs_serve op mode) (get_or counts 5 0 / 2))
+      (regrouped (eqb (get_or counts 2 0) (get_or counts 3 0)) (direction_counts op (get_or counts 4 0) (get_or counts 2 0)) (serves (order_tried op mode) (get_or counts 2 0)) (serves (order_tried op mode) (get_or counts 5 0 / 2))
       (serves (eqb op 3) (get_or counts 6 0) && (serves (eqb op 3) (get_or counts 7 0) && serves (eqb op 4) (get_or counts 8 0))))
 
 -- H and N: a line's mark and keys

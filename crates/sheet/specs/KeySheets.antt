@@ -6,6 +6,7 @@ use Rattle.text.specs.declared.field.Field.{Field}
 use Rattle.text.specs.Text.{parts}
 use Rattle.keys.specs.Reorder.{Rule}
 use Rattle.keys.specs.Expressions.{Expression}
+use Rattle.keys.specs.Codes.{order_tried}
 use Rattle.keys.specs.Adjust.{KeySheet}
 use Rattle.keys.specs.Inputs.{JoinSheet}
 use Rattle.linekinds.specs.Lines.{Run, read, refused, rows_of, chain, at_end}
@@ -73,10 +74,6 @@ pub data Reading (A : Type 0) : Type 0 where
   sheet : A → Reading A
   turned : ℕ → ℕ → Reading A
 
--- L, G and W serve ops 0 (Partitioned) and 2
-abbrev pub pairs_serve : ℕ → ℕ → Bool
-pairs_serve op mode = eqb op 2 || (eqb op 0 && eqb mode 0)
-
 -- S is as long as L (op 2) or empty (others)
 abbrev pub directions_fit : ℕ → List ℕ → List Expression → Bool
 directions_fit op s l = cond (eqb op 2) (eqb (length s) (length l)) (eqb (length s) 0)
@@ -85,10 +82,10 @@ directions_fit op s l = cond (eqb op 2) (eqb (length s) (length l)) (eqb (length
 abbrev pub serves : Bool → ℕ → Bool
 serves b n = b || eqb n 0
 
--- number 5: lengths that differ, or an unused list that has entries
+-- number 5: lengths that differ, or an unused list that has entries; L, G and W serve where an order is tried
 unfoldable pub key_lists_fit : KeySheet → Bool
 key_lists_fit s =
-    let pairs : Bool = pairs_serve s.op s.mode in
+    let pairs : Bool = order_tried s.op s.mode in
     eqb (length s.left) (length s.right) && (directions_fit s.op s.directions s.left
     && (serves pairs (length s.left) && (serves pairs (length s.rewriting)
     && (serves (eqb s.op 3) (length s.groups) && (serves (eqb s.op 3) (length s.aggregates) && serves (eqb s.op 4) (length s.mapped))))))
