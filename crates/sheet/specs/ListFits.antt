@@ -5,6 +5,7 @@ use Rattle.keys.specs.Adjust.{KeySheet}
 use Rattle.keys.specs.Inputs.{JoinSheet}
 use Rattle.linekinds.specs.declared.lists.SheetKind.{SheetKind}
 use Rattle.linekinds.specs.declared.lists.SheetKind.TheVariants.{Key, Join}
+use Rattle.keys.specs.Codes.{order_tried}
 use Rattle.sheet.specs.KeySheets.{Reading, sheet, turned, mark, serves, read_key_sheet, read_join_sheet}
 use Rattle.sheet.specs.Held.{child_count, held_key_sheet, held_join_sheet, KeyHeld, JoinHeld, held_text}
 use Rattle.refusals.specs.declared.Refused.{Refused}
