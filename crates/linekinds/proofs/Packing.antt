@@ -1,14 +1,15 @@
 -- A turn of packing a line's numbers.
 -- Assumes nothing.
 use Prim.Native.Nat.{ℕ, zero, suc, ◌+◌, ◌-◌, ◌/◌, ◌≤◌, ◌<◌}
-use mathlib.Core.Path.{◌≡◌, refl, sym, ap, ◌∙◌}
+use mathlib.Core.Path.{◌≡◌, refl, sym, ap, subst, ◌∙◌}
 use mathlib.Core.List.{List, [], ◌∷◌, ◌++◌, map}
 use native.Mathlib.Omega.{arith}
 use lib.ListN.{length, get_or, take, drop, set, length-append, length-drop, length-map, get_or-map}
 use Rattle.keys.specs.Expressions.{packed}
 use Rattle.linekinds.specs.Reading.{row_value, row_values, packs, Small}
 use Rattle.std.specs.Prelude.{slice_index, slice_index_or}
-use lib.Seq.{take-length, length-take-le, drop_at}
+use native.Mathlib.Numerals.{add-one}
+use lib.Seq.{take-length, length-take-le, drop_at, drop-cons, sets, sets-eq, take-append_seam}
 use Rattle.std.specs.Simd.{first_chunks}
 use Rattle.linekinds.proofs.Threes.{by_threes}
 use Rattle.std.proofs.lemmas.List.{drop-map, get_or-append_right}
@@ -17,6 +18,18 @@ pub small_at : (ns : List ℕ) (i : ℕ) → Small ns → i < length ns → get_
 small_at [] i h k = absurd (omega arith)
 small_at (n ∷ ns) zero h k = h.0
 small_at (n ∷ ns) (suc i) h k = small_at ns i h.1 (omega arith)
+
+-- numbers copied one by one
+module _ (rs : List (List ℕ)) (out : List ℕ) (i : ℕ) where
+  pub copy_more : i < length rs → sets (set out i (get_or (get_or rs i []) 1 0)) (i + 1) (drop (i + 1) (row_values rs)) ≡ sets out i (drop i (row_values rs))
+  copy_more h = rw (add-one i, drop-cons (row_values rs) i 0 (rw (length-map rs row_value) h), get_or-map row_value rs i [])
+
+-- so they stand at the front of the room
+pub copied_front : (rs : List (List ℕ)) (out : List ℕ) → length rs ≤ length out → take (length rs) (sets out 0 (row_values rs)) ≡ row_values rs
+copied_front rs out h =
+    let n : length (row_values rs) ≡ length rs = length-map rs row_value in
+    subst (λ (k : ℕ). take k (sets out 0 (row_values rs)) ≡ row_values rs) n
+    (rw (sets-eq (row_values rs) out 0 (omega (arith, n, h))) (take-append_seam (row_values rs) (drop (0 + length (row_values rs)) out)))
 
 -- three rows, packed
 abbrev pub pack_three : List (List ℕ) → ℕ

@@ -6,14 +6,13 @@ ghost use Rattle.text.specs.Scan.{ends_line};
 ghost use Rattle.text.specs.Read.{tallied, line_read, stored_in};
 
 use crate::field::{Field, digit_and_comma, field_at};
+use crate::store::store;
 
-// Stores where there is room.
+// Stores a field's row where there is room.
 fn store_row(out: &mut [[u64; 2]], i: usize, field: Field)
     ensures { out.new ≡ set out.old i (row field) }
 {
-    if i < out.len() {
-        out[i] = [field.state(), field.value()];
-    }
+    store(out, i, [field.state(), field.value()]);
 }
 
 // The line ends at `at`: at an LF, or with the text.
