@@ -77,8 +77,17 @@ module _ {A : Type 0} where
   unusual_is (Some y) u e = let z : ◌≡◌ {A = ℕ} 0 1 = cc in absurd (omega arith)
   unusual_is None u e = cc
 
+pub none_is : (s : List ℕ) (at b : ℕ) (o : Option Number) → NumberTo s at b o → (u : Unread) → Err u ≡ ok_or o Unusual → (n end : ℕ) → NumberAt s at n end b → ⊥
+none_is s at b (Some r) h u e = let z : ◌≡◌ {A = ℕ} 0 1 = cc in absurd (omega arith)
+none_is s at b None h u e = h
+
 pub number_is : (s : List ℕ) (at b : ℕ) (o : Option Number) → NumberTo s at b o → (r : Number) → Ok r ≡ ok_or o Unusual → NumberAt s at r.value r.end b
 number_is s at b o h r e = subst (λ (x : Option Number). NumberTo s at b x) (found_at o r e) h
+
+-- so many numbers don't stand there
+pub numbers_lost : (from : Comma) (r : Result Comma Unread) (u : Unread) (row : List ℕ) → r ≡ Err u → u ≡ Unusual →
+    ((ms : List ℕ) (end : ℕ) → length ms ≡ length row → NumbersAt from.s.now from.at ms end → ⊥) → NumbersTo from r row
+numbers_lost from r u row e z h = rw e (z, h)
 
 -- from one comma to the next, in the text that the line stands in
 pub goes_on : (s : List ℕ) (at : ℕ) (from c : Comma) (ns : List ℕ) → CommaAt s at from → NumbersTo from (Ok c) ns → CommaAt s c.at c × NumbersAt s at ns c.at
@@ -103,4 +112,4 @@ module _ (letter : ℕ) (s : List ℕ) (at : ℕ) (row : List ℕ) (from : Comma
   -- the place of the last number is the row's last
   pub row_done : (c : Comma) (ns : List ℕ) (k last : ℕ) (r : Result ℕ Unread) → length ns ≡ k → k + 1 ≡ length row → NumbersTo from (Ok c) ns → LastTo c r last → RowFound letter s at row r (set (ns ++ drop k row) k last)
   row_done c ns k last (Ok end) l e o z = rw (← l) (row_found c ns last end (rw l e) o z)
-  row_done c ns k last (Err u) l e o z = row_unusual (Err u) _ (ap Err z)
+  row_done c ns k last (Err u) l e o z = row_unusual (Err u) _ (ap Err z.0)

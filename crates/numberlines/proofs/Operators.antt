@@ -1,25 +1,27 @@
 -- A tree line without a limit, put together from its numbers.
 -- Assumes nothing.
 use Prim.Native.Nat.{ℕ, ◌+◌, ◌≤◌, ◌<◌}
-use mathlib.Core.Path.{◌≡◌, refl, ap, ◌∙◌}
+use mathlib.Core.Path.{◌≡◌, refl, sym, ap, subst, ◌∙◌}
 use mathlib.Core.Bool.{true}
 use mathlib.Core.List.{List, [], ◌∷◌, ◌++◌, map}
 use native.Mathlib.Omega.{arith}
 use borrow.Author.Tests.{le-leb}
 use borrow.Rule.Slice.PartMut.{put_mid}
-use lib.ListN.{length, get_or, set}
+use lib.ListN.{length, get_or, drop, set}
 use Rattle.text.specs.declared.field.Field.{Field}
 use Rattle.text.specs.declared.field.Field.TheVariants.{Number as number, Empty as empty}
-use Rattle.text.specs.Write.{fields_text, field_text}
-use Rattle.text.specs.Bounds.{allows_all, widest}
+use Rattle.text.specs.Write.{fields_text, field_text, line_text}
+use Rattle.text.specs.Bounds.{allows_all, widest, well_formed}
 use Rattle.text.proofs.Lengths.{fields_append}
+use Rattle.text.proofs.WrittenBack.{line_again, after_again}
 use Rattle.linekinds.specs.Reading.{Small}
 use Rattle.linekinds.specs.PlainText.{StandsAt, TextAt, fields_of}
 use Rattle.linekinds.proofs.PlainText.{byte_text, joined, small_append, more_fields}
 use Rattle.linekinds.proofs.PlainLines.{small_wide, line_text_lem, line_is, after_is}
-use Rattle.numberlines.specs.NumberLines.{Begins, OperatorLine, OperatorFound}
+use Rattle.numberlines.specs.NumberLines.{Begins, NumberAt, NumbersAt, OperatorLine, OperatorFound}
 use Rattle.numberlines.specs.Runs.{CommaAt, BegunTo, NumbersTo, EmptyTo, LastTo}
 use Rattle.numberlines.specs.declared.comma.Comma.{Comma}
+use Rattle.numberlines.proofs.Apart.{parted, stands_first, fields_parted, one_field, numbers_end}
 use Rattle.numberlines.proofs.Numbers.{goes_on, ends_there, longer_text, longer_small}
 use Rattle.std.specs.Prelude.{Result, Ok, Err}
 use Rattle.numberlines.specs.declared.row.Unread.{Unread}
@@ -58,6 +60,58 @@ unfolding fields_text field_text
 limitless_text s at p end xs ys t k u =
     rw (fields_append (map number xs) (empty ∷ map number ys)) (joined s (fields_of xs) (44 ∷ fields_of ys) at p end t (joined s (44 ∷ []) (fields_of ys) p (p + 1) end (byte_text s p 44 k) u))
 
+-- ---- such a line's text, part by part
+
+module _ {letter : ℕ} {s : List ℕ} {at : ℕ} {row : List ℕ} {end : ℕ} {ns : List ℕ} where
+  -- where its parts end
+  pub record OperatorText (l : OperatorLine letter s at row end ns) : Type 0 where
+    pub gap : ℕ
+    pub first : NumbersAt s (at + 1) (l.kind ∷ l.count ∷ l.keeps ∷ []) gap
+    pub empty : StandsAt s (gap + 1) 44
+    pub order : ℕ
+    pub second : NumbersAt s (gap + 1) (l.order ∷ []) order
+    pub need : ℕ
+    pub third : NumbersAt s order (l.tracked ∷ l.need ∷ []) need
+    pub last : NumberAt s (need + 1) l.children end 10
+
+  pub operator_text : (l : OperatorLine letter s at row end ns) → OperatorText l
+  unfolding fields_text field_text line_text well_formed
+  operator_text l =
+      let xs : List ℕ = l.kind ∷ l.count ∷ l.keeps ∷ [] in
+      let ys : List ℕ = l.order ∷ l.tracked ∷ l.need ∷ l.children ∷ [] in
+      let fs : List Field = limitless xs ys in
+      let m = l.small in
+      let t : TextAt s at (line_text letter fs) (end + 1) = record { text = line_again letter s at fs l.line.is refl ∙ ap (λ (i : ℕ). line_text letter fs ++ drop i s) l.line.goes; place = sym l.line.goes ∙ after_again letter s at fs l.line.is refl } in
+      let u = (parted s (letter ∷ []) (fields_text fs ++ (10 ∷ [])) at (end + 1) t).1 in
+      let v = parted s (fields_text fs) (10 ∷ []) (at + 1) (end + 1) u in
+      let stop : at + 1 + length (fields_text fs) ≡ end = omega (arith, v.1.place) in
+      let w : TextAt s (at + 1) (fields_of xs ++ (44 ∷ fields_of ys)) end = subst (TextAt s (at + 1) (fields_of xs ++ (44 ∷ fields_of ys))) stop (rw (fields_append (map number xs) (empty ∷ map number ys)) at v.0) in
+      let a = parted s (fields_of xs) (44 ∷ fields_of ys) (at + 1) end w in
+      let p : ℕ = at + 1 + length (fields_of xs) in
+      let b = (parted s (44 ∷ []) (fields_of ys) p end a.1).1 in
+      let c = fields_parted s (l.order ∷ []) (l.tracked ∷ l.need ∷ l.children ∷ []) (p + 1) end b in
+      let q : ℕ = p + 1 + length (fields_of (l.order ∷ [])) in
+      let d = fields_parted s (l.tracked ∷ l.need ∷ []) (l.children ∷ []) q end c.1 in
+      record {
+        gap = p;
+        first = record { text = a.0; small = (m.0, (m.1.0, (m.1.1.0, tt))); ends = stands_first s p 44 (fields_of ys) end a.1 };
+        empty = stands_first s (p + 1) 44 _ end b;
+        order = q;
+        second = record { text = c.0; small = (m.1.1.1.0, tt); ends = stands_first s q 44 _ end c.1 };
+        need = q + length (fields_of (l.tracked ∷ l.need ∷ []));
+        third = record { text = d.0; small = (m.1.1.1.1.0, (m.1.1.1.1.1.0, tt)); ends = stands_first s _ 44 _ end d.1 };
+        last = one_field s _ l.children end 10 d.1 m.1.1.1.1.1.1.0 (subst (λ (i : ℕ). StandsAt s i 10) stop (stands_first s _ 10 [] (end + 1) v.1));
+      }
+
+-- ---- from one comma to the next, on a line where the numbers ms stand
+
+module _ (s : List ℕ) (at end : ℕ) (from : Comma) where
+  kept : (c : Comma) (ns ms : List ℕ) → CommaAt s at from → NumbersTo from (Ok c) ns → length ms ≡ length ns → NumbersAt s at ms end → CommaAt s end c
+  kept c ns ms f h e o = let g = goes_on s at from c ns f h in (g.0.0, numbers_end s at ns ms c.at end (sym e) g.1 o)
+
+  lost : (u : Unread) (ns ms : List ℕ) → CommaAt s at from → NumbersTo from (Err u) ns → length ms ≡ length ns → NumbersAt s at ms end → ⊥
+  lost u ns ms f h e o = h.1 ms end e (subst (λ (i : ℕ). NumbersAt from.s.now i ms end) (sym f.1) (subst (λ (r : List ℕ). NumbersAt r at ms end) (sym f.0) o))
+
 module _ (letter : ℕ) (s : List ℕ) (at : ℕ) (row : List ℕ) (eleven : length row ≡ 11) where
   line_of :
       (other : letter ≡ 10 → ⊥) (b : Begins s at letter) (xs ds es : List ℕ) (g p end : ℕ) → length xs ≡ 3 → length ds ≡ 1 → length es ≡ 2 → TextAt s (at + 1) (fields_of xs) p → StandsAt s p 44 →
@@ -90,8 +144,45 @@ module _ (letter : ℕ) (s : List ℕ) (at : ℕ) (row : List ℕ) (eleven : len
   line_of other b (x ∷ y ∷ z ∷ []) (d ∷ []) (e ∷ []) g p end i j k t h u l m o early = absurd (omega arith)
   line_of other b (x ∷ y ∷ z ∷ []) (d ∷ []) (e ∷ f ∷ f' ∷ es) g p end i j k t h u l m o early = absurd (omega arith)
 
-  pub operator_unusual : (r : Result ℕ Unread) (row' : List ℕ) → r ≡ Err Unusual → OperatorFound letter s at row r row'
-  operator_unusual r row' e = rw e tt
+  -- no line of an operator is there
+  abbrev NoLine : Type 0
+  NoLine = (end : ℕ) (ns : List ℕ) → OperatorLine letter s at row end ns → ⊥
+
+  pub operator_unusual : (r : Result ℕ Unread) (u : Unread) (row' : List ℕ) → r ≡ Err u → u ≡ Unusual → NoLine → OperatorFound letter s at row r row'
+  operator_unusual r u row' e z h = rw (e, z) h
+
+  module _ (from : Comma) (b : BegunTo s at letter (Ok from)) where
+    pub first_unusual : (u : Unread) (xs : List ℕ) → length xs ≡ 3 → NumbersTo from (Err u) xs → NoLine
+    first_unusual u xs i h end ns l = let o = operator_text l in lost s (at + 1) _ from u xs _ b.0 h (omega (arith, i)) o.first
+
+    module _ (p' : Comma) (xs : List ℕ) (i : length xs ≡ 3) (t : NumbersTo from (Ok p') xs) where
+      gap_at : (end : ℕ) (ns : List ℕ) (l : OperatorLine letter s at row end ns) → CommaAt s (operator_text l).gap p'
+      gap_at end ns l = let o = operator_text l in kept s (at + 1) o.gap from p' xs _ b.0 t (omega (arith, i)) o.first
+
+      pub gap_unusual : (u : Unread) → EmptyTo p' (Err u) → NoLine
+      gap_unusual u h end ns l =
+          let o = operator_text l in let z = gap_at end ns l in
+          h.1 (subst (λ (i : ℕ). StandsAt p'.s.now (i + 1) 44) (sym z.1) (subst (λ (r : List ℕ). StandsAt r (o.gap + 1) 44) (sym z.0) o.empty))
+
+      module _ (p : Comma) (a : EmptyTo p' (Ok p)) where
+        after_gap : (end : ℕ) (ns : List ℕ) (l : OperatorLine letter s at row end ns) → CommaAt s ((operator_text l).gap + 1) p
+        after_gap end ns l = let z = gap_at end ns l in (a.0 ∙ z.0, a.1 ∙ ap (λ (i : ℕ). i + 1) z.1)
+
+        pub order_unusual : (u : Unread) (ds : List ℕ) → length ds ≡ 1 → NumbersTo p (Err u) ds → NoLine
+        order_unusual u ds j h end ns l = let o = operator_text l in lost s (o.gap + 1) _ p u ds _ (after_gap end ns l) h (omega (arith, j)) o.second
+
+        module _ (q : Comma) (ds : List ℕ) (j : length ds ≡ 1) (v : NumbersTo p (Ok q) ds) where
+          order_at : (end : ℕ) (ns : List ℕ) (l : OperatorLine letter s at row end ns) → CommaAt s (operator_text l).order q
+          order_at end ns l = let o = operator_text l in kept s (o.gap + 1) o.order p q ds _ (after_gap end ns l) v (omega (arith, j)) o.second
+
+          pub need_unusual : (u : Unread) (es : List ℕ) → length es ≡ 2 → NumbersTo q (Err u) es → NoLine
+          need_unusual u es k h end ns l = let o = operator_text l in lost s o.order _ q u es _ (order_at end ns l) h (omega (arith, k)) o.third
+
+          module _ (c : Comma) (es : List ℕ) (k : length es ≡ 2) (w : NumbersTo q (Ok c) es) where
+            pub last_unusual : (u : Unread) (g : ℕ) → LastTo c (Err u) g → NoLine
+            last_unusual u g h end ns l =
+                let o = operator_text l in let z = kept s o.order o.need q c es _ (order_at end ns l) w (omega (arith, k)) o.third in
+                h.1 l.children end (subst (λ (i : ℕ). NumberAt c.s.now (i + 1) l.children end 10) (sym z.1) (subst (λ (r : List ℕ). NumberAt r (o.need + 1) l.children end 10) (sym z.0) o.last)) l.line.early
 
   pub operator_found :
       (from p' p q c : Comma) (xs ds es : List ℕ) (g : ℕ) → BegunTo s at letter (Ok from) → length xs ≡ 3 → length ds ≡ 1 → length es ≡ 2 →
@@ -105,4 +196,4 @@ module _ (letter : ℕ) (s : List ℕ) (at : ℕ) (row : List ℕ) (eleven : len
       let l = longer_text s q.at es c.at z.1 g end 10 n in
       line_of b.2 b.1 xs ds es g p'.at end i j k x.1.text x.1.ends (more_fields s ds (es ++ (g ∷ [])) (p'.at + 1) q.at end y.1.text l) n.ends x.1.small
       (small_append ds (es ++ (g ∷ [])) y.1.small (longer_small s q.at es c.at z.1 g end 10 n)) w.1
-  operator_found from p' p q c xs ds es g b i j k t a u v (Err e) w = operator_unusual (Err e) _ (ap Err w)
+  operator_found from p' p q c xs ds es g b i j k t a u v (Err e) w = operator_unusual (Err e) e _ refl w.0 (last_unusual from b p' xs i t p a q ds j u c es k v e g w)

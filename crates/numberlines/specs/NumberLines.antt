@@ -1,5 +1,4 @@
--- What the quick reading of a line of numbers finds: text that stands there, as it would be written. Where it finds something unusual, nothing is said
--- but that a line of the letter stands there.
+-- What the quick reading of a line of numbers finds: text that stands there, as it would be written.
 -- Document 01, the paragraph that begins "A sheet is ASCII lines ended by LF".
 use Rattle.std.specs.Prelude.{ℕ, ◌+◌, ◌-◌, ◌<◌, ◌≡◌, List, [], ◌∷◌, map, length, get_or, Option, Some, None, Result, Ok, Err}
 use Rattle.std.proofs.Math.Option.{some, none}
@@ -27,9 +26,10 @@ pub record NumberAt (s : List ℕ) (at n end b : ℕ) : Type 0 where
   pub small : n < 65536
   pub ends : StandsAt s end b
 
+-- such a number, or none stands there
 abbrev pub NumberTo : List ℕ → ℕ → ℕ → Option Number → Type 0
 NumberTo s at b (Some r) = NumberAt s at r.value r.end b
-NumberTo s at b None = Unit {0}
+NumberTo s at b None = (n end : ℕ) → NumberAt s at n end b → ⊥
 
 -- such numbers one after another, and a comma after them
 pub record NumbersAt (s : List ℕ) (at : ℕ) (ns : List ℕ) (end : ℕ) : Type 0 where
@@ -43,7 +43,7 @@ pub record LineOf (letter : ℕ) (s : List ℕ) (at : ℕ) (fs : List Field) (en
   pub goes : after s at ≡ end + 1
   pub early : end < 65536
 
--- a line's numbers, as the row holds them
+-- a line's numbers, as the row holds them; where something is unusual, a line of the letter stands there
 abbrev pub RowFound : ℕ → List ℕ → ℕ → List ℕ → Result ℕ Unread → List ℕ → Type 0
 RowFound letter s at row (Ok end) row' = LineOf letter s at (map number row') end × Small row'
 RowFound letter s at row (Err Unusual) row' = line_at letter s at ≡ none → ⊥
@@ -62,7 +62,8 @@ pub record OperatorLine (letter : ℕ) (s : List ℕ) (at : ℕ) (row : List ℕ
   pub small : Small (kind ∷ count ∷ keeps ∷ order ∷ tracked ∷ need ∷ children ∷ [])
   pub held : row' ≡ get_or row 0 0 ∷ kind ∷ count ∷ keeps ∷ 0 ∷ 0 ∷ order ∷ 0 ∷ tracked ∷ need ∷ children ∷ []
 
+-- unusual is each line that is none of these
 abbrev pub OperatorFound : ℕ → List ℕ → ℕ → List ℕ → Result ℕ Unread → List ℕ → Type 0
 OperatorFound letter s at row (Ok end) row' = OperatorLine letter s at row end row'
-OperatorFound letter s at row (Err Unusual) row' = Unit {0}
+OperatorFound letter s at row (Err Unusual) row' = (end : ℕ) (ns : List ℕ) → OperatorLine letter s at row end ns → ⊥
 OperatorFound letter s at row (Err Other) row' = row' ≡ row

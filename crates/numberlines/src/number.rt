@@ -10,7 +10,7 @@ use linekinds::plain::Number;
 
 // The number that goes on at a place, after digits that gave `begun`.
 fn longer_to(s: &[u8], at: usize, begun: u64, b: u8) -> Option<Number>
-    requires { Closed s.now × (at < length s.now) × (begun < 65536) }
+    requires { Closed s.now × (at < length s.now) × (begun < 65536) × (b < 48) }
     ensures { (from : ℕ) → TextAt s.now from (decimal begun) at → NumberTo s.now from b result }
 {
     let mut n = begun;
@@ -35,6 +35,7 @@ fn longer_to(s: &[u8], at: usize, begun: u64, b: u8) -> Option<Number>
 // A number up to 65535 after a comma, and the place of the byte b after it.
 #[inline(always)]
 pub(crate) fn number_to(from: Comma<'_>, b: u8) -> Option<Number>
+    requires { b < 48 }
     ensures { NumberTo from.entry.s.now (from.entry.at + 1) b result }
 {
     let s = from.s;

@@ -3,9 +3,11 @@ use Prim.Native.Nat.{◌+◌}
 use mathlib.Core.Path.{◌≡◌, sym, ◌∙◌}
 use mathlib.Core.Bool.{true}
 use native.Mathlib.Omega.{arith}
+use Rattle.text.proofs.Decimal.{decimal_some}
 use Rattle.linekinds.specs.PlainText.{DigitAt}
 use Rattle.linekinds.proofs.PlainText.{first_digit}
-use Rattle.numberlines.proofs.Closed.{comma_next, digit_here, digit_next}
+use Rattle.numberlines.proofs.Closed.{comma_next, digit_here, digit_next, no_digit}
+use Rattle.numberlines.proofs.OneNumber.{number_digits}
 use Rattle.numberlines.proofs.number.number_to.Goals as goal
 use Rattle.numberlines.proofs.number.number_to.Goals.{After-is_ascii_digit}
 
@@ -18,6 +20,10 @@ overflow_add-at c = omega (arith, c.args.from.here.0)
 
 pub bounds-s-at : goal.bounds-s-at
 bounds-s-at c = comma_next c.args.from
+
+pub returns-then-not-is_ascii_digit : goal.returns-then-not-is_ascii_digit
+returns-then-not-is_ascii_digit c = λ n end o.
+    no_digit _ _ (sym c.is_ascii_digit.ensures.value ∙ c.if-not-is_ascii_digit.true) (number_digits _ _ n end o.text _ (omega arith) (omega (arith, o.text.place, decimal_some n)))
 
 pub overflow_sub-s : goal.overflow_sub-s
 overflow_sub-s c =
@@ -39,7 +45,7 @@ returns-then-s-p c =
 pub longer_to-requires : goal.longer_to-requires
 longer_to-requires c =
     let d = first (goal.at.longer_to-requires c).After-is_ascii_digit c.if-not-is_ascii_digit.false in
-    (c.args.from.closed, digit_next _ _ c.args.from.closed d, omega (arith, d.2, c.from-n.ensures))
+    (c.args.from.closed, digit_next _ _ c.args.from.closed d, omega (arith, d.2, c.from-n.ensures), c.requires)
 
 pub returns : goal.returns
 returns c =
