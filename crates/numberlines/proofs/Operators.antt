@@ -3,13 +3,16 @@
 use Prim.Native.Nat.{ℕ, ◌+◌, ◌≤◌, ◌<◌}
 use mathlib.Core.Path.{◌≡◌, refl, sym, ap, subst, ◌∙◌}
 use mathlib.Core.Bool.{true}
+use mathlib.Core.Option.{none}
+use Rattle.keys.proofs.Truths.{none_some}
 use mathlib.Core.List.{List, [], ◌∷◌, ◌++◌, map}
 use native.Mathlib.Omega.{arith}
-use borrow.Author.Tests.{le-leb}
+use borrow.Author.Tests.{le-leb, lt-ltb}
 use borrow.Rule.Slice.PartMut.{put_mid}
 use lib.ListN.{length, get_or, drop, set}
 use Rattle.text.specs.declared.field.Field.{Field}
 use Rattle.text.specs.declared.field.Field.TheVariants.{Number as number, Empty as empty}
+use Rattle.text.specs.Text.{until, line, line_fields, line_at}
 use Rattle.text.specs.Write.{fields_text, field_text, line_text}
 use Rattle.text.specs.Bounds.{allows_all, widest, well_formed}
 use Rattle.text.proofs.Lengths.{fields_append}
@@ -62,6 +65,11 @@ limitless_text s at p end xs ys t k u =
 
 -- ---- such a line's text, part by part
 
+-- an LF ends a line before its letter
+lf_line : (s : List ℕ) (at : ℕ) (xs : List ℕ) → drop at s ≡ 10 ∷ xs → line_at 10 s at ≡ none
+unfolding line_at line until line_fields
+lf_line s at xs e = rw (e, lt-ltb 0 (length (10 ∷ xs)) (omega arith))
+
 module _ {letter : ℕ} {s : List ℕ} {at : ℕ} {row : List ℕ} {end : ℕ} {ns : List ℕ} where
   -- where its parts end
   pub record OperatorText (l : OperatorLine letter s at row end ns) : Type 0 where
@@ -74,14 +82,33 @@ module _ {letter : ℕ} {s : List ℕ} {at : ℕ} {row : List ℕ} {end : ℕ} {
     pub third : NumbersAt s order (l.tracked ∷ l.need ∷ []) need
     pub last : NumberAt s (need + 1) l.children end 10
 
+  line_is_text : (l : OperatorLine letter s at row end ns) → TextAt s at (line_text letter (limitless (l.kind ∷ l.count ∷ l.keeps ∷ []) (l.order ∷ l.tracked ∷ l.need ∷ l.children ∷ []))) (end + 1)
+  unfolding well_formed
+  line_is_text l =
+      let fs : List Field = limitless (l.kind ∷ l.count ∷ l.keeps ∷ []) (l.order ∷ l.tracked ∷ l.need ∷ l.children ∷ []) in
+      record { text = line_again letter s at fs l.line.is refl ∙ ap (λ (i : ℕ). line_text letter fs ++ drop i s) l.line.goes; place = sym l.line.goes ∙ after_again letter s at fs l.line.is refl }
+
+  line_begins : (l : OperatorLine letter s at row end ns) → Begins s at letter
+  unfolding fields_text line_text
+  line_begins l =
+      let t = line_is_text l in
+      (stands_first s at letter _ (end + 1) t, stands_first s (at + 1) 44 _ (end + 1) (parted s (letter ∷ []) _ at (end + 1) t).1)
+
+  other_letter : (l : OperatorLine letter s at row end ns) → letter ≡ 10 → ⊥
+  unfolding line_text
+  other_letter l e =
+      let fs : List Field = limitless (l.kind ∷ l.count ∷ l.keeps ∷ []) (l.order ∷ l.tracked ∷ l.need ∷ l.children ∷ []) in
+      let rest : List ℕ = (fields_text fs ++ (10 ∷ [])) ++ drop (end + 1) s in
+      none_some (lf_line s at rest ((line_is_text l).text ∙ ap (λ (b : ℕ). b ∷ rest) e)) (rw e at l.line.is)
+
   pub operator_text : (l : OperatorLine letter s at row end ns) → OperatorText l
-  unfolding fields_text field_text line_text well_formed
+  unfolding fields_text field_text line_text
   operator_text l =
       let xs : List ℕ = l.kind ∷ l.count ∷ l.keeps ∷ [] in
       let ys : List ℕ = l.order ∷ l.tracked ∷ l.need ∷ l.children ∷ [] in
       let fs : List Field = limitless xs ys in
       let m = l.small in
-      let t : TextAt s at (line_text letter fs) (end + 1) = record { text = line_again letter s at fs l.line.is refl ∙ ap (λ (i : ℕ). line_text letter fs ++ drop i s) l.line.goes; place = sym l.line.goes ∙ after_again letter s at fs l.line.is refl } in
+      let t = line_is_text l in
       let u = (parted s (letter ∷ []) (fields_text fs ++ (10 ∷ [])) at (end + 1) t).1 in
       let v = parted s (fields_text fs) (10 ∷ []) (at + 1) (end + 1) u in
       let stop : at + 1 + length (fields_text fs) ≡ end = omega (arith, v.1.place) in
@@ -150,6 +177,9 @@ module _ (letter : ℕ) (s : List ℕ) (at : ℕ) (row : List ℕ) (eleven : len
 
   pub operator_unusual : (r : Result ℕ Unread) (u : Unread) (row' : List ℕ) → r ≡ Err u → u ≡ Unusual → NoLine → OperatorFound letter s at row r row'
   operator_unusual r u row' e z h = rw (e, z) h
+
+  pub operator_other : (r : Result ℕ Unread) (u : Unread) → r ≡ Err u → BegunTo s at letter (Err u) → OperatorFound letter s at row r row
+  operator_other r u e b = rw (e, b.0) (refl, λ k end ns l. b.1 k (other_letter l) (line_begins l))
 
   module _ (from : Comma) (b : BegunTo s at letter (Ok from)) where
     pub first_unusual : (u : Unread) (xs : List ℕ) → length xs ≡ 3 → NumbersTo from (Err u) xs → NoLine

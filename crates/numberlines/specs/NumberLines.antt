@@ -62,8 +62,8 @@ pub record OperatorLine (letter : ℕ) (s : List ℕ) (at : ℕ) (row : List ℕ
   pub small : Small (kind ∷ count ∷ keeps ∷ order ∷ tracked ∷ need ∷ children ∷ [])
   pub held : row' ≡ get_or row 0 0 ∷ kind ∷ count ∷ keeps ∷ 0 ∷ 0 ∷ order ∷ 0 ∷ tracked ∷ need ∷ children ∷ []
 
--- unusual is each line that is none of these
+-- what is unusual or something else is no such line, the latter in a text that ends with an LF
 abbrev pub OperatorFound : ℕ → List ℕ → ℕ → List ℕ → Result ℕ Unread → List ℕ → Type 0
 OperatorFound letter s at row (Ok end) row' = OperatorLine letter s at row end row'
 OperatorFound letter s at row (Err Unusual) row' = (end : ℕ) (ns : List ℕ) → OperatorLine letter s at row end ns → ⊥
-OperatorFound letter s at row (Err Other) row' = row' ≡ row
+OperatorFound letter s at row (Err Other) row' = (row' ≡ row) × (Closed s → (end : ℕ) (ns : List ℕ) → OperatorLine letter s at row end ns → ⊥)

@@ -1,7 +1,7 @@
 -- Cited only by the contracts of private functions: what reading a line from comma to comma finds.
 use Rattle.std.specs.Prelude.{ℕ, ◌+◌, ◌<◌, ◌≡◌, List, length, Result, Ok, Err}
 use Rattle.linekinds.specs.PlainText.{StandsAt}
-use Rattle.numberlines.specs.NumberLines.{Begins, NumberAt, NumbersAt}
+use Rattle.numberlines.specs.NumberLines.{Closed, Begins, NumberAt, NumbersAt}
 use Rattle.numberlines.specs.declared.comma.Comma.{Comma}
 use Rattle.numberlines.specs.declared.row.Unread.{Unread}
 use Rattle.numberlines.specs.declared.row.Unread.TheVariants.{Unusual, Other}
@@ -10,10 +10,10 @@ use Rattle.numberlines.specs.declared.row.Unread.TheVariants.{Unusual, Other}
 abbrev pub CommaAt : List ℕ → ℕ → Comma → Type 0
 CommaAt s at c = (c.s.now ≡ s) × (c.at ≡ at)
 
--- the comma after a letter
+-- the comma after a letter; or no letter and comma stand there, in a text that ends with an LF
 abbrev pub BegunTo : List ℕ → ℕ → ℕ → Result Comma Unread → Type 0
 BegunTo s at letter (Ok c) = CommaAt s (at + 1) c × Begins s at letter × (letter ≡ 10 → ⊥)
-BegunTo s at letter (Err u) = u ≡ Other
+BegunTo s at letter (Err u) = (u ≡ Other) × (Closed s → (letter ≡ 10 → ⊥) → Begins s at letter → ⊥)
 
 -- numbers, and the comma after them; or so many don't stand there
 abbrev pub NumbersTo : Comma → Result Comma Unread → List ℕ → Type 0

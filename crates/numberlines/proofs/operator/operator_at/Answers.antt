@@ -4,7 +4,7 @@ use mathlib.Core.Path.{◌≡◌, ap, ◌∙◌}
 use lib.ListN.{length, length-take, length-drop, length-append, length-set}
 use Rattle.std.specs.Prelude.{Err}
 use Rattle.std.proofs.lemmas.Result.{err_from_is_err_and}
-use Rattle.numberlines.proofs.Operators.{operator_unusual, first_unusual, gap_unusual, order_unusual, need_unusual, operator_found}
+use Rattle.numberlines.proofs.Operators.{operator_unusual, operator_other, first_unusual, gap_unusual, order_unusual, need_unusual, operator_found}
 use Rattle.numberlines.proofs.operator.operator_at.Goals as goal
 use Rattle.numberlines.proofs.operator.operator_at.Goals.{After-numbers_to, After-numbers_to-2, After-numbers_to-3}
 
@@ -17,6 +17,11 @@ one c i = omega (arith, simp (length-take, length-drop, length-append, length-se
 
 two : (c : After-numbers_to-3) → length c.numbers_to.new.row ≡ 3 → length c.numbers_to-2.new.row ≡ 1 → length c.numbers_to-3.new.row ≡ 2
 two c i j = omega (arith, simp (length-take, length-drop, length-append, length-set) at c.numbers_to-3.auto.row, c.requires, i, j)
+
+pub returns-in_err-comma : goal.returns-in_err-comma
+returns-in_err-comma c =
+    let a = c.args in let r = c.from_residual in let p = err_from_is_err_and r.result r.ensures.1 in
+    operator_other a.letter a.s.now a.at a.row.now c.requires r.result _ (p.1 ∙ ap Err p.2) c.in_err-comma.ensures
 
 pub returns-in_err-numbers_to : goal.returns-in_err-numbers_to
 returns-in_err-numbers_to c =
