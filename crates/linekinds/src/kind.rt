@@ -184,7 +184,7 @@ fn judge_size(c: Codes, f: Fields) -> Result<(), Refusal>
 }
 
 // By a line's count of fields, their largest state and value, and the place after it.
-pub fn judge_counts(c: Codes, f: Fields) -> Result<(), Refusal>
+pub(crate) fn judge_counts(c: Codes, f: Fields) -> Result<(), Refusal>
     ensures { result ≡ judged_by (counts_number c f.count f.worst f.largest f.next) }
 {
     judge_fields(c, f)?;
@@ -208,7 +208,7 @@ fn judge_key(rows: &[[u64; 2]]) -> Result<(), Refusal>
 }
 
 // By the numbers of a line whose fields are as many as its kind has.
-pub fn judge_codes(c: Codes, rows: &[[u64; 2]]) -> Result<(), Refusal>
+pub(crate) fn judge_codes(c: Codes, rows: &[[u64; 2]]) -> Result<(), Refusal>
     requires { Whole c (length rows.now) }
     ensures { result ≡ judged_by (codes_number c (row_values rows.now)) }
 {

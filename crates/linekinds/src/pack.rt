@@ -29,7 +29,7 @@ pub fn copy_numbers(rows: &[[u64; 2]], out: &mut [u64])
 }
 
 // The list of a line whose fields are as many as its kind has.
-pub fn pack_line(c: Codes, rows: &[[u64; 2]], out: &mut [u64; 64]) -> usize
+pub(crate) fn pack_line(c: Codes, rows: &[[u64; 2]], out: &mut [u64; 64]) -> usize
     requires { Fits c (length rows.now) × Small (row_values rows.now) }
     ensures { (length out.new ≡ 64) × (result ≤ 64) × (take result out.new ≡ packed_by c (row_values rows.now)) }
 {

@@ -34,7 +34,7 @@ fn pairs_fit(op: u64, mode: u64, l: usize, g: usize, s: usize, w: usize) -> bool
 
 // The counts of a K sheet's lines. They stay a slice, as they are lent: an array type would ask for an exact number of them.
 #[tactic(auto, unfolding(crate::specs::ListFits::key_counts_fit))]
-pub fn key_lists_fit(op: u64, mode: u64, counts: &[usize]) -> bool
+pub(crate) fn key_lists_fit(op: u64, mode: u64, counts: &[usize]) -> bool
     requires { 9 ≤ length counts.now }
     ensures { result ≡ key_counts_fit op mode counts.now }
 {
@@ -59,7 +59,7 @@ fn input_fits(mark: u64, n: usize) -> bool
 
 // The counts of an I sheet's lines, and the marks of H and N.
 #[tactic(auto, unfolding(crate::specs::ListFits::join_counts_fit))]
-pub fn join_lists_fit(op: u64, counts: &[usize], h: u64, n: u64) -> bool
+pub(crate) fn join_lists_fit(op: u64, counts: &[usize], h: u64, n: u64) -> bool
     requires { 6 ≤ length counts.now }
     ensures { result ≡ join_counts_fit op counts.now h n }
 {

@@ -55,7 +55,7 @@ fn line_count(k: SheetKind, children: u64) -> usize
 
 // All lines of a sheet, and nothing after them: line i goes into list i. The first is no list. That there are lists and counts for the most
 // lines stays a condition, here and in `sheets`: C lends the lists, as a slice of any length.
-pub fn read_whole(
+pub(crate) fn read_whole(
     s: &[u8],
     k: SheetKind,
     rows: &mut [[u64; 2]],

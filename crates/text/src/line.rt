@@ -33,7 +33,7 @@ pub struct Fields {
 }
 
 // The fields from `at` to the LF, or to the end of the text, into as much room as there is. Reading goes on at the LF.
-pub fn fields_at(s: &[u8], at: usize, out: &mut [[u64; 2]]) -> Fields
+fn fields_at(s: &[u8], at: usize, out: &mut [[u64; 2]]) -> Fields
     ensures counted { result ≡ tallied (at + until 10 (drop at s.now)) (fields (line (drop at s.now))) }
     ensures stored { out.new ≡ sets out.old 0 (map row (fields (line (drop at s.now)))) }
 {
