@@ -19,8 +19,7 @@ use Rattle.moves.specs.Moved.{MovedBy}
 use Rattle.moves.specs.declared.moved.MovedPairs.{MovedPairs}
 use Rattle.answers.specs.AnswerLists.{KeyFew, held_projection}
 use Rattle.lines.specs.Children.{children_text}
-use Rattle.lines.specs.Texts.{key_lists_text}
-use Rattle.lines.specs.AnswerTexts.{key_text_of}
+use Rattle.lines.specs.Texts.{key_lists_text, key_text_of}
 use Rattle.lines.specs.declared.key_text.KeyLists.{KeyLists}
 use Rattle.lines.specs.declared.children.Children.{Children}
 use Rattle.lines.proofs.AnswerParts.{key_answer_held}

@@ -6,7 +6,7 @@ ghost use Rattle.keys.specs.InputValues.{attempt_of};
 ghost use Rattle.sheet.specs.KeyAnswers.{wrote, join_answer_text};
 ghost use Rattle.sheet.specs.Outcomes.{within, Writes};
 ghost use Rattle.sheet.specs.Held.{held_join_sheet, JoinHeld};
-ghost use Rattle.lines.specs.AnswerTexts.{join_text_of};
+ghost use Rattle.lines.specs.Texts.{join_text_of};
 ghost use Rattle.answers.specs.AnswerLists.{JoinFew, JoinPairs};
 
 use keys::inputs::Attempt;

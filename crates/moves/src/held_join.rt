@@ -1,14 +1,14 @@
 // An I sheet that is held, within its bounds.
 ghost use Rattle.std.specs.Prelude.{◌≡◌, ◌<◌, ◌≤◌, length};
 ghost use Rattle.sheet.specs.Held.{held_at, JoinHeld};
-ghost use Rattle.moves.specs.Bounds.{JoinHeld-prop};
+ghost use Rattle.moves.specs.Bounds.{join_held_prop};
 
 use sheet::held::Lists;
 
 #[derive(Clone, Copy)]
 pub struct HeldJoin<'a> {
     pub held: Lists<'a, 'a>,
-    pub ghost bounds: { JoinHeld held.lists.now held.counts.now } by { JoinHeld-prop held.lists.now held.counts.now },
+    pub ghost bounds: { JoinHeld held.lists.now held.counts.now } by { join_held_prop held.lists.now held.counts.now },
 }
 
 impl<'a> HeldJoin<'a> {

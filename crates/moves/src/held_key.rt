@@ -1,14 +1,14 @@
 // A K sheet that is held, within its bounds.
 ghost use Rattle.std.specs.Prelude.{◌≡◌, ◌<◌, ◌≤◌, length};
 ghost use Rattle.sheet.specs.Held.{held_at, KeyHeld};
-ghost use Rattle.moves.specs.Bounds.{KeyHeld-prop};
+ghost use Rattle.moves.specs.Bounds.{key_held_prop};
 
 use sheet::held::Lists;
 
 #[derive(Clone, Copy)]
 pub struct HeldKey<'a> {
     pub held: Lists<'a, 'a>,
-    pub ghost bounds: { KeyHeld held.lists.now held.counts.now } by { KeyHeld-prop held.lists.now held.counts.now },
+    pub ghost bounds: { KeyHeld held.lists.now held.counts.now } by { key_held_prop held.lists.now held.counts.now },
 }
 
 impl<'a> HeldKey<'a> {

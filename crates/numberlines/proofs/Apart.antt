@@ -9,7 +9,7 @@ use lib.Seq.{drop-drop, drop-append_seam}
 use Rattle.text.specs.declared.field.Field.TheVariants.{Number as number}
 use Rattle.text.specs.Write.{decimal, field_text, fields_text}
 use Rattle.text.proofs.Lengths.{fields_append}
-use Rattle.linekinds.specs.PlainText.{StandsAt, TextAt, fields_of}
+use Rattle.linekinds.specs.PlainText.{StandsAt, TextAt, numbers_text}
 use Rattle.numberlines.specs.NumberLines.{NumberAt, NumbersAt}
 use Rattle.numberlines.proofs.OneNumber.{text_byte, number_ends}
 
@@ -26,15 +26,15 @@ stands_first s at b xs end t = let z : at + 0 ≡ at = omega arith in subst (λ 
 
 -- ---- fields in two
 
-pub fields_parted : (s xs ys : List ℕ) (at end : ℕ) → TextAt s at (fields_of (xs ++ ys)) end → TextAt s at (fields_of xs) (at + length (fields_of xs)) × TextAt s (at + length (fields_of xs)) (fields_of ys) end
-fields_parted s xs ys at end t = parted s (fields_of xs) (fields_of ys) at end (rw (map-append number xs ys, fields_append (map number xs) (map number ys)) at t)
+pub fields_parted : (s xs ys : List ℕ) (at end : ℕ) → TextAt s at (numbers_text (xs ++ ys)) end → TextAt s at (numbers_text xs) (at + length (numbers_text xs)) × TextAt s (at + length (numbers_text xs)) (numbers_text ys) end
+fields_parted s xs ys at end t = parted s (numbers_text xs) (numbers_text ys) at end (rw (map-append number xs ys, fields_append (map number xs) (map number ys)) at t)
 
-pub one_field : (s : List ℕ) (at n end b : ℕ) → TextAt s at (fields_of (n ∷ [])) end → n < 65536 → StandsAt s end b → NumberAt s (at + 1) n end b
+pub one_field : (s : List ℕ) (at n end b : ℕ) → TextAt s at (numbers_text (n ∷ [])) end → n < 65536 → StandsAt s end b → NumberAt s (at + 1) n end b
 unfolding fields_text field_text
 one_field s at n end b t h k = record { text = rw (append-nil (decimal n)) at (parted s (44 ∷ []) (decimal n ++ []) at end t).1; small = h; ends = k }
 
 -- a comma is before fields, and where there is none it is the one after them
-pub comma_first : (s : List ℕ) (at : ℕ) (ns : List ℕ) (end : ℕ) → TextAt s at (fields_of ns) end → StandsAt s end 44 → StandsAt s at 44
+pub comma_first : (s : List ℕ) (at : ℕ) (ns : List ℕ) (end : ℕ) → TextAt s at (numbers_text ns) end → StandsAt s end 44 → StandsAt s at 44
 unfolding fields_text
 comma_first s at [] end t h = let z : end ≡ at = omega (arith, t.place) in subst (λ (i : ℕ). StandsAt s i 44) z h
 comma_first s at (n ∷ ns) end t h = stands_first s at 44 _ end t
@@ -50,7 +50,7 @@ first_of : (s : List ℕ) (at n : ℕ) (ns : List ℕ) (end : ℕ) → NumbersAt
 first_of s at n ns end o =
     let p = fields_parted s (n ∷ []) ns at end o.text in
     record {
-      next = at + length (fields_of (n ∷ []));
+      next = at + length (numbers_text (n ∷ []));
       is = one_field s at n _ 44 p.0 o.small.0 (comma_first s _ ns end p.1 o.ends);
       rest = record { text = p.1; small = o.small.1; ends = o.ends };
     }

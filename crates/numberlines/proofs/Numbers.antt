@@ -9,7 +9,7 @@ use lib.Seq.{sets, sets-eq, take-suc-set}
 use Rattle.text.specs.declared.field.Field.TheVariants.{Number as number}
 use Rattle.text.specs.Write.{fields_text}
 use Rattle.linekinds.specs.Reading.{Small}
-use Rattle.linekinds.specs.PlainText.{StandsAt, TextAt, fields_of}
+use Rattle.linekinds.specs.PlainText.{StandsAt, TextAt, numbers_text}
 use Rattle.linekinds.specs.declared.plain.Number.{Number}
 use Rattle.linekinds.proofs.PlainText.{field_text_lem, small_append, more_fields}
 use Rattle.linekinds.proofs.PlainLines.{small_wide, line_text_lem, line_is, after_is}
@@ -29,7 +29,7 @@ unfolding fields_text
 numbers_none s at h = record { text = record { text = refl; place = omega arith }; small = tt; ends = h }
 
 module _ (s : List ℕ) (at : ℕ) (ns : List ℕ) (p : ℕ) (o : NumbersAt s at ns p) (n end b : ℕ) (e : NumberAt s (p + 1) n end b) where
-  pub longer_text : TextAt s at (fields_of (ns ++ (n ∷ []))) end
+  pub longer_text : TextAt s at (numbers_text (ns ++ (n ∷ []))) end
   longer_text = more_fields s ns (n ∷ []) at p end o.text (field_text_lem s p n end o.ends e.text)
 
   pub longer_small : Small (ns ++ (n ∷ []))
@@ -57,7 +57,7 @@ filled_last (m ∷ ns) [] n e = absurd (omega arith)
 filled_last (m ∷ ns) (x ∷ row) n e = ap (λ (r : List ℕ). m ∷ r) (filled_last ns row n (omega arith))
 
 -- the line of them
-row_line : (letter : ℕ) (s : List ℕ) (at : ℕ) → (letter ≡ 10 → ⊥) → Begins s at letter → (ns : List ℕ) (end : ℕ) → TextAt s (at + 1) (fields_of ns) end → StandsAt s end 10 → Small ns → end < 65536 →
+row_line : (letter : ℕ) (s : List ℕ) (at : ℕ) → (letter ≡ 10 → ⊥) → Begins s at letter → (ns : List ℕ) (end : ℕ) → TextAt s (at + 1) (numbers_text ns) end → StandsAt s end 10 → Small ns → end < 65536 →
     LineOf letter s at (map number ns) end × Small ns
 row_line letter s at other b ns end t l g early =
     let v = line_text_lem s at letter (map number ns) end b.0 t l in

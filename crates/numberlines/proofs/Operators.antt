@@ -18,7 +18,7 @@ use Rattle.text.specs.Bounds.{allows_all, widest, well_formed}
 use Rattle.text.proofs.Lengths.{fields_append}
 use Rattle.text.proofs.WrittenBack.{line_again, after_again}
 use Rattle.linekinds.specs.Reading.{Small}
-use Rattle.linekinds.specs.PlainText.{StandsAt, TextAt, fields_of}
+use Rattle.linekinds.specs.PlainText.{StandsAt, TextAt, numbers_text}
 use Rattle.linekinds.proofs.PlainText.{byte_text, joined, small_append, more_fields}
 use Rattle.linekinds.proofs.PlainLines.{small_wide, line_text_lem, line_is, after_is}
 use Rattle.numberlines.specs.NumberLines.{Begins, NumberAt, NumbersAt, OperatorLine, OperatorFound}
@@ -58,10 +58,10 @@ unfolding allows_all
 limitless_wide [] ys g h = small_wide ys h
 limitless_wide (x ∷ xs) ys g h = rw (le-leb x 18446744073709551615 (omega (arith, g.0))) (limitless_wide xs ys g.1 h)
 
-limitless_text : (s : List ℕ) (at p end : ℕ) (xs ys : List ℕ) → TextAt s at (fields_of xs) p → StandsAt s p 44 → TextAt s (p + 1) (fields_of ys) end → TextAt s at (fields_text (limitless xs ys)) end
+limitless_text : (s : List ℕ) (at p end : ℕ) (xs ys : List ℕ) → TextAt s at (numbers_text xs) p → StandsAt s p 44 → TextAt s (p + 1) (numbers_text ys) end → TextAt s at (fields_text (limitless xs ys)) end
 unfolding fields_text field_text
 limitless_text s at p end xs ys t k u =
-    rw (fields_append (map number xs) (empty ∷ map number ys)) (joined s (fields_of xs) (44 ∷ fields_of ys) at p end t (joined s (44 ∷ []) (fields_of ys) p (p + 1) end (byte_text s p 44 k) u))
+    rw (fields_append (map number xs) (empty ∷ map number ys)) (joined s (numbers_text xs) (44 ∷ numbers_text ys) at p end t (joined s (44 ∷ []) (numbers_text ys) p (p + 1) end (byte_text s p 44 k) u))
 
 -- ---- such a line's text, part by part
 
@@ -112,20 +112,20 @@ module _ {letter : ℕ} {s : List ℕ} {at : ℕ} {row : List ℕ} {end : ℕ} {
       let u = (parted s (letter ∷ []) (fields_text fs ++ (10 ∷ [])) at (end + 1) t).1 in
       let v = parted s (fields_text fs) (10 ∷ []) (at + 1) (end + 1) u in
       let stop : at + 1 + length (fields_text fs) ≡ end = omega (arith, v.1.place) in
-      let w : TextAt s (at + 1) (fields_of xs ++ (44 ∷ fields_of ys)) end = subst (TextAt s (at + 1) (fields_of xs ++ (44 ∷ fields_of ys))) stop (rw (fields_append (map number xs) (empty ∷ map number ys)) at v.0) in
-      let a = parted s (fields_of xs) (44 ∷ fields_of ys) (at + 1) end w in
-      let p : ℕ = at + 1 + length (fields_of xs) in
-      let b = (parted s (44 ∷ []) (fields_of ys) p end a.1).1 in
+      let w : TextAt s (at + 1) (numbers_text xs ++ (44 ∷ numbers_text ys)) end = subst (TextAt s (at + 1) (numbers_text xs ++ (44 ∷ numbers_text ys))) stop (rw (fields_append (map number xs) (empty ∷ map number ys)) at v.0) in
+      let a = parted s (numbers_text xs) (44 ∷ numbers_text ys) (at + 1) end w in
+      let p : ℕ = at + 1 + length (numbers_text xs) in
+      let b = (parted s (44 ∷ []) (numbers_text ys) p end a.1).1 in
       let c = fields_parted s (l.order ∷ []) (l.tracked ∷ l.need ∷ l.children ∷ []) (p + 1) end b in
-      let q : ℕ = p + 1 + length (fields_of (l.order ∷ [])) in
+      let q : ℕ = p + 1 + length (numbers_text (l.order ∷ [])) in
       let d = fields_parted s (l.tracked ∷ l.need ∷ []) (l.children ∷ []) q end c.1 in
       record {
         gap = p;
-        first = record { text = a.0; small = (m.0, (m.1.0, (m.1.1.0, tt))); ends = stands_first s p 44 (fields_of ys) end a.1 };
+        first = record { text = a.0; small = (m.0, (m.1.0, (m.1.1.0, tt))); ends = stands_first s p 44 (numbers_text ys) end a.1 };
         empty = stands_first s (p + 1) 44 _ end b;
         order = q;
         second = record { text = c.0; small = (m.1.1.1.0, tt); ends = stands_first s q 44 _ end c.1 };
-        need = q + length (fields_of (l.tracked ∷ l.need ∷ []));
+        need = q + length (numbers_text (l.tracked ∷ l.need ∷ []));
         third = record { text = d.0; small = (m.1.1.1.1.0, (m.1.1.1.1.1.0, tt)); ends = stands_first s _ 44 _ end d.1 };
         last = one_field s _ l.children end 10 d.1 m.1.1.1.1.1.1.0 (subst (λ (i : ℕ). StandsAt s i 10) stop (stands_first s _ 10 [] (end + 1) v.1));
       }
@@ -141,8 +141,8 @@ module _ (s : List ℕ) (at end : ℕ) (from : Comma) where
 
 module _ (letter : ℕ) (s : List ℕ) (at : ℕ) (row : List ℕ) (eleven : length row ≡ 11) where
   line_of :
-      (other : letter ≡ 10 → ⊥) (b : Begins s at letter) (xs ds es : List ℕ) (g p end : ℕ) → length xs ≡ 3 → length ds ≡ 1 → length es ≡ 2 → TextAt s (at + 1) (fields_of xs) p → StandsAt s p 44 →
-      TextAt s (p + 1) (fields_of (ds ++ (es ++ (g ∷ [])))) end → StandsAt s end 10 → Small xs → Small (ds ++ (es ++ (g ∷ []))) → end < 65536 → OperatorLine letter s at row end (row_of row xs ds es g)
+      (other : letter ≡ 10 → ⊥) (b : Begins s at letter) (xs ds es : List ℕ) (g p end : ℕ) → length xs ≡ 3 → length ds ≡ 1 → length es ≡ 2 → TextAt s (at + 1) (numbers_text xs) p → StandsAt s p 44 →
+      TextAt s (p + 1) (numbers_text (ds ++ (es ++ (g ∷ [])))) end → StandsAt s end 10 → Small xs → Small (ds ++ (es ++ (g ∷ []))) → end < 65536 → OperatorLine letter s at row end (row_of row xs ds es g)
   line_of other b (x ∷ y ∷ z ∷ []) (d ∷ []) (e ∷ f ∷ []) g p end i j k t h u l m o early =
       let os : List ℕ = d ∷ e ∷ f ∷ g ∷ [] in
       let fs : List Field = limitless (x ∷ y ∷ z ∷ []) os in

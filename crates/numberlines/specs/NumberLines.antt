@@ -7,7 +7,7 @@ use Rattle.text.specs.declared.field.Field.TheVariants.{Number as number, Empty 
 use Rattle.text.specs.Text.{line_at, after}
 use Rattle.text.specs.Write.{decimal}
 use Rattle.linekinds.specs.Reading.{Small}
-use Rattle.linekinds.specs.PlainText.{StandsAt, TextAt, fields_of}
+use Rattle.linekinds.specs.PlainText.{StandsAt, TextAt, numbers_text}
 use Rattle.linekinds.specs.declared.plain.Number.{Number}
 use Rattle.numberlines.specs.declared.row.Unread.{Unread}
 use Rattle.numberlines.specs.declared.row.Unread.TheVariants.{Unusual, Other}
@@ -33,7 +33,7 @@ NumberTo s at b None = (n end : ℕ) → NumberAt s at n end b → ⊥
 
 -- such numbers one after another, and a comma after them
 pub record NumbersAt (s : List ℕ) (at : ℕ) (ns : List ℕ) (end : ℕ) : Type 0 where
-  pub text : TextAt s at (fields_of ns) end
+  pub text : TextAt s at (numbers_text ns) end
   pub small : Small ns
   pub ends : StandsAt s end 44
 
