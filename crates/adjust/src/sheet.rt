@@ -1,7 +1,7 @@
 // The numbers and lists of a K sheet that a decision reads.
 ghost use Rattle.std.specs.Prelude.{◌≡◌, ◌≤◌, length};
 ghost use Rattle.keys.specs.Arrange.{Below};
-ghost use Rattle.adjust.specs.Bounds.{Below-prop};
+ghost use Rattle.adjust.specs.Bounds.{below_prop};
 
 use keys::answer::Operator;
 
@@ -20,7 +20,7 @@ pub struct Sheet<'a> {
     ghost even: { length right.now ≡ length left.now },
     ghost few_groups: { length groups.now ≤ 32 },
     ghost few_aggregates: { length aggregates.now ≤ 32 },
-    ghost named: { Below 65536 groups.now } by { Below-prop 65536 groups.now },
+    ghost named: { Below 65536 groups.now } by { below_prop 65536 groups.now },
 }
 
 // Those that an aggregate's decision reads: whoever asks it has no pairs to lend.
@@ -34,5 +34,5 @@ pub struct AggregateSheet<'a> {
     ghost few_required: { length required.now ≤ 32 },
     ghost few_groups: { length groups.now ≤ 32 },
     ghost few_aggregates: { length aggregates.now ≤ 32 },
-    ghost named: { Below 65536 groups.now } by { Below-prop 65536 groups.now },
+    ghost named: { Below 65536 groups.now } by { below_prop 65536 groups.now },
 }

@@ -14,8 +14,7 @@ use Rattle.moves.specs.Chosen.{followed_or}
 use Rattle.moves.specs.Moved.{MovedBy}
 use Rattle.moves.specs.declared.moved.MovedPairs.{MovedPairs}
 use Rattle.answers.specs.AnswerLists.{JoinFew}
-use Rattle.lines.specs.Texts.{join_lists_text}
-use Rattle.lines.specs.AnswerTexts.{join_text_of}
+use Rattle.lines.specs.Texts.{join_lists_text, join_text_of}
 use Rattle.lines.specs.declared.join_text.JoinLists.{JoinLists}
 use Rattle.lines.proofs.AnswerParts.{join_answer_text_lem}
 use Rattle.moves.proofs.Choices.{Short, moved_short, turned_short, followed_any}

@@ -8,7 +8,7 @@ use native.Mathlib.Omega.{arith}
 use lib.ListN.{length, get_or}
 use Rattle.keys.specs.Lists.{permute}
 use Rattle.keys.specs.Expressions.{gone_number, expressions}
-use Rattle.keys.specs.Answers.{changed_by, reported_by, moved_or, answer_by}
+use Rattle.keys.specs.Answers.{changed_by, report_by, moved_or, answer_by}
 use Rattle.keys.specs.declared.answer.Handed.{Handed}
 use Rattle.keys.specs.declared.answer.Outcome.{Outcome}
 use Rattle.sheet.specs.KeyAnswers.{key_answer_text}
@@ -19,8 +19,7 @@ use Rattle.moves.specs.Moved.{MovedBy}
 use Rattle.moves.specs.declared.moved.MovedPairs.{MovedPairs}
 use Rattle.answers.specs.AnswerLists.{KeyFew, held_projection}
 use Rattle.lines.specs.Children.{children_text}
-use Rattle.lines.specs.Texts.{key_lists_text}
-use Rattle.lines.specs.AnswerTexts.{key_text_of}
+use Rattle.lines.specs.Texts.{key_lists_text, key_text_of}
 use Rattle.lines.specs.declared.key_text.KeyLists.{KeyLists}
 use Rattle.lines.specs.declared.children.Children.{Children}
 use Rattle.lines.proofs.AnswerParts.{key_answer_held}
@@ -42,7 +41,7 @@ module _ (lists : List (List ℕ)) (counts : List ℕ) (outcome : Outcome) (clea
   -- what was chosen, by the outcome
   pub record KeyChosen (x : KeyLists) (c : Children) : Type 0 where
     pub changes : x.changed ≡ changed_by outcome
-    pub reports : x.report ≡ reported_by outcome
+    pub reports : x.report ≡ report_by outcome
     pub positions : x.positions.now ≡ m.positions.now
     pub required : x.required.now ≡ cond cleared [] (At 1)
     pub left_is : x.left.now ≡ moved_or outcome m.left.now (At 2)

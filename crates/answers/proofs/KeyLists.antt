@@ -9,7 +9,7 @@ use lib.ListN.{length, get_or}
 use Rattle.keys.specs.Lists.{permute}
 use Rattle.keys.specs.Expressions.{Expression, placeholder, gone_number, expressions}
 use Rattle.keys.specs.Adjust.{KeySheet, KeyAnswer, hand_over, moved_directions, shift_right_required}
-use Rattle.keys.specs.Answers.{changed_by, reported_by, moved_or, handed, side_by, answer_by}
+use Rattle.keys.specs.Answers.{changed_by, report_by, moved_or, handed, side_by, answer_by}
 use Rattle.keys.specs.declared.reorder.Reordered.TheVariants.{Met, Moved, Impossible}
 use Rattle.keys.specs.declared.answer.Handed.{Handed}
 use Rattle.keys.specs.declared.answer.Handed.TheVariants.{Kept, Cleared, Required, Keys, Shifted, Mapped}
@@ -70,7 +70,7 @@ module _ (lists : List (List ℕ)) (counts : List ℕ) where
     the_answer = answer_by (held_key_sheet lists counts) o cleared first others ps places
 
     pub key_lists :
-        KeyLists the_answer (changed_by o) (reported_by o) ps (cond cleared [] (At 1)) (side 2) (side 3)
+        KeyLists the_answer (changed_by o) (report_by o) ps (cond cleared [] (At 1)) (side 2) (side 3)
         (moved_or o (moved_directions (At 4) ps) (At 4)) (held_projection lists counts o places)
     unfolding held_key_sheet
     key_lists = record {

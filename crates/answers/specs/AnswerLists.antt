@@ -2,7 +2,7 @@
 use Rattle.std.specs.Prelude.{ℕ, ◌≤◌, ◌≡◌, List, ◌++◌, length, IfSome, option_copied}
 use Rattle.sheet.specs.Held.{held_at, child_count}
 use Rattle.sheet.specs.declared.held.Lists.{Lists}
-use Rattle.lines.specs.AnswerTexts.{key_text_of}
+use Rattle.lines.specs.Texts.{key_text_of}
 use Rattle.lines.specs.Children.{children_text}
 use Rattle.lines.specs.declared.key_text.KeyLists.{KeyLists}
 use Rattle.lines.specs.declared.join_text.JoinLists.{JoinLists}

@@ -6,7 +6,7 @@ ghost use Rattle.keys.specs.InputValues.{attempt_of};
 ghost use Rattle.sheet.specs.KeyAnswers.{wrote, join_answer_text};
 ghost use Rattle.sheet.specs.Outcomes.{within, Writes};
 ghost use Rattle.sheet.specs.Held.{held_join_sheet, JoinHeld};
-ghost use Rattle.lines.specs.AnswerTexts.{join_text_of};
+ghost use Rattle.lines.specs.Texts.{join_text_of};
 ghost use Rattle.answers.specs.AnswerLists.{JoinFew, JoinPairs};
 
 use keys::inputs::Attempt;
@@ -17,6 +17,7 @@ use moves::held_join::HeldJoin;
 use moves::moved::{MovedPairs, PairRooms, pairs_at};
 use refusals::{Refusal, Refused};
 use sheet::held::Lists;
+use sheet::join_lines;
 
 // Whether there is room for the lists; `roomy` says that there is for any answer, so that none is measured.
 fn text_fits(roomy: bool, room: usize, x: &JoinLists<'_>) -> bool
@@ -47,9 +48,9 @@ fn chosen<'a>(sheet: HeldJoin<'a>, o: &Attempt, moved: MovedPairs<'a>) -> JoinLi
         report: o.report(),
         followed: o.followed(),
         positions: moved.positions,
-        left: followed_or(o, moved.left, sheet.list(HeldJoin::LEFT)),
-        right: followed_or(o, moved.right, sheet.list(HeldJoin::RIGHT)),
-        directions: followed_or(o, moved.directions, sheet.list(HeldJoin::DIRECTIONS)),
+        left: followed_or(o, moved.left, sheet.list(join_lines::LEFT)),
+        right: followed_or(o, moved.right, sheet.list(join_lines::RIGHT)),
+        directions: followed_or(o, moved.directions, sheet.list(join_lines::DIRECTIONS)),
     }
 }
 
@@ -70,9 +71,9 @@ fn answer_attempt(
     }
     let mut rooms = PairRooms::EMPTY;
     let moved = pairs_at(
-        sheet.list(HeldJoin::LEFT),
-        sheet.list(HeldJoin::RIGHT),
-        sheet.list(HeldJoin::DIRECTIONS),
+        sheet.list(join_lines::LEFT),
+        sheet.list(join_lines::RIGHT),
+        sheet.list(join_lines::DIRECTIONS),
         at,
         &mut rooms,
     );

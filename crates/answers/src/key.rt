@@ -19,6 +19,7 @@ use moves::moved::{MovedPairs, PairRooms, pairs_at};
 use moves::projection::projected_by;
 use refusals::{Refusal, Refused};
 use sheet::held::Lists;
+use sheet::key_lines;
 
 // The lists of an answer, and what the sheet's children are handed.
 #[derive(Clone, Copy)]
@@ -34,7 +35,7 @@ fn child_count(h: &[u64]) -> usize
     requires { 7 ≤ length h.now }
     ensures { result ≡ get_or h.now 6 0 }
 {
-    h[HeldKey::CHILDREN] as usize
+    h[key_lines::CHILDREN] as usize
 }
 
 // Whether there is room for the lists and the children's lists; `roomy` says that there is for any answer, so that none is measured.
@@ -42,7 +43,7 @@ fn text_fits(roomy: bool, room: usize, a: &KeyAnswer<'_>) -> bool
     requires { roomy ≡ true → length (whole_text a.now.lists a.now.children a.now.sheet.held) ≤ room }
     ensures { result ≡ leb (length (whole_text a.now.lists a.now.children a.now.sheet.held)) room }
 {
-    let n = child_count(a.sheet.list(HeldKey::HEAD));
+    let n = child_count(a.sheet.list(key_lines::HEAD));
     roomy || key_lists_length(&a.lists) + children_length(a.children, a.sheet.held, n) <= room
 }
 
@@ -55,7 +56,7 @@ fn write_key(roomy: bool, a: &KeyAnswer<'_>, out: &mut [u8]) -> Result<usize, Re
     if !text_fits(roomy, out.len(), a) {
         return Err(Refusal::OutputTooShort.on_line(0));
     }
-    let n = child_count(a.sheet.list(HeldKey::HEAD));
+    let n = child_count(a.sheet.list(key_lines::HEAD));
     let at = put_key_lists(&mut *out, &a.lists);
     Ok(put_children(out, at, a.children, a.sheet.held, n))
 }
@@ -73,9 +74,9 @@ fn chosen<'a>(
     ensures { whole_text result.lists result.children result.sheet.held ≡ key_answer_text (answer_of (held_key_sheet sheet.entry.held.lists.now sheet.entry.held.counts.now) x.now) }
 {
     let o = &x.outcome;
-    let required = sheet.list(HeldKey::REQUIRED);
-    let mapped = sheet.list(HeldKey::MAPPED);
-    let columns = sheet.list(HeldKey::HEAD)[HeldKey::COLUMNS];
+    let required = sheet.list(key_lines::REQUIRED);
+    let mapped = sheet.list(key_lines::MAPPED);
+    let columns = sheet.list(key_lines::HEAD)[key_lines::COLUMNS];
     let n = shifted_keys(x.first, x.others, required, columns, &mut *shifts);
     let shifted = &shifts[..n];
     let lists = KeyLists {
@@ -83,9 +84,9 @@ fn chosen<'a>(
         report: o.report(),
         positions: moved.positions,
         required: cleared_or(x.cleared, required),
-        left: moved_or(o, moved.left, sheet.list(HeldKey::LEFT)),
-        right: moved_or(o, moved.right, sheet.list(HeldKey::RIGHT)),
-        directions: moved_or(o, moved.directions, sheet.list(HeldKey::DIRECTIONS)),
+        left: moved_or(o, moved.left, sheet.list(key_lines::LEFT)),
+        right: moved_or(o, moved.right, sheet.list(key_lines::RIGHT)),
+        directions: moved_or(o, moved.directions, sheet.list(key_lines::DIRECTIONS)),
         projection,
     };
     let children = Children {
@@ -119,8 +120,8 @@ fn answer_pairs(
     let mut names = [0; 128];
     let n = projected_by(
         &x.outcome,
-        sheet.list(HeldKey::GROUPS),
-        sheet.list(HeldKey::AGGREGATES),
+        sheet.list(key_lines::GROUPS),
+        sheet.list(key_lines::AGGREGATES),
         &mut names,
     );
     let answer = chosen(sheet, x, moved, &names[..n], &mut shifts);
@@ -143,9 +144,9 @@ fn answer_adjusted(
     }
     let mut rooms = PairRooms::EMPTY;
     let moved = pairs_at(
-        sheet.list(HeldKey::LEFT),
-        sheet.list(HeldKey::RIGHT),
-        sheet.list(HeldKey::DIRECTIONS),
+        sheet.list(key_lines::LEFT),
+        sheet.list(key_lines::RIGHT),
+        sheet.list(key_lines::DIRECTIONS),
         at,
         &mut rooms,
     );

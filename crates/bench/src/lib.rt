@@ -1,7 +1,7 @@
 // The line reader, the line writer and `try_reorder`, as the benchmark in Rust calls them.
 #![tactic(auto)]
 
-ghost use Rattle.std.specs.Prelude.{◌≡◌, map, length, drop, set};
+ghost use Rattle.std.specs.Prelude.{◌≡◌, map, length, drop};
 ghost use Rattle.text.specs.Text.{line, line_fields, line_at, after};
 ghost use Rattle.text.specs.Read.{stored_in};
 ghost use Rattle.text.specs.Write.{row_field, line_text};
@@ -11,9 +11,11 @@ ghost use Rattle.keys.specs.Lists.{permute};
 ghost use Rattle.keys.specs.Expressions.{gone_number};
 ghost use Rattle.bench.specs.Orders.{report_for, left_for, right_for};
 
+use keys::expr::GONE;
 use keys::list::{Positions, entry};
-use keys::reorder::{GONE, Pairs, Reordered, try_reorder};
+use keys::reorder::{Pairs, Reordered, try_reorder};
 use text::line::line_at;
+use text::store::store;
 use text::write::{line_length, put_line};
 
 // A line that was found, with the place after it; all 0 where there is none.
@@ -54,14 +56,6 @@ pub extern "C" fn bench_put_line(out: &mut [u8], at: usize, letter: u8, rows: &[
     }
     // No From goes from usize to u64.
     put_line(out, at, letter, rows) as u64
-}
-
-fn store(out: &mut [u64], i: usize, value: u64)
-    ensures { out.new ≡ set out.old i value }
-{
-    if i < out.len() {
-        out[i] = value;
-    }
 }
 
 // Stores the keys at the positions where there is room, one by one, since C's array may be shorter.

@@ -1,25 +1,27 @@
 -- The lists of an I sheet's answer, by its positions.
 --     inputs_counted                   how many positions are reported, and that they are below the pairs' number
 --     inputs_lists                     the answer's keys and directions are those at the positions, or as they stood
+--     keys_handed                      the part of the lent lists that is handed back holds the keys that were followed
 -- Assumes nothing.
 use Prim.Native.Nat.{ℕ}
 use mathlib.Core.Path.{◌≡◌, refl, ap, sym, ◌∙◌, subst}
-use mathlib.Core.Bool.{Bool}
+use mathlib.Core.Bool.{Bool, cond}
+use lib.Dec.{eqb}
 use mathlib.Core.Option as maybe
 use mathlib.Core.Option.{some}
 use Rattle.std.specs.Prelude.{Option, Some, None}
-use mathlib.Core.List.{List}
+use mathlib.Core.List.{List, []}
 use native.Mathlib.Omega.{arith}
 use lib.ListN.{length, drop, length-map}
 use denote.Ref.{Bor}
 use lib.Seq.{take_all}
 use Rattle.keys.specs.Lists.{permute}
 use Rattle.keys.specs.Reorder.{Rule, Tried, try_reorder}
-use Rattle.keys.specs.Expressions.{Expression, same_expr, placeholder, expression, expressions}
+use Rattle.keys.specs.Expressions.{Expression, same_expr, placeholder, expression, expressions, gone_number}
 use Rattle.keys.specs.Arrange.{Below}
 use Rattle.keys.specs.Inputs.{JoinSheet, JoinAnswer, as_stood, following, reorder_join_keys_to_inputs, followed_keys}
 use Rattle.keys.specs.Kept.{asked_under}
-use Rattle.keys.specs.InputValues.{input_of, join_sheet, side_number, HandedBack, attempt_of, report_by, side_by, positions_by, position_count, InputsOrdered, InputLists}
+use Rattle.keys.specs.InputValues.{input_of, join_sheet, side_number, HandedBack, attempt_of, report_by, side_by, positions_by}
 use Rattle.keys.specs.declared.inputs.Side.{Side}
 use Rattle.keys.specs.declared.inputs.Side.TheVariants.{Left, Right}
 use Rattle.keys.specs.declared.inputs.Attempt.{Attempt}
@@ -37,6 +39,18 @@ module _ {A : Type 0} (same : A → A → Bool) (gone : A) (w : List (Rule A)) (
 
   found_within : Below (length l) ps
   found_within = found_below (length l) (searched same gone w r l g) ps (searched_below same gone w r l g (sym even)) e
+
+-- how many positions are reported: one for each pair, where the pairs are moved
+abbrev pub position_count : ℕ → List ℕ → ℕ
+position_count report l = cond (eqb report 2) (length l) 0
+
+-- the lists of an answer, packed: where the pairs are moved, what stands at the positions, and else what stood
+pub record InputLists (l g s : List ℕ) (a : JoinAnswer) : Type 0 where
+  pub left : a.report ≡ 2 → a.left ≡ expressions (permute gone_number l a.positions)
+  pub right : a.report ≡ 2 → a.right ≡ expressions (permute gone_number g a.positions)
+  pub directed : a.report ≡ 2 → length s ≡ length l → a.directions ≡ permute 0 s a.positions
+  pub undirected : s ≡ [] → a.directions ≡ []
+  pub stood : (a.report ≡ 2 → ⊥) → (a.left ≡ expressions l) × (a.right ≡ expressions g) × (a.directions ≡ s)
 
 -- an answer on the pairs l, g: how many positions, and below what
 pub record Counted (l : List ℕ) (a : JoinAnswer) : Type 0 where
@@ -122,53 +136,25 @@ module _ (op mode : ℕ) (l g s h n : List ℕ) (w v : List (List ℕ)) where
   pub right_keys : answered.followed ≡ 2 → followed_keys sheet answered.followed ≡ expressions (drop 1 n)
   right_keys e = rw (e, right_input_lem answered (input_way same_expr sheet) e)
 
--- what the lent places and the part handed back say, where c is the answer
-module _ (op mode : ℕ) (l g s : List ℕ) (h n : Bor (List ℕ)) (w v : List (List ℕ)) (even : length g ≡ length l) (c : Attempt) where
+-- what a case names is what its answer has
+module _ (s : JoinSheet) where
+  pub attempt_read : (o : Attempt) → let a = attempt_of s o in (report_by o ≡ a.report) × (side_number (side_by o) ≡ a.followed) × (positions_by o ≡ a.positions)
+  attempt_read Untried = (refl, refl, refl)
+  attempt_read (Followed side o) = (refl, refl, refl)
+  attempt_read Failed = (refl, refl, refl)
+
+-- the part handed back holds the keys that were followed
+module _ (op mode : ℕ) (l g s : List ℕ) (h n : Bor (List ℕ)) (w v : List (List ℕ)) where
   abbrev the_sheet : JoinSheet
   the_sheet = sheet op mode l g s h.now n.now w v
 
   abbrev the_answer : JoinAnswer
   the_answer = answered op mode l g s h.now n.now w v
 
-  module _ (e : attempt_of the_sheet c ≡ the_answer) where
-    report_is : report_by c ≡ the_answer.report
-    report_is = go c ∙ ap (λ (a : JoinAnswer). a.report) e
-      where
-        go : (o : Attempt) → report_by o ≡ (attempt_of the_sheet o).report
-        go Untried = refl
-        go (Followed side o) = refl
-        go Failed = refl
+  keys_are : (side : Option Side) (r : Bor (List ℕ)) → side_number side ≡ the_answer.followed → HandedBack (side_number side) h n r → expressions r.now ≡ followed_keys the_sheet the_answer.followed
+  keys_are None r z b = rw (← z, (b.neither refl).contents)
+  keys_are (Some Left) r z b = rw (part_keys h r (b.left refl)) (sym (left_keys op mode l g s h.now n.now w v (sym z)))
+  keys_are (Some Right) r z b = rw (part_keys n r (b.right refl)) (sym (right_keys op mode l g s h.now n.now w v (sym z)))
 
-    side_is : side_number (side_by c) ≡ the_answer.followed
-    side_is = go c ∙ ap (λ (a : JoinAnswer). a.followed) e
-      where
-        go : (o : Attempt) → side_number (side_by o) ≡ (attempt_of the_sheet o).followed
-        go Untried = refl
-        go (Followed side o) = refl
-        go Failed = refl
-
-    positions_are : positions_by c ≡ the_answer.positions
-    positions_are = go c ∙ ap (λ (a : JoinAnswer). a.positions) e
-      where
-        go : (o : Attempt) → positions_by o ≡ (attempt_of the_sheet o).positions
-        go Untried = refl
-        go (Followed side o) = refl
-        go Failed = refl
-
-    keys_are : (side : Option Side) (r : Bor (List ℕ)) → side_number side ≡ the_answer.followed → HandedBack (side_number side) h n r → expressions r.now ≡ followed_keys the_sheet the_answer.followed
-    keys_are None r z b = rw (← z, (b.neither refl).contents)
-    keys_are (Some Left) r z b = rw (part_keys h r (b.left refl)) (sym (left_keys op mode l g s h.now n.now w v (sym z)))
-    keys_are (Some Right) r z b = rw (part_keys n r (b.right refl)) (sym (right_keys op mode l g s h.now n.now w v (sym z)))
-
-    pub inputs_ordered :
-        (r : Bor (List ℕ)) → HandedBack (side_number (side_by c)) h n r →
-        InputsOrdered the_sheet the_answer l (report_by c) (side_number (side_by c)) (positions_by c) r.now
-    inputs_ordered r b =
-        let m = inputs_counted op mode l g s h.now n.now w v even in
-        record {
-          reported = report_is;
-          follows = side_is;
-          positions = rw (positions_are, report_is) (take_all (position_count the_answer.report l) the_answer.positions (omega (arith, m.count)));
-          below = m.below;
-          handed = keys_are (side_by c) r side_is b;
-        }
+  pub keys_handed : (c : Attempt) → attempt_of the_sheet c ≡ the_answer → (r : Bor (List ℕ)) → HandedBack (side_number (side_by c)) h n r → expressions r.now ≡ followed_keys the_sheet the_answer.followed
+  keys_handed c e r = keys_are (side_by c) r ((attempt_read the_sheet c).1 ∙ ap (λ (a : JoinAnswer). a.followed) e)

@@ -10,7 +10,7 @@ use Rattle.std.specs.Prelude.{Some}
 use Rattle.keys.specs.Reorder.{try_reorder}
 use Rattle.keys.specs.Expressions.{same_expr, placeholder, gone_number, expression, expressions, rules}
 use Rattle.keys.specs.Inputs.{JoinSheet, JoinAnswer, as_stood, following, try_side, try_right, reorder_current_join_keys, reorder_join_keys_to_inputs}
-use Rattle.keys.specs.Kept.{order_tried}
+use Rattle.keys.specs.Codes.{order_tried}
 use Rattle.keys.specs.Values.{numbers, number_rules, report_of, positions_in, resulting, tried_of}
 use Rattle.keys.specs.InputValues.{input_of, with_pairs, side_number, current_try, answer_by, attempt_of}
 use Rattle.keys.specs.declared.reorder.Reordered.{Reordered}

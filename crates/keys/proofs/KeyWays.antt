@@ -11,7 +11,7 @@ use lib.ListN.{length}
 use Rattle.keys.specs.Lists.{same_list, expected_expr_positions, permute}
 use Rattle.keys.specs.Expressions.{Expression, placeholder}
 use Rattle.keys.specs.Adjust.{KeySheet, Adjustment, answered, passed_on, columns_from, name_places, reorder_partitioned_join_keys, regrouped, regrouped_by, aggregate, hash_join, adjust_input_keys_ordering}
-use Rattle.keys.specs.Kept.{order_tried}
+use Rattle.keys.specs.Codes.{order_tried}
 use Rattle.keys.proofs.Truths.{and_first, by_test}
 
 module _ (same : Expression → Expression → Bool) (s : KeySheet) where

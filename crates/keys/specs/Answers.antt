@@ -3,8 +3,7 @@ use Rattle.std.specs.Prelude.{ℕ, Bool, cond, List, [], ◌++◌, length, Optio
 use Rattle.keys.specs.Lists.{permute}
 use Rattle.keys.specs.Expressions.{Expression, placeholder, expressions, rules}
 use Rattle.keys.specs.Adjust.{KeySheet, KeyAnswer, Projected, Adjustment, answered, name_not_found, hand_over, moved_directions, shift_right_required, placed_names, names_from}
-use Rattle.keys.specs.Values.{numbers, report_of, positions_in}
-use Rattle.keys.specs.declared.reorder.Reordered.TheVariants.{Met, Moved, Impossible}
+use Rattle.keys.specs.Values.{numbers, report_of, positions_in, tried_or}
 use Rattle.keys.specs.declared.answer.Operator.{Operator}
 use Rattle.keys.specs.declared.answer.Handed.{Handed}
 use Rattle.keys.specs.declared.answer.Handed.TheVariants.{Kept, Cleared, Required, Keys, Shifted, Mapped}
@@ -48,11 +47,11 @@ changed_by Passed = 1
 changed_by (Tried o) = 1
 changed_by (Regrouped at places) = 1
 
-abbrev pub reported_by : Outcome → ℕ
-reported_by Unchanged = 0
-reported_by Passed = 0
-reported_by (Tried o) = report_of o
-reported_by (Regrouped at places) = 2
+abbrev pub report_by : Outcome → ℕ
+report_by Unchanged = 0
+report_by Passed = 0
+report_by (Tried o) = report_of o
+report_by (Regrouped at places) = 2
 
 -- there are positions only where pairs or groups moved, and places only where groups did
 abbrev pub positions_by : Outcome → List ℕ
@@ -71,9 +70,7 @@ places_by (Regrouped at places) = numbers places
 abbrev pub moved_or : {A : Type 0} → Outcome → A → A → A
 moved_or Unchanged moved stood = stood
 moved_or Passed moved stood = stood
-moved_or (Tried Met) moved stood = stood
-moved_or (Tried (Moved at)) moved stood = moved
-moved_or (Tried Impossible) moved stood = stood
+moved_or (Tried o) moved stood = tried_or o moved stood
 moved_or (Regrouped at places) moved stood = stood
 
 abbrev pub projected_by : Outcome → List Projected → List Projected
@@ -91,7 +88,7 @@ module _ (s : KeySheet) (o : Outcome) (cleared : Bool) (first others : Handed) (
   abbrev pub answer_by : KeyAnswer
   answer_by = record {
     changed = changed_by o;
-    report = reported_by o;
+    report = report_by o;
     positions = ps;
     required = cond cleared [] s.required;
     left = side_by s.left;

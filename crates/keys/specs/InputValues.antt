@@ -3,11 +3,9 @@ use Rattle.std.specs.Prelude.{ℕ, ◌≤◌, ◌+◌, ◌*◌, ◌-◌, ◌≡�
 use Rattle.std.proofs.Math.Option as maybe
 use Rattle.std.proofs.Math.Option.{none, some}
 use Rattle.std.specs.Borrow.{Bor}
-use Rattle.keys.specs.Lists.{permute}
 use Rattle.keys.specs.Reorder.{Tried}
-use Rattle.keys.specs.Expressions.{Expression, placeholder, expressions, gone_number, rules}
-use Rattle.keys.specs.Inputs.{JoinSheet, JoinAnswer, as_stood, following, followed_keys}
-use Rattle.keys.specs.Arrange.{Below}
+use Rattle.keys.specs.Expressions.{Expression, placeholder, expressions, rules}
+use Rattle.keys.specs.Inputs.{JoinSheet, JoinAnswer, as_stood, following}
 use Rattle.keys.specs.Values.{report_of, positions_in, resulting}
 use Rattle.keys.specs.declared.reorder.Reordered.{Reordered}
 use Rattle.keys.specs.declared.inputs.Side.{Side}
@@ -106,23 +104,3 @@ abbrev pub positions_by : Attempt → List ℕ
 positions_by Untried = []
 positions_by (Followed side o) = positions_in o
 positions_by Failed = []
-
--- how many positions are reported: one for each pair, where the pairs are moved
-abbrev pub position_count : ℕ → List ℕ → ℕ
-position_count report l = cond (eqb report 2) (length l) 0
-
--- what the lent places, and the list handed back, say of a sheet's answer
-pub record InputsOrdered (s : JoinSheet) (a : JoinAnswer) (l : List ℕ) (report followed : ℕ) (at ks : List ℕ) : Type 0 where
-  pub reported : report ≡ a.report
-  pub follows : followed ≡ a.followed
-  pub positions : take (position_count report l) at ≡ a.positions
-  pub below : Below (length l) a.positions
-  pub handed : expressions ks ≡ followed_keys s a.followed
-
--- the lists of an answer, packed: where the pairs are moved, what stands at the positions, and else what stood
-pub record InputLists (l g s : List ℕ) (a : JoinAnswer) : Type 0 where
-  pub left : a.report ≡ 2 → a.left ≡ expressions (permute gone_number l a.positions)
-  pub right : a.report ≡ 2 → a.right ≡ expressions (permute gone_number g a.positions)
-  pub directed : a.report ≡ 2 → length s ≡ length l → a.directions ≡ permute 0 s a.positions
-  pub undirected : s ≡ [] → a.directions ≡ []
-  pub stood : (a.report ≡ 2 → ⊥) → (a.left ≡ expressions l) × (a.right ≡ expressions g) × (a.directions ≡ s)

@@ -1,9 +1,10 @@
 -- An input sheet and its answer on plain lists, the equality of expressions a parameter.
 -- Renders `reorder_join_keys_to_inputs` and `reorder_current_join_keys` of 000; document 01, "`I,op,mode` then L, G, S, H, N, W, V".
-use Rattle.std.specs.Prelude.{ℕ, Bool, cond, ◌&&◌, ◌||◌, List, [], eqb}
+use Rattle.std.specs.Prelude.{ℕ, Bool, cond, List, [], eqb}
 use Rattle.std.proofs.Math.Option.{Option, none, some}
 use Rattle.keys.specs.Reorder.{Rule, Tried, try_reorder}
 use Rattle.keys.specs.Expressions.{Expression, placeholder}
+use Rattle.keys.specs.Codes.{order_tried}
 use Rattle.keys.specs.Adjust.{directions_of}
 
 -- `left_input` is H and `right_input` N: none where the mark for hash partitioning is 0
@@ -59,9 +60,9 @@ module _ (s : JoinSheet) where
     abbrev pub reorder_current_join_keys : JoinAnswer
     reorder_current_join_keys = try_side 1 s.left_rewriting (try_right 3) (try_right 0) s.left_input
 
-    -- a sort-merge join, or a Partitioned hash join
+    -- a sort-merge join, or a Partitioned hash join, is tried
     unfoldable pub reorder_join_keys_to_inputs : JoinAnswer
-    reorder_join_keys_to_inputs = cond (eqb s.op 2 || (eqb s.op 0 && eqb s.mode 0)) reorder_current_join_keys (as_stood 0)
+    reorder_join_keys_to_inputs = cond (order_tried s.op s.mode) reorder_current_join_keys (as_stood 0)
 
 -- the keys that were followed
 abbrev pub input_keys : Option (List Expression) → List Expression

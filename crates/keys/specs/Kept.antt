@@ -6,6 +6,7 @@ use Rattle.keys.specs.Lists.{permute}
 use Rattle.keys.specs.Reorder.{Rule, rewrite}
 use Rattle.keys.specs.Expressions.{Expression, placeholder}
 use Rattle.keys.specs.Arrange.{Arrangement, Lacks, FitsSide}
+pub use Rattle.keys.specs.Codes.{order_tried}
 use Rattle.keys.specs.Adjust.{KeySheet, KeyAnswer}
 use Rattle.keys.specs.Inputs.{JoinSheet, JoinAnswer, followed_keys}
 
@@ -57,10 +58,6 @@ module _ (same : Expression → Expression → Bool) (w : List (Rule Expression)
     pub met : report ≡ 1 → FitsPairs before (up_from 0 (length before.left))
     pub moved : report ≡ 2 → FitsPairs before positions
     pub out : FitsPairs after (up_from 0 (length after.left))
-
--- a sort-merge join, or a Partitioned hash join
-abbrev pub order_tried : ℕ → ℕ → Bool
-order_tried op mode = eqb op 2 || (eqb op 0 && eqb mode 0)
 
 abbrev pub sheet_pairs : KeySheet → Pairs
 sheet_pairs s = record { left = s.left; right = s.right; directions = s.directions }

@@ -52,11 +52,15 @@ positions_in Met = []
 positions_in (Moved at) = numbers at
 positions_in Impossible = []
 
+-- what the pairs' move leaves, or what stood
+abbrev pub tried_or : {A : Type 0} → Reordered → A → A → A
+tried_or Met moved stood = stood
+tried_or (Moved at) moved stood = moved
+tried_or Impossible moved stood = stood
+
 -- the keys at the positions where they moved, or those that stood
 abbrev pub resulting : {A : Type 0} → A → Reordered → List A → List A
-resulting gone Met ks = ks
-resulting gone (Moved at) ks = permute gone ks (numbers at)
-resulting gone Impossible ks = ks
+resulting gone o ks = tried_or o (permute gone ks (positions_in o)) ks
 
 -- of the pairs l, g
 abbrev pub tried_of : List ℕ → List ℕ → Reordered → Tried ℕ

@@ -1,6 +1,6 @@
 // What is answered of an operator: an outcome, and what each child's list becomes.
 ghost use Rattle.std.specs.Prelude.{◌≡◌, false, true};
-ghost use Rattle.keys.specs.Answers.{changed_by, reported_by, positions_by, places_by};
+ghost use Rattle.keys.specs.Answers.{changed_by, report_by, positions_by, places_by};
 
 use crate::list::{NumberList, Positions};
 use crate::reorder::Reordered;
@@ -48,7 +48,7 @@ impl Outcome {
     }
 
     pub fn report(self) -> u64
-        ensures { result ≡ reported_by self }
+        ensures { result ≡ report_by self }
     {
         match self {
             Outcome::Unchanged | Outcome::Passed => 0,

@@ -9,6 +9,9 @@ pub const OTHER: u64 = 1;
 
 pub const PLACEHOLDER: u64 = 2;
 
+// The placeholder with nothing behind it, packed.
+pub const GONE: u64 = 8589934592;
+
 #[derive(Clone, Copy, PartialEq, Eq, Debug)]
 pub struct Expr {
     pub number: u64,

@@ -1,6 +1,6 @@
 // What is answered of a join's inputs: which side was followed, and what came of it.
 ghost use Rattle.std.specs.Prelude.{◌≡◌, Some};
-ghost use Rattle.keys.specs.Kept.{order_tried};
+ghost use Rattle.keys.specs.Codes.{order_tried};
 ghost use Rattle.keys.specs.InputValues.{side_number, report_by, side_by, positions_by};
 
 use crate::codes::{HashMode, Op};

@@ -1,4 +1,4 @@
-// Join keys and what is decided about them: a port of the key side of enforce_distribution.rs.
+// Join keys: expressions, lists, codes, `try_reorder`, and what is answered; the rules stand in `adjust` and `inputs`.
 #![tactic(auto)]
 
 pub mod answer;

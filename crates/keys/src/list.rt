@@ -2,8 +2,7 @@
 ghost use Rattle.std.specs.Prelude.{◌≡◌, ◌≤◌, length, get_or, take};
 ghost use Rattle.keys.specs.Lists.{permute};
 
-use crate::expr::Expr;
-use crate::reorder::GONE;
+use crate::expr::{Expr, GONE};
 
 // An array of thirty-two expressions and a count: document 01 names this struct and what it holds, so it is no case of a generic one.
 #[derive(Clone, Copy)]

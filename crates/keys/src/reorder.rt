@@ -8,9 +8,6 @@ ghost use Rattle.keys.specs.Values.{number_rules, positions_of, positions_in, tr
 
 use crate::list::{KeyList, NumberList, Positions};
 
-// The placeholder, packed.
-pub const GONE: u64 = 8589934592;
-
 // Each expected key takes its leftmost place among the current ones, which then becomes the placeholder.
 fn take_places(current: &[u64], expected: &[u64]) -> Option<NumberList>
     requires { (length current.now ≤ 32) × (length expected.now ≤ 32) }
@@ -50,7 +47,7 @@ fn rewrite_one(w: &[[u64; 2]], x: u64) -> u64
     x
 }
 
-// Each key rewritten, in the room lent: over a closure the promise would be index by index, no plainer than the two lines.
+// Each key rewritten, in the room lent.
 fn rewrite_keys<'a>(w: &[[u64; 2]], keys: &[u64], out: &'a mut [u64; 32]) -> &'a [u64]
     requires { length keys.now ≤ 32 }
     ensures { result.now ≡ rewrite eqb (number_rules w.now) keys.now }
@@ -85,7 +82,7 @@ fn either_side(x: Pairs<'_>) -> Option<NumberList>
     left.or_else(|| expected_expr_positions(x.right, x.required))
 }
 
-// An enum and no Option, since document 01 names it.
+// What a try comes to.
 #[derive(Clone, Copy)]
 pub enum Reordered {
     Met,

@@ -1,10 +1,9 @@
 -- Numbers of a line, by its rows: one over the largest, three that are no expression.
 -- Assumes nothing.
-use Prim.Native.Nat.{ℕ, zero, suc, ◌/◌}
+use Prim.Native.Nat.{ℕ, ◌/◌}
 use mathlib.Core.Path.{◌≡◌, refl, ap}
 use mathlib.Core.Bool.{Bool, true, not, ◌||◌}
 use mathlib.Core.List.{List, [], ◌∷◌}
-use native.Mathlib.Omega.{arith}
 use lib.Dec.{ltb}
 use lib.ListN.{length, get_or, get_or-map}
 use Rattle.std.specs.List.{Any, list_any}
@@ -14,6 +13,7 @@ use Rattle.std.specs.Prelude.{slice_index, slice_index_or, IsTrue, ◌↔◌}
 use Rattle.linekinds.specs.KeyLines.{defined_expr, undefined_exprs, over}
 use Rattle.linekinds.specs.Reading.{row_value, row_values}
 use Rattle.keys.proofs.Truths.{both_ways}
+use Rattle.linekinds.proofs.Threes.{by_threes}
 
 -- what is true exactly where some element passes a test
 pub any_is : {X : Type 0} (b : Bool) (p : X → Bool) (xs : List X) → IsTrue b ↔ Any (λ x. p x ≡ true) xs → b ≡ list_any p xs
@@ -32,14 +32,9 @@ first_three rs = defined_expr (slice_index (slice_index_or rs 0 []) 1) (slice_in
 -- and all rows, three by three
 pub threes_any : (k : ℕ) (rs : List (List ℕ)) → k ≡ length rs / 3 → list_any (λ x. not (first_three x)) (first_chunks 3 k rs) ≡ undefined_exprs (row_values rs)
 unfolding undefined_exprs
-threes_any zero [] h = refl
-threes_any zero (a ∷ []) h = refl
-threes_any zero (a ∷ b ∷ []) h = refl
-threes_any zero (a ∷ b ∷ c ∷ rs) h = absurd (omega arith)
-threes_any (suc k) [] h = absurd (omega arith)
-threes_any (suc k) (a ∷ []) h = absurd (omega arith)
-threes_any (suc k) (a ∷ b ∷ []) h = absurd (omega arith)
-threes_any (suc k) (a ∷ b ∷ c ∷ rs) h = ap (λ (t : Bool). not (first_three (a ∷ b ∷ c ∷ [])) || t) (threes_any k rs (omega arith))
+threes_any =
+    by_threes (λ k rs. list_any (λ x. not (first_three x)) (first_chunks 3 k rs) ≡ undefined_exprs (row_values rs)) refl (λ a. refl) (λ a b. refl)
+    (λ k a b c rs e. ap (λ (t : Bool). not (first_three (a ∷ b ∷ c ∷ [])) || t) e)
 
 -- the numbers of rows, one by one
 pub row_value_lem : (rs : List (List ℕ)) (i : ℕ) → get_or (row_values rs) i 0 ≡ get_or (get_or rs i []) 1 0

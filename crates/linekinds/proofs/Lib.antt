@@ -1,3 +1,4 @@
+pub mod Threes
 pub mod Defined
 pub mod LineNumbers
 pub mod ReadLines

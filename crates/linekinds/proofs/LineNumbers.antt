@@ -3,7 +3,7 @@
 use Prim.Native.Nat.{ℕ, zero, suc, ◌+◌, ◌-◌, ◌*◌, ◌≤◌}
 use mathlib.Core.Path.{◌≡◌, refl, ap, sym, ◌∙◌}
 use mathlib.Core.Bool.{Bool, true, false, cond, ◌&&◌, ◌||◌, and_assoc}
-use mathlib.Core.Option.{some}
+use mathlib.Core.Option.{Option, none, some}
 use mathlib.Core.List.{List, [], ◌∷◌, map}
 use native.Mathlib.Omega.{arith}
 use borrow.Author.Tests.{le-leb, lt-leb, leb-true, ltb-false, eqb-true}
@@ -15,7 +15,7 @@ use Rattle.text.specs.Text.{state_of, value_of, greatest}
 use Rattle.text.specs.Bounds.{Bound, allows, fits, allows_all}
 use Rattle.text.proofs.Limits.{all_largest}
 use Rattle.keys.proofs.Truths.{and_first, and_second}
-use Rattle.linekinds.specs.Lines.{plain, most_bytes, most_entries, whole_entries, line_number}
+use Rattle.linekinds.specs.Lines.{Kind, plain, most_bytes, most_entries, whole_entries, fields_fit, too_many_entries, line_number}
 use Rattle.linekinds.specs.KeyLines.{at, values}
 use Rattle.linekinds.specs.Reading.{kind_of, head_count, entry_width, large_by, undefined_by, unfit_by, codes_number, counts_number, Whole}
 use Rattle.linekinds.specs.declared.kind.Codes.{Codes}
@@ -26,6 +26,20 @@ and_middle true true c = refl
 and_middle true false c = refl
 and_middle false true c = refl
 and_middle false false c = refl
+
+cases_few : (a b c d e : Bool) → cond a (cond b 2 (cond c 3 (cond d 4 (cond e 6 0)))) 2 ≤ 6
+cases_few true true c d e = omega arith
+cases_few true false true d e = omega arith
+cases_few true false false true e = omega arith
+cases_few true false false false true = omega arith
+cases_few true false false false false = omega arith
+cases_few false b c d e = omega arith
+
+-- the number of a line is at most 6
+pub line_number_few : (k : Kind) (seen next : ℕ) (x : Option (List Field)) → line_number k seen next x ≤ 6
+unfolding line_number
+line_number_few k seen next none = omega arith
+line_number_few k seen next (some fs) = cases_few (fields_fit k fs) (k.malformed fs) (ltb most_bytes next || (too_many_entries k fs || k.large seen fs)) (k.undefined fs) (k.unfit fs)
 
 -- so many plain fields
 abbrev plains : ℕ → List Bound

@@ -1,21 +1,35 @@
 -- A turn of packing a line's numbers.
 -- Assumes nothing.
 use Prim.Native.Nat.{ℕ, zero, suc, ◌+◌, ◌-◌, ◌/◌, ◌≤◌, ◌<◌}
-use mathlib.Core.Path.{◌≡◌, refl, sym, ap, ◌∙◌}
+use mathlib.Core.Path.{◌≡◌, refl, sym, ap, subst, ◌∙◌}
 use mathlib.Core.List.{List, [], ◌∷◌, ◌++◌, map}
 use native.Mathlib.Omega.{arith}
 use lib.ListN.{length, get_or, take, drop, set, length-append, length-drop, length-map, get_or-map}
 use Rattle.keys.specs.Expressions.{packed}
 use Rattle.linekinds.specs.Reading.{row_value, row_values, packs, Small}
 use Rattle.std.specs.Prelude.{slice_index, slice_index_or}
-use lib.Seq.{take-length, length-take-le, drop_at}
+use native.Mathlib.Numerals.{add-one}
+use lib.Seq.{take-length, length-take-le, drop_at, drop-cons, sets, sets-eq, take-append_seam}
 use Rattle.std.specs.Simd.{first_chunks}
+use Rattle.linekinds.proofs.Threes.{by_threes}
 use Rattle.std.proofs.lemmas.List.{drop-map, get_or-append_right}
 
 pub small_at : (ns : List ℕ) (i : ℕ) → Small ns → i < length ns → get_or ns i 0 < 65536
 small_at [] i h k = absurd (omega arith)
 small_at (n ∷ ns) zero h k = h.0
 small_at (n ∷ ns) (suc i) h k = small_at ns i h.1 (omega arith)
+
+-- numbers copied one by one
+module _ (rs : List (List ℕ)) (out : List ℕ) (i : ℕ) where
+  pub copy_more : i < length rs → sets (set out i (get_or (get_or rs i []) 1 0)) (i + 1) (drop (i + 1) (row_values rs)) ≡ sets out i (drop i (row_values rs))
+  copy_more h = rw (add-one i, drop-cons (row_values rs) i 0 (rw (length-map rs row_value) h), get_or-map row_value rs i [])
+
+-- so they stand at the front of the room
+pub copied_front : (rs : List (List ℕ)) (out : List ℕ) → length rs ≤ length out → take (length rs) (sets out 0 (row_values rs)) ≡ row_values rs
+copied_front rs out h =
+    let n : length (row_values rs) ≡ length rs = length-map rs row_value in
+    subst (λ (k : ℕ). take k (sets out 0 (row_values rs)) ≡ row_values rs) n
+    (rw (sets-eq (row_values rs) out 0 (omega (arith, n, h))) (take-append_seam (row_values rs) (drop (0 + length (row_values rs)) out)))
 
 -- three rows, packed
 abbrev pub pack_three : List (List ℕ) → ℕ
@@ -24,14 +38,9 @@ pack_three rs = packed (slice_index (slice_index_or rs 0 []) 1) (slice_index (sl
 -- all rows, three by three
 pub threes_packed : (k : ℕ) (rs : List (List ℕ)) → k ≡ length rs / 3 → map pack_three (first_chunks 3 k rs) ≡ packs (row_values rs)
 unfolding packs
-threes_packed zero [] h = refl
-threes_packed zero (a ∷ []) h = refl
-threes_packed zero (a ∷ b ∷ []) h = refl
-threes_packed zero (a ∷ b ∷ c ∷ rs) h = absurd (omega arith)
-threes_packed (suc k) [] h = absurd (omega arith)
-threes_packed (suc k) (a ∷ []) h = absurd (omega arith)
-threes_packed (suc k) (a ∷ b ∷ []) h = absurd (omega arith)
-threes_packed (suc k) (a ∷ b ∷ c ∷ rs) h = ap (λ (ns : List ℕ). pack_three (a ∷ b ∷ c ∷ []) ∷ ns) (threes_packed k rs (omega arith))
+threes_packed =
+    by_threes (λ k rs. map pack_three (first_chunks 3 k rs) ≡ packs (row_values rs)) refl (λ a. refl) (λ a b. refl)
+    (λ k a b c rs e. ap (λ (ns : List ℕ). pack_three (a ∷ b ∷ c ∷ []) ∷ ns) e)
 
 -- whose numbers are small
 abbrev pub SmallThree : List (List ℕ) → Type 0

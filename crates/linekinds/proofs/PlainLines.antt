@@ -20,7 +20,7 @@ use Rattle.linekinds.specs.Lines.{plain, whole_entries, line_number}
 use Rattle.linekinds.specs.KeyLines.{values}
 use Rattle.linekinds.specs.Reading.{kind_of, head_count, entry_width, codes_number, packs, packed_by, Small}
 use Rattle.linekinds.specs.ListLines.{line_letter, line_codes, line_kind, ListRead}
-use Rattle.linekinds.specs.PlainText.{StandsAt, TextAt, fields_of, LineEntries, EntriesFound, RulesFound, NumbersFound, InputFound, ListAt, ListFound}
+use Rattle.linekinds.specs.PlainText.{StandsAt, TextAt, numbers_text, LineEntries, EntriesFound, RulesFound, NumbersFound, InputFound, ListAt, ListFound}
 use Rattle.linekinds.specs.declared.kind.Codes.{Codes}
 use Rattle.linekinds.specs.declared.kind.Codes.TheVariants.{Exprs, Rules, Input, Directions, Names}
 use Rattle.linekinds.specs.declared.plain.Entries.{Entries}
@@ -95,7 +95,7 @@ module _ (s : List ℕ) (at letter : ℕ) (ns : List ℕ) where
 
 -- ---- what was found on a line of each kind
 
-pub marked_found : (s : List ℕ) (at mark end : ℕ) (list : List ℕ) → TextAt s at (fields_of (mark ∷ [])) end → mark ≤ 1 →
+pub marked_found : (s : List ℕ) (at mark end : ℕ) (list : List ℕ) → TextAt s at (numbers_text (mark ∷ [])) end → mark ≤ 1 →
     (r : StdOption Entries) (list' : List ℕ) → EntriesFound s end 1 33 (set list 0 mark) r list' → InputFound s at list r list'
 marked_found s at mark end list t h (Some r) list' e = record { mark = mark; end = end; text = t; small = h; entries = e }
 marked_found s at mark end list t h None list' e = tt

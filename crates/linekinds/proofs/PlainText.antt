@@ -17,7 +17,7 @@ use Rattle.keys.specs.Expressions.{packed}
 use Rattle.keys.proofs.Lists.{first_pushed}
 use Rattle.linekinds.specs.KeyLines.{defined_expr, undefined_exprs, over}
 use Rattle.linekinds.specs.Reading.{packs, Small}
-use Rattle.linekinds.specs.PlainText.{StandsAt, DigitAt, TextAt, DigitsFound, fields_of, FieldFound, EntryAt, EntriesAt, EndFound, EntriesFound, NumbersAt, NumbersFound}
+use Rattle.linekinds.specs.PlainText.{StandsAt, DigitAt, TextAt, DigitsFound, numbers_text, FieldFound, EntryAt, EntriesAt, EndFound, EntriesFound, NumbersHeld, NumbersFound}
 use Rattle.std.specs.Prelude.{Option, Some, None}
 use Rattle.linekinds.specs.declared.plain.Number.{Number}
 use Rattle.linekinds.specs.declared.plain.Entries.{Entries}
@@ -50,12 +50,12 @@ next_digit s at n p m t h z e =
 
 -- ---- fields
 
-pub field_text_lem : (s : List ℕ) (at n end : ℕ) → StandsAt s at 44 → TextAt s (at + 1) (decimal n) end → TextAt s at (fields_of (n ∷ [])) end
+pub field_text_lem : (s : List ℕ) (at n end : ℕ) → StandsAt s at 44 → TextAt s (at + 1) (decimal n) end → TextAt s at (numbers_text (n ∷ [])) end
 unfolding fields_text field_text
 field_text_lem s at n end h t = rw (append-nil (decimal n)) (joined s (44 ∷ []) (decimal n) at (at + 1) end (byte_text s at 44 h) t)
 
-pub more_fields : (s xs ys : List ℕ) (at i end : ℕ) → TextAt s at (fields_of xs) i → TextAt s i (fields_of ys) end → TextAt s at (fields_of (xs ++ ys)) end
-more_fields s xs ys at i end t u = rw (map-append number xs ys, fields_append (map number xs) (map number ys)) (joined s (fields_of xs) (fields_of ys) at i end t u)
+pub more_fields : (s xs ys : List ℕ) (at i end : ℕ) → TextAt s at (numbers_text xs) i → TextAt s i (numbers_text ys) end → TextAt s at (numbers_text (xs ++ ys)) end
+more_fields s xs ys at i end t u = rw (map-append number xs ys, fields_append (map number xs) (map number ys)) (joined s (numbers_text xs) (numbers_text ys) at i end t u)
 
 -- ---- entries
 
@@ -121,12 +121,12 @@ unfolding over
 over_more m x [] e h = rw (le-ltb m x h)
 over_more m x (n ∷ ns) e h = or_false (ltb m n) (over m ns) (over m (ns ++ (x ∷ []))) (λ f. over_more m x ns f h) e
 
-pub numbers_none : (s : List ℕ) (at largest : ℕ) (list : List ℕ) → NumbersAt s at largest 0 at list
+pub numbers_none : (s : List ℕ) (at largest : ℕ) (list : List ℕ) → NumbersHeld s at largest 0 at list
 unfolding fields_text over
 numbers_none s at largest list = record { ns = []; text = record { text = refl; place = omega arith }; small = tt; within = refl; long = refl; held = refl }
 
-pub numbers_more : (s : List ℕ) (at largest n p : ℕ) (r : Number) (list : List ℕ) → NumbersAt s at largest n p list → FieldFound s p (Some r) → r.value ≤ largest → n < length list →
-    NumbersAt s at largest (n + 1) r.end (set list n r.value)
+pub numbers_more : (s : List ℕ) (at largest n p : ℕ) (r : Number) (list : List ℕ) → NumbersHeld s at largest n p list → FieldFound s p (Some r) → r.value ≤ largest → n < length list →
+    NumbersHeld s at largest (n + 1) r.end (set list n r.value)
 numbers_more s at largest n p r list o e l h = let x : ℕ = r.value in record {
   ns = o.ns ++ (x ∷ []);
   text = more_fields s o.ns (x ∷ []) at p r.end o.text e.0;
@@ -145,12 +145,12 @@ field_found s at None h d = tt
 -- a field takes bytes
 pub field_goes : (s : List ℕ) (at : ℕ) (r : Number) → FieldFound s at (Some r) → at < length s → (at < r.end) × (r.end ≤ length s)
 unfolding fields_text
-field_goes s at r e h = (omega (arith, e.0.place), text_within s at (fields_of (r.value ∷ [])) r.end e.0 (omega arith))
+field_goes s at r e h = (omega (arith, e.0.place), text_within s at (numbers_text (r.value ∷ [])) r.end e.0 (omega arith))
 
 -- so does an entry
 pub entry_goes : (s : List ℕ) (at x end : ℕ) → EntryAt s at x end → at < length s → (at < end) × (end ≤ length s)
 unfolding fields_text
-entry_goes s at x end e h = (omega (arith, e.text.place), text_within s at (fields_of (e.kind ∷ e.name ∷ e.index ∷ [])) end e.text (omega arith))
+entry_goes s at x end e h = (omega (arith, e.text.place), text_within s at (numbers_text (e.kind ∷ e.name ∷ e.index ∷ [])) end e.text (omega arith))
 
 -- the line's end after what was read
 pub entries_found : (s : List ℕ) (at from most n p : ℕ) (list list' : List ℕ) → EntriesAt s at from n p list list' → n ≤ most →
@@ -163,11 +163,11 @@ entries_found s at from most n p list list' o h (Some r) e = record {
 }
 entries_found s at from most n p list list' o h None e = tt
 
-pub numbers_found : (s : List ℕ) (at largest n p : ℕ) (list : List ℕ) → NumbersAt s at largest n p list → n ≤ 32 →
+pub numbers_found : (s : List ℕ) (at largest n p : ℕ) (list : List ℕ) → NumbersHeld s at largest n p list → n ≤ 32 →
     (r : Option Entries) → EndFound s p n r → NumbersFound s at largest r list
 numbers_found s at largest n p list o h (Some r) e = record {
   end = p;
-  numbers = subst (λ (m : ℕ). NumbersAt s at largest m p list) (sym e.0) o;
+  numbers = subst (λ (m : ℕ). NumbersHeld s at largest m p list) (sym e.0) o;
   few = omega (arith, e.0);
   close = e.1;
 }

@@ -31,11 +31,11 @@ DigitsFound s at (Some r) = TextAt s at (decimal r.value) r.end × (r.value < 65
 DigitsFound s at None = Unit {0}
 
 -- a comma before each number
-abbrev pub fields_of : List ℕ → List ℕ
-fields_of ns = fields_text (map number ns)
+abbrev pub numbers_text : List ℕ → List ℕ
+numbers_text ns = fields_text (map number ns)
 
 abbrev pub FieldFound : List ℕ → ℕ → Option Number → Type 0
-FieldFound s at (Some r) = TextAt s at (fields_of (r.value ∷ [])) r.end × (r.value < 65536)
+FieldFound s at (Some r) = TextAt s at (numbers_text (r.value ∷ [])) r.end × (r.value < 65536)
 FieldFound s at None = Unit {0}
 
 -- an expression's fields, packed to x
@@ -43,7 +43,7 @@ pub record EntryAt (s : List ℕ) (at x end : ℕ) : Type 0 where
   pub kind : ℕ
   pub name : ℕ
   pub index : ℕ
-  pub text : TextAt s at (fields_of (kind ∷ name ∷ index ∷ [])) end
+  pub text : TextAt s at (numbers_text (kind ∷ name ∷ index ∷ [])) end
   pub small : Small (kind ∷ name ∷ index ∷ [])
   pub defined : defined_expr kind name index ≡ true
   pub packs : x ≡ packed kind name index
@@ -55,7 +55,7 @@ EntryFound s at None = Unit {0}
 -- numbers of whole entries, packed behind the first ones of a list
 pub record EntriesAt (s : List ℕ) (at from count end : ℕ) (list list' : List ℕ) : Type 0 where
   pub ns : List ℕ
-  pub text : TextAt s at (fields_of ns) end
+  pub text : TextAt s at (numbers_text ns) end
   pub small : Small ns
   pub defined : undefined_exprs ns ≡ false
   pub more : from ≤ count
@@ -84,9 +84,9 @@ EntriesFound s at from most list (Some r) list' = LineEntries s at from most r.c
 EntriesFound s at from most list None list' = Unit {0}
 
 -- numbers up to the largest, at the front of a list
-pub record NumbersAt (s : List ℕ) (at largest count end : ℕ) (list : List ℕ) : Type 0 where
+pub record NumbersHeld (s : List ℕ) (at largest count end : ℕ) (list : List ℕ) : Type 0 where
   pub ns : List ℕ
-  pub text : TextAt s at (fields_of ns) end
+  pub text : TextAt s at (numbers_text ns) end
   pub small : Small ns
   pub within : over largest ns ≡ false
   pub long : length ns ≡ count
@@ -95,7 +95,7 @@ pub record NumbersAt (s : List ℕ) (at largest count end : ℕ) (list : List �
 -- such numbers up to the line's end
 pub record LineNumbers (s : List ℕ) (at largest count next : ℕ) (list : List ℕ) : Type 0 where
   pub end : ℕ
-  pub numbers : NumbersAt s at largest count end list
+  pub numbers : NumbersHeld s at largest count end list
   pub few : count ≤ 32
   pub close : LineEnd s end next
 
@@ -111,7 +111,7 @@ RulesFound s at list None list' = Unit {0}
 pub record MarkedEntries (s : List ℕ) (at count next : ℕ) (list list' : List ℕ) : Type 0 where
   pub mark : ℕ
   pub end : ℕ
-  pub text : TextAt s at (fields_of (mark ∷ [])) end
+  pub text : TextAt s at (numbers_text (mark ∷ [])) end
   pub small : mark ≤ 1
   pub entries : LineEntries s end 1 33 count next (set list 0 mark) list'
 

@@ -5,14 +5,12 @@ ghost use Rattle.linekinds.specs.KeyLines.{defined_expr, undefined_exprs, over, 
 ghost use Rattle.linekinds.specs.Reading.{head_count, entry_width, row_values, undefined_by, undefined_key, undefined_join, undefined_input, fields_number, size_number, counts_number, codes_number, Whole};
 ghost use Rattle.linekinds.specs.Lines.{whole_entries};
 
-use crate::plain::{LAST_DIRECTION, MARK, MOST_BYTES, MOST_ENTRIES, PLAIN};
+pub use crate::bounds::MOST_CHILDREN;
+use crate::bounds::{LAST_DIRECTION, MARK, MOST_BYTES, MOST_ENTRIES, PLAIN};
 use keys::codes::{AggregateMode, HashMode, Join, Op};
 use keys::expr::{COLUMN, OTHER, PLACEHOLDER};
 use refusals::Refusal;
 use text::line::Fields;
-
-// The most children of an operator.
-pub const MOST_CHILDREN: u64 = 8;
 
 // What is asked of a line's fields: the K line, the I line, expressions, rules, a mark and expressions, directions, names.
 #[derive(Clone, Copy, PartialEq, Eq, Debug)]
@@ -186,7 +184,7 @@ fn judge_size(c: Codes, f: Fields) -> Result<(), Refusal>
 }
 
 // By a line's count of fields, their largest state and value, and the place after it.
-pub fn judge_counts(c: Codes, f: Fields) -> Result<(), Refusal>
+pub(crate) fn judge_counts(c: Codes, f: Fields) -> Result<(), Refusal>
     ensures { result ≡ judged_by (counts_number c f.count f.worst f.largest f.next) }
 {
     judge_fields(c, f)?;
@@ -210,7 +208,7 @@ fn judge_key(rows: &[[u64; 2]]) -> Result<(), Refusal>
 }
 
 // By the numbers of a line whose fields are as many as its kind has.
-pub fn judge_codes(c: Codes, rows: &[[u64; 2]]) -> Result<(), Refusal>
+pub(crate) fn judge_codes(c: Codes, rows: &[[u64; 2]]) -> Result<(), Refusal>
     requires { Whole c (length rows.now) }
     ensures { result ≡ judged_by (codes_number c (row_values rows.now)) }
 {

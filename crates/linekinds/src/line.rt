@@ -20,7 +20,7 @@ pub enum Read {
 // The line of a letter at a place; its fields go into the rows lent. That these are 192, as many as the longest line has, stays a
 // condition here, in `lists` and in `sheet`: a slice lent by `&mut` stays as long as it is, and of a struct that holds it each of
 // these functions would have to promise that.
-pub fn read_line(s: &[u8], at: usize, letter: u8, c: Codes, rows: &mut [[u64; 2]]) -> Read
+pub(crate) fn read_line(s: &[u8], at: usize, letter: u8, c: Codes, rows: &mut [[u64; 2]]) -> Read
     requires { 192 ≤ length rows.old }
     ensures answer { (seen : ℕ) → result ≡ read_by (line_number (kind_of c letter) seen (after s.now at) (line_at letter s.now at)) (after s.now at) (line_at letter s.now at) }
     ensures stored { rows.new ≡ stored_in rows.old (line_fields letter (line (drop at s.now))) }

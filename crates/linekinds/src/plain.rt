@@ -3,6 +3,8 @@
 ghost use Rattle.std.specs.Prelude.{◌≡◌, IsTrue, ◌↔◌, ◌≤◌, length};
 ghost use Rattle.linekinds.specs.PlainText.{StandsAt, DigitAt, DigitsFound, FieldFound, EntryFound, EndFound, EntriesFound, NumbersFound, RulesFound, InputFound, ListFound};
 
+use crate::bounds::{LAST_DIRECTION, MOST_ENTRIES};
+pub use crate::bounds::{MARK, MOST_BYTES, PLAIN};
 use crate::kind::{Codes, defined_expr};
 use keys::expr::Expr;
 
@@ -20,21 +22,6 @@ pub struct Entries {
     pub count: usize,
     pub end: usize,
 }
-
-// The largest number of a plain field.
-pub const PLAIN: u64 = 65535;
-
-// A mark that is set; one that is not is 0.
-pub const MARK: u64 = 1;
-
-// The last code of a direction.
-pub(crate) const LAST_DIRECTION: u64 = 3;
-
-// The most entries of a list.
-pub(crate) const MOST_ENTRIES: usize = 32;
-
-// The most bytes of a sheet.
-pub const MOST_BYTES: usize = 65536;
 
 fn stands(s: &[u8], at: usize, b: u8) -> bool
     ensures { IsTrue result ↔ StandsAt s.now at b }

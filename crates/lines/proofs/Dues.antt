@@ -6,7 +6,7 @@ use native.Mathlib.Omega.{arith}
 use lib.ListN.{length}
 use Rattle.keys.specs.Expressions.{expressions}
 use Rattle.sheet.specs.KeyAnswers.{numbers_line, exprs_line}
-use Rattle.lines.specs.AnswerTexts.{key_text_of, join_text_of}
+use Rattle.lines.specs.Texts.{key_text_of, join_text_of}
 use Rattle.lines.specs.declared.key_text.KeyLists.{KeyLists}
 use Rattle.lines.specs.declared.join_text.JoinLists.{JoinLists}
 use Rattle.lines.proofs.AnswerParts.{key_parts, join_parts}

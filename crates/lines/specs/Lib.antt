@@ -1,4 +1,3 @@
 pub mod Fields
 pub mod Texts
 pub mod Children
-pub mod AnswerTexts

@@ -1,7 +1,7 @@
 // The lines of an I answer: i, P, L, G, S.
 ghost use Rattle.std.specs.Prelude.{◌≡◌, ◌≤◌, length};
 ghost use Rattle.text.specs.Write.{Wrote};
-ghost use Rattle.lines.specs.AnswerTexts.{join_text_of};
+ghost use Rattle.lines.specs.Texts.{join_text_of};
 
 use crate::line::{exprs_length, numbers_length, pair_length, put_exprs, put_numbers, put_pair};
 

@@ -10,7 +10,7 @@ use keys::expr::Expr;
 use text::write::{number_length, put_byte, put_number};
 
 // The length of the numbers' line, whatever its letter.
-pub fn numbers_length(list: &[u64]) -> usize
+pub(crate) fn numbers_length(list: &[u64]) -> usize
     requires { length list.now ≤ 128 }
     ensures exact { (letter : ℕ) → result ≡ length (numbers_line letter list.now) }
     ensures few { result ≤ 4096 }
@@ -23,7 +23,7 @@ pub fn numbers_length(list: &[u64]) -> usize
 }
 
 // The length of a line of two numbers.
-pub fn pair_length(a: u64, b: u64) -> usize
+pub(crate) fn pair_length(a: u64, b: u64) -> usize
     ensures exact { (letter : ℕ) → result ≡ length (numbers_line letter (a ∷ b ∷ [])) }
     ensures few { result ≤ 44 }
 {
@@ -39,7 +39,7 @@ fn expr_length(e: Expr) -> usize
 }
 
 // The length of the expressions' line, whatever its letter.
-pub fn exprs_length(list: &[u64]) -> usize
+pub(crate) fn exprs_length(list: &[u64]) -> usize
     requires { length list.now ≤ 64 }
     ensures exact { (letter : ℕ) → result ≡ length (exprs_line letter (expressions list.now)) }
     ensures few { result ≤ 4096 }
@@ -62,7 +62,7 @@ fn put_number_field(out: &mut [u8], at: usize, n: u64) -> usize
 }
 
 // The numbers, and a comma before each.
-pub fn put_number_fields(out: &mut [u8], at: usize, list: &[u64]) -> usize
+pub(crate) fn put_number_fields(out: &mut [u8], at: usize, list: &[u64]) -> usize
     requires { at + length (fields_text (map number list.now)) ≤ length out.old }
     ensures { Wrote out.old at (fields_text (map number list.now)) out.new result }
 {
@@ -83,7 +83,7 @@ fn put_expr(out: &mut [u8], at: usize, e: Expr) -> usize
 }
 
 // The fields of the expressions, and a comma before each.
-pub fn put_expr_fields(out: &mut [u8], at: usize, list: &[u64]) -> usize
+pub(crate) fn put_expr_fields(out: &mut [u8], at: usize, list: &[u64]) -> usize
     requires { at + length (fields_text (map number (expr_numbers (expressions list.now)))) ≤ length out.old }
     ensures { Wrote out.old at (fields_text (map number (expr_numbers (expressions list.now)))) out.new result }
 {
@@ -105,7 +105,7 @@ pub fn put_numbers(out: &mut [u8], at: usize, letter: u8, list: &[u64]) -> usize
 }
 
 // The line of two numbers.
-pub fn put_pair(out: &mut [u8], at: usize, letter: u8, a: u64, b: u64) -> usize
+pub(crate) fn put_pair(out: &mut [u8], at: usize, letter: u8, a: u64, b: u64) -> usize
     requires { at + length (numbers_line letter (a ∷ b ∷ [])) ≤ length out.old }
     ensures { Wrote out.old at (numbers_line letter (a ∷ b ∷ [])) out.new result }
 {
@@ -117,7 +117,7 @@ pub fn put_pair(out: &mut [u8], at: usize, letter: u8, a: u64, b: u64) -> usize
 
 // The expressions' line. Three lines as in `put_numbers`, of other fields: over a closure the promise would be longer than both.
 // So it is with the lengths and with the fields above: each of those loops has one line, and promises another text.
-pub fn put_exprs(out: &mut [u8], at: usize, letter: u8, list: &[u64]) -> usize
+pub(crate) fn put_exprs(out: &mut [u8], at: usize, letter: u8, list: &[u64]) -> usize
     requires { at + length (exprs_line letter (expressions list.now)) ≤ length out.old }
     ensures { Wrote out.old at (exprs_line letter (expressions list.now)) out.new result }
 {

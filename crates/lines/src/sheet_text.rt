@@ -25,7 +25,7 @@ fn put_input(out: &mut [u8], at: usize, letter: u8, list: &[u64]) -> usize
 }
 
 // A line from the numbers that are held of it.
-pub fn put_held(out: &mut [u8], at: usize, letter: u8, c: Codes, list: &[u64]) -> usize
+fn put_held(out: &mut [u8], at: usize, letter: u8, c: Codes, list: &[u64]) -> usize
     requires { at + length (numbers_line letter (field_numbers c list.now)) ≤ length out.old }
     ensures { Wrote out.old at (numbers_line letter (field_numbers c list.now)) out.new result }
 {

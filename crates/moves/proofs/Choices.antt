@@ -1,7 +1,7 @@
 -- The list that was chosen is the one that stands on the answer.
 -- Assumes nothing.
 use Prim.Native.Nat.{ℕ, ◌≤◌}
-use mathlib.Core.Path.{◌≡◌, refl}
+use mathlib.Core.Path.{◌≡◌}
 use mathlib.Core.Bool.{Bool, true, false, cond}
 use mathlib.Core.List.{List, []}
 use Rattle.keys.specs.Expressions.{expressions}
@@ -20,12 +20,8 @@ use Rattle.keys.specs.declared.answer.Handed.TheVariants.{Kept, Cleared, Require
 use Rattle.keys.specs.declared.answer.Outcome.{Outcome}
 use Rattle.keys.specs.declared.answer.Outcome.TheVariants.{Unchanged, Passed, Tried, Regrouped}
 use Rattle.std.proofs.lemmas.Bool.{or_left, or_right}
-use Rattle.moves.specs.Chosen.{tried_or, followed_or, handed_list, shifts_by, shifted_for}
-
-pub tried_is : {A : Type 0} (o : Reordered) (moved stood : A) → tried_or o moved stood ≡ moved_or (Tried o) moved stood
-tried_is Met moved stood = refl
-tried_is (Moved at) moved stood = refl
-tried_is Impossible moved stood = refl
+use Rattle.keys.specs.Values.{tried_or}
+use Rattle.moves.specs.Chosen.{followed_or, handed_list, shifts_by, shifted_for}
 
 -- where a child is handed R shifted, k is that, packed
 abbrev pub ShiftedBy : Handed → ℕ → List ℕ → List ℕ → Type 0
@@ -55,12 +51,15 @@ module _ (P : List ℕ → Type 0) where
   cleared_any true r n h = n
   cleared_any false r n h = h
 
+  pub tried_any : (o : Reordered) (moved stood : List ℕ) → P moved → P stood → P (tried_or o moved stood)
+  tried_any Met moved stood m s = s
+  tried_any (Moved at) moved stood m s = m
+  tried_any Impossible moved stood m s = s
+
   pub moved_any : (o : Outcome) (moved stood : List ℕ) → P moved → P stood → P (moved_or o moved stood)
   moved_any Unchanged moved stood m s = s
   moved_any Passed moved stood m s = s
-  moved_any (Tried Met) moved stood m s = s
-  moved_any (Tried (Moved at)) moved stood m s = m
-  moved_any (Tried Impossible) moved stood m s = s
+  moved_any (Tried o) moved stood m s = tried_any o moved stood m s
   moved_any (Regrouped at places) moved stood m s = s
 
   pub handed_any : (h : Handed) (r side k m : List ℕ) → P [] → P r → P side → P k → P m → IfSome (handed_list h r side k m) P
@@ -70,11 +69,6 @@ module _ (P : List ℕ → Type 0) where
   handed_any Keys r side k m n p q t u = q
   handed_any Shifted r side k m n p q t u = t
   handed_any Mapped r side k m n p q t u = u
-
-  pub tried_any : (o : Reordered) (moved stood : List ℕ) → P moved → P stood → P (tried_or o moved stood)
-  tried_any Met moved stood m s = s
-  tried_any (Moved at) moved stood m s = m
-  tried_any Impossible moved stood m s = s
 
   pub followed_any : (o : Attempt) (moved stood : List ℕ) → P moved → P stood → P (followed_or o moved stood)
   followed_any Untried moved stood m s = s

@@ -1,4 +1,4 @@
--- That a sheet is held in its bounds has one proof at most.
+-- That a sheet is held in its bounds has one proof at most: asked where `HeldKey` and `HeldJoin` declare their ghost fields, so it stands here.
 use Rattle.std.specs.Prelude.{ℕ, List, [], ◌∷◌}
 use Rattle.std.proofs.Math.Option.{Option, none, some}
 use Rattle.std.specs.Coded.{×_prop, Unit-prop}
@@ -8,16 +8,16 @@ use Rattle.sheet.specs.Sizes.{Each}
 use Rattle.sheet.specs.LegalSheets.{LegalInput}
 use Rattle.sheet.specs.Held.{KeyHeld, JoinHeld}
 
-Each-prop : {A : Type 0} {P : A → Type 0} → ((x : A) → IsProp (P x)) → (xs : List A) → IsProp (Each P xs)
-Each-prop p [] = Unit-prop
-Each-prop p (x ∷ xs) = ×_prop (p x) (Each-prop p xs)
+each_prop : {A : Type 0} {P : A → Type 0} → ((x : A) → IsProp (P x)) → (xs : List A) → IsProp (Each P xs)
+each_prop p [] = Unit-prop
+each_prop p (x ∷ xs) = ×_prop (p x) (each_prop p xs)
 
-LegalInput-prop : (o : Option (List Expression)) → IsProp (LegalInput o)
-LegalInput-prop none = Unit-prop
-LegalInput-prop (some es) = Prim.hlevel (Each-prop, props)
+legal_input_prop : (o : Option (List Expression)) → IsProp (LegalInput o)
+legal_input_prop none = Unit-prop
+legal_input_prop (some es) = Prim.hlevel (each_prop, props)
 
-pub KeyHeld-prop : (lists : List (List ℕ)) (counts : List ℕ) → IsProp (KeyHeld lists counts)
-KeyHeld-prop lists counts = Prim.hlevel (Each-prop, props)
+pub key_held_prop : (lists : List (List ℕ)) (counts : List ℕ) → IsProp (KeyHeld lists counts)
+key_held_prop lists counts = Prim.hlevel (each_prop, props)
 
-pub JoinHeld-prop : (lists : List (List ℕ)) (counts : List ℕ) → IsProp (JoinHeld lists counts)
-JoinHeld-prop lists counts = Prim.hlevel (Each-prop, LegalInput-prop, props)
+pub join_held_prop : (lists : List (List ℕ)) (counts : List ℕ) → IsProp (JoinHeld lists counts)
+join_held_prop lists counts = Prim.hlevel (each_prop, legal_input_prop, props)

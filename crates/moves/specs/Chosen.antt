@@ -2,20 +2,13 @@
 use Rattle.std.specs.Prelude.{ℕ, Bool, true, false, cond, ◌||◌, List, [], Option, Some, None}
 use Rattle.keys.specs.Expressions.{Expression}
 use Rattle.keys.specs.Adjust.{shift_right_required}
-use Rattle.keys.specs.declared.reorder.Reordered.{Reordered}
-use Rattle.keys.specs.declared.reorder.Reordered.TheVariants.{Met, Moved, Impossible}
+use Rattle.keys.specs.Values.{tried_or}
 use Rattle.keys.specs.declared.answer.Handed.{Handed}
 use Rattle.keys.specs.declared.answer.Handed.TheVariants.{Kept, Cleared, Required, Keys, Shifted, Mapped}
 use Rattle.keys.specs.declared.inputs.Attempt.{Attempt}
 use Rattle.keys.specs.declared.inputs.Attempt.TheVariants.{Untried, Followed, Failed}
 
--- what the pairs' move leaves, or what stood, by the outcome of a try
-abbrev pub tried_or : {A : Type 0} → Reordered → A → A → A
-tried_or Met moved stood = stood
-tried_or (Moved at) moved stood = moved
-tried_or Impossible moved stood = stood
-
--- the same by the outcome of the inputs
+-- what the pairs' move leaves, or what stood, by the outcome of the inputs
 abbrev pub followed_or : {A : Type 0} → Attempt → A → A → A
 followed_or Untried moved stood = stood
 followed_or (Followed side o) moved stood = tried_or o moved stood

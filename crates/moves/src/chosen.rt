@@ -2,7 +2,8 @@
 ghost use Rattle.std.specs.Prelude.{◌≡◌, cond, [], ◌≤◌, length, take, option_copied};
 ghost use Rattle.keys.specs.Expressions.{expressions};
 ghost use Rattle.keys.specs.Answers.{moved_or};
-ghost use Rattle.moves.specs.Chosen.{tried_or, followed_or, handed_list, shifted_for};
+ghost use Rattle.keys.specs.Values.{tried_or};
+ghost use Rattle.moves.specs.Chosen.{followed_or, handed_list, shifted_for};
 
 use adjust::adjust::shift_right_required;
 use keys::answer::{Handed, Outcome};

@@ -11,10 +11,11 @@ use crate::held_join::HeldJoin;
 use crate::held_key::HeldKey;
 use adjust::adjust::adjust_input_keys_ordering;
 use adjust::sheet::Sheet;
-use inputs::current::join_keys_to_inputs;
+use inputs::followed::reorder_join_keys_to_inputs;
 use inputs::sheet::{Input, Inputs};
 use keys::answer::{Adjusted, Operator};
 use keys::inputs::Attempt;
+use sheet::{join_lines, key_lines};
 
 // Every two numbers a row.
 fn rule_rows(list: &[u64]) -> &[[u64; 2]]
@@ -30,12 +31,12 @@ fn operator(h: &[u64]) -> Operator
     ensures { result ≡ operator_of h.now }
 {
     Operator {
-        op: h[0],
-        mode: h[1],
-        join: h[2],
-        columns: h[HeldKey::COLUMNS],
-        plain: h[4] == 1,
-        partial: h[5] == 1,
+        op: h[key_lines::OP],
+        mode: h[key_lines::MODE],
+        join: h[key_lines::JOIN],
+        columns: h[key_lines::COLUMNS],
+        plain: h[key_lines::PLAIN] == 1,
+        partial: h[key_lines::PARTIAL] == 1,
     }
 }
 
@@ -44,14 +45,14 @@ pub fn adjust(sheet: HeldKey<'_>) -> Option<Adjusted>
     ensures { let s = held_key_sheet sheet.entry.held.lists.now sheet.entry.held.counts.now in adjusted_of s result ≡ adjust_input_keys_ordering same_expr s }
 {
     adjust_input_keys_ordering(&Sheet {
-        operator: operator(sheet.list(HeldKey::HEAD)),
-        required: sheet.list(HeldKey::REQUIRED),
-        left: sheet.list(HeldKey::LEFT),
-        right: sheet.list(HeldKey::RIGHT),
-        rewriting: rule_rows(sheet.list(HeldKey::REWRITING)),
-        groups: sheet.list(HeldKey::GROUPS),
-        aggregates: sheet.list(HeldKey::AGGREGATES),
-        mapped: sheet.list(HeldKey::MAPPED),
+        operator: operator(sheet.list(key_lines::HEAD)),
+        required: sheet.list(key_lines::REQUIRED),
+        left: sheet.list(key_lines::LEFT),
+        right: sheet.list(key_lines::RIGHT),
+        rewriting: rule_rows(sheet.list(key_lines::REWRITING)),
+        groups: sheet.list(key_lines::GROUPS),
+        aggregates: sheet.list(key_lines::AGGREGATES),
+        mapped: sheet.list(key_lines::MAPPED),
     })
 }
 
@@ -59,19 +60,20 @@ pub fn adjust(sheet: HeldKey<'_>) -> Option<Adjusted>
 pub fn follow(sheet: HeldJoin<'_>) -> Attempt
     ensures { let s = held_join_sheet sheet.entry.held.lists.now sheet.entry.held.counts.now in attempt_of s result ≡ reorder_join_keys_to_inputs s same_expr }
 {
-    let head = sheet.list(HeldJoin::HEAD);
-    join_keys_to_inputs(Inputs {
-        op: head[0],
-        mode: head[1],
-        left: sheet.list(HeldJoin::LEFT),
-        right: sheet.list(HeldJoin::RIGHT),
-        left_rewriting: rule_rows(sheet.list(HeldJoin::LEFT_REWRITING)),
-        right_rewriting: rule_rows(sheet.list(HeldJoin::RIGHT_REWRITING)),
+    let head = sheet.list(join_lines::HEAD);
+    let ordered = reorder_join_keys_to_inputs(Inputs {
+        op: head[join_lines::OP],
+        mode: head[join_lines::MODE],
+        left: sheet.list(join_lines::LEFT),
+        right: sheet.list(join_lines::RIGHT),
+        left_rewriting: rule_rows(sheet.list(join_lines::LEFT_REWRITING)),
+        right_rewriting: rule_rows(sheet.list(join_lines::RIGHT_REWRITING)),
         left_input: Input {
-            list: sheet.list(HeldJoin::LEFT_INPUT),
+            list: sheet.list(join_lines::LEFT_INPUT),
         },
         right_input: Input {
-            list: sheet.list(HeldJoin::RIGHT_INPUT),
+            list: sheet.list(join_lines::RIGHT_INPUT),
         },
-    })
+    });
+    ordered.attempt
 }

@@ -54,7 +54,7 @@ fn moved_side(keys: &[u64], at: Positions<'_>, out: &mut [u64; 32])
 }
 
 // The positions as numbers, in the front of the room lent; by index, as `keys::list::permute`.
-pub fn wide_positions(at: Positions<'_>, out: &mut [u64; 32])
+fn wide_positions(at: Positions<'_>, out: &mut [u64; 32])
     ensures { take (length at.entry.list.now) out.new ≡ at.entry.list.now }
 {
     for (i, &p) in at.list.iter().enumerate() {
@@ -74,13 +74,7 @@ fn moved_directions(s: &[u64], at: Positions<'_>, out: &mut [u64; 32]) -> usize
 }
 
 // The pairs at the positions, in the front of the rooms lent; how many directions.
-pub fn moved_pairs(
-    l: &[u64],
-    g: &[u64],
-    s: &[u64],
-    at: Positions<'_>,
-    rooms: &mut PairRooms,
-) -> usize
+fn moved_pairs(l: &[u64], g: &[u64], s: &[u64], at: Positions<'_>, rooms: &mut PairRooms) -> usize
     ensures positions { take (length at.entry.list.now) rooms.new.positions ≡ at.entry.list.now }
     ensures left { take (length at.entry.list.now) rooms.new.left ≡ permute gone_number l.now at.entry.list.now }
     ensures right { take (length at.entry.list.now) rooms.new.right ≡ permute gone_number g.now at.entry.list.now }

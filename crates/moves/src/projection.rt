@@ -33,7 +33,7 @@ fn names_from(first: usize, a: &[u64], out: &mut [u64; 128], at: usize) -> usize
 }
 
 // The group names at their places, and the aggregate names after them, in the front of the room lent, and how many numbers.
-pub fn projected(places: &[u8], o: &[u64], a: &[u64], out: &mut [u64; 128]) -> usize
+fn projected(places: &[u8], o: &[u64], a: &[u64], out: &mut [u64; 128]) -> usize
     requires { (length o.now ≤ 32) × (length a.now ≤ 32) }
     ensures few { result ≤ 128 }
     ensures names { take result out.new ≡ projected_numbers (placed_names o.now places.now ++ names_from (length o.now) a.now) }

@@ -35,6 +35,9 @@ comma_next c = closed_next c.s.now c.at c.closed c.here.0 (λ e. omega (arith, c
 pub digit_here : (s : List ℕ) (p : ℕ) → p < length s → is_ascii_digit (get_or s p 0) ≡ true → DigitAt s p
 digit_here s p h e = search rules
 
+pub no_digit : (s : List ℕ) (p : ℕ) → is_ascii_digit (get_or s p 0) ≡ false → DigitAt s p → ⊥
+no_digit s p e d = search rules
+
 pub digit_next : (s : List ℕ) (p : ℕ) → Closed s → DigitAt s p → p + 1 < length s
 digit_next s p k d = closed_next s p k d.0 (λ e. omega (arith, d.1, e))
 

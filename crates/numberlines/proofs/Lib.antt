@@ -1,4 +1,5 @@
 pub mod Closed
+pub mod OneNumber
+pub mod Apart
 pub mod Numbers
 pub mod Operators
-pub mod Children

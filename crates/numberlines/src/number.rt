@@ -4,13 +4,14 @@ ghost use Rattle.text.specs.Write.{decimal};
 ghost use Rattle.linekinds.specs.PlainText.{TextAt};
 ghost use Rattle.numberlines.specs.NumberLines.{Closed, NumberTo};
 
-use crate::comma::{Bound, Comma};
+use crate::comma::Comma;
+use linekinds::bounds::PLAIN;
 use linekinds::plain::Number;
 
 // The number that goes on at a place, after digits that gave `begun`.
-fn longer_to(s: &[u8], at: usize, begun: u64, bound: Bound, b: u8) -> Option<Number>
-    requires { Closed s.now × (at < length s.now) × (begun ≤ bound.most) }
-    ensures { (from : ℕ) → TextAt s.now from (decimal begun) at → NumberTo bound.most s.now from b result }
+fn longer_to(s: &[u8], at: usize, begun: u64, b: u8) -> Option<Number>
+    requires { Closed s.now × (at < length s.now) × (begun < 65536) × (b < 48) }
+    ensures { (from : ℕ) → TextAt s.now from (decimal begun) at → NumberTo s.now from b result }
 {
     let mut n = begun;
     let mut p = at;
@@ -20,7 +21,7 @@ fn longer_to(s: &[u8], at: usize, begun: u64, bound: Bound, b: u8) -> Option<Num
             return None;
         }
         n = n * 10 + u64::from(s[p] - b'0');
-        if n > bound.most {
+        if n > PLAIN {
             return None;
         }
         p += 1;
@@ -31,10 +32,11 @@ fn longer_to(s: &[u8], at: usize, begun: u64, bound: Bound, b: u8) -> Option<Num
     Some(Number { value: n, end: p })
 }
 
-// A number within the bound after a comma, and the place of the byte b after it.
+// A number up to 65535 after a comma, and the place of the byte b after it.
 #[inline(always)]
-pub(crate) fn number_to(from: Comma<'_>, bound: Bound, b: u8) -> Option<Number>
-    ensures { NumberTo bound.most from.entry.s.now (from.entry.at + 1) b result }
+pub(crate) fn number_to(from: Comma<'_>, b: u8) -> Option<Number>
+    requires { b < 48 }
+    ensures { NumberTo from.entry.s.now (from.entry.at + 1) b result }
 {
     let s = from.s;
     let at = from.at + 1;
@@ -46,5 +48,5 @@ pub(crate) fn number_to(from: Comma<'_>, bound: Bound, b: u8) -> Option<Number>
     if s[p] == b {
         return Some(Number { value: n, end: p });
     }
-    longer_to(s, p, n, bound, b)
+    longer_to(s, p, n, b)
 }

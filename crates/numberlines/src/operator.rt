@@ -3,7 +3,7 @@ ghost use Rattle.std.specs.Prelude.{◌≡◌, length};
 ghost use Rattle.numberlines.specs.NumberLines.{OperatorFound};
 ghost use Rattle.numberlines.specs.Runs.{EmptyTo};
 
-use crate::comma::{Comma, PLAIN};
+use crate::comma::Comma;
 use crate::row::{Unread, begins, last_to, numbers_to};
 
 // The comma right behind another, with an empty field between them.
@@ -24,11 +24,11 @@ pub fn operator_at(s: &[u8], at: usize, letter: u8, row: &mut [u64]) -> Result<u
     ensures { OperatorFound letter s.now at row.old result row.new }
 {
     let comma = begins(s, at, letter)?;
-    let p = empty_to(numbers_to(comma, &mut row[1..4], PLAIN)?)?;
+    let p = empty_to(numbers_to(comma, &mut row[1..4])?)?;
     row[4] = 0;
     row[5] = 0;
-    let q = numbers_to(p, &mut row[6..7], PLAIN)?;
+    let q = numbers_to(p, &mut row[6..7])?;
     row[7] = 0;
-    let r = numbers_to(q, &mut row[8..10], PLAIN)?;
+    let r = numbers_to(q, &mut row[8..10])?;
     last_to(r, &mut row[10])
 }

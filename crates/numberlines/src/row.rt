@@ -3,9 +3,9 @@ ghost use Rattle.std.specs.Prelude.{◌<◌, length};
 ghost use Rattle.numberlines.specs.NumberLines.{RowFound};
 ghost use Rattle.numberlines.specs.Runs.{BegunTo, NumbersTo, LastTo};
 
-use crate::comma::{Bound, Comma, PLAIN};
+use crate::comma::Comma;
 use crate::number::number_to;
-use linekinds::plain::MOST_BYTES;
+use linekinds::bounds::MOST_BYTES;
 
 // Why a line was not read: it is of the letter, and something in it is unusual; or it is something else, and nothing was stored.
 #[derive(Clone, Copy, PartialEq, Eq, Debug)]
@@ -27,20 +27,16 @@ pub(crate) fn begins(s: &[u8], at: usize, letter: u8) -> Result<Comma<'_>, Unrea
     Ok(Comma { s, at: at + 1 })
 }
 
-// Numbers within the bound, each after a comma, into all places of a row; and the comma that follows the last.
-// Inlined, as `last_to` and `number_to` are: where they are called, a D sheet takes some hundredths more time.
+// Numbers up to 65535, each after a comma, into all places of a row; and the comma that follows the last.
+// Inlined, as `last_to` and `number_to` are: a call for each number costs time.
 #[inline(always)]
-pub(crate) fn numbers_to<'a>(
-    from: Comma<'a>,
-    row: &mut [u64],
-    bound: Bound,
-) -> Result<Comma<'a>, Unread>
-    ensures { NumbersTo bound.most from.entry result row.new }
+pub(crate) fn numbers_to<'a>(from: Comma<'a>, row: &mut [u64]) -> Result<Comma<'a>, Unread>
+    ensures { NumbersTo from.entry result row.new }
 {
     let s = from.s;
     let mut at = from.at;
     for place in row.iter_mut() {
-        let number = number_to(Comma { s, at }, bound, b',').ok_or(Unread::Unusual)?;
+        let number = number_to(Comma { s, at }, b',').ok_or(Unread::Unusual)?;
         *place = number.value;
         at = number.end;
     }
@@ -52,7 +48,7 @@ pub(crate) fn numbers_to<'a>(
 pub(crate) fn last_to(from: Comma<'_>, place: &mut u64) -> Result<usize, Unread>
     ensures { LastTo from.entry result place.new }
 {
-    let number = number_to(from, PLAIN, b'\n').ok_or(Unread::Unusual)?;
+    let number = number_to(from, b'\n').ok_or(Unread::Unusual)?;
     *place = number.value;
     if number.end >= MOST_BYTES {
         return Err(Unread::Unusual);
@@ -60,14 +56,13 @@ pub(crate) fn last_to(from: Comma<'_>, place: &mut u64) -> Result<usize, Unread>
     Ok(number.end)
 }
 
-// The line of a letter, with a number for each place of the row; and the place of its LF. Text and place stay two here, in child.rt and in
-// operator.rt: a `Comma` says that one stands there, which these have to find out.
+// The line of a letter, with a number for each place of the row; and the place of its LF.
 pub fn row_at(s: &[u8], at: usize, letter: u8, row: &mut [u64]) -> Result<usize, Unread>
     requires { 0 < length row.old }
     ensures { RowFound letter s.now at row.old result row.new }
 {
     let comma = begins(s, at, letter)?;
     let last = row.len() - 1;
-    let p = numbers_to(comma, &mut row[..last], PLAIN)?;
+    let p = numbers_to(comma, &mut row[..last])?;
     last_to(p, &mut row[last])
 }

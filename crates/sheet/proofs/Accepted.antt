@@ -11,13 +11,13 @@ use Rattle.text.specs.Lines.{first_of}
 use Rattle.text.proofs.RoundTrip.{first_back}
 use Rattle.text.proofs.WrittenBack.{led, led_parts}
 use Rattle.linekinds.specs.Lines.{Kind, Stage, Run, read, refused, most_bytes, fields_of, rows_of, at_end}
-use Rattle.sheet.specs.KeySheets.{Reading, sheet, turned, ended}
+use Rattle.sheet.specs.KeySheets.{Reading, sheet, turned, ended, after_head}
 use Rattle.sheet.specs.Sizes.{Each}
 use Rattle.sheet.specs.Refusals.{kinds_of}
 use Rattle.sheet.specs.SheetLines.{in_turn}
 use Rattle.sheet.proofs.InTurn.{Counted, rows_text, Fine, FineRows, more}
 use Rattle.sheet.proofs.Entries.{each_append, each_same}
-use Rattle.sheet.proofs.Chained.{after_head, whole_rows, head_in_turn}
+use Rattle.sheet.proofs.Chained.{whole_rows, head_in_turn}
 use Rattle.sheet.proofs.RowsAgain.{fine_wide, rows_written, rows_read}
 
 -- ---- counted kinds

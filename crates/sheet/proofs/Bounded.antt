@@ -2,41 +2,31 @@
 -- Assumes nothing.
 use Prim.Native.Nat.{ℕ, suc, ◌+◌, ◌*◌, ◌≤◌}
 use mathlib.Core.Path.{◌≡◌, refl, sym, ap, ◌∙◌}
-use mathlib.Core.Bool.{Bool, true, false, cond, ◌||◌}
+use mathlib.Core.Bool.{Bool, true, false, cond}
 use mathlib.Core.Option.{Option, none, some}
 use mathlib.Core.List.{List, [], ◌∷◌, tail}
 use native.Mathlib.Omega.{arith}
 use borrow.Author.Tests.{eqb-true, eqb-false}
-use lib.Dec.{eqb, ltb}
+use lib.Dec.{eqb}
 use lib.ListN.{length, drop}
 use Rattle.text.specs.declared.field.Field.{Field}
 use Rattle.text.specs.Text.{parts}
 use Rattle.text.specs.Lines.{first_of, next_of}
-use Rattle.linekinds.specs.Lines.{Kind, Run, read, refused, before, most_bytes, fields_fit, too_many_entries, line_number, fields_of, at_end}
+use Rattle.linekinds.specs.Lines.{Kind, Run, read, refused, before, line_number, fields_of, at_end}
 use Rattle.linekinds.specs.KeyLines.{at, key_line}
 use Rattle.linekinds.specs.declared.lists.SheetKind.TheVariants.{Key, Join}
-use Rattle.sheet.specs.KeySheets.{Reading, sheet, turned, ended, key_lists_fit, key_sheet_of, key_whole, join_lists_fit, join_sheet_of, join_whole, head_of, read_key_sheet, read_join_sheet}
+use Rattle.linekinds.proofs.LineNumbers.{line_number_few}
+use Rattle.sheet.specs.KeySheets.{Reading, sheet, turned, ended, key_lists_fit, key_sheet_of, key_whole, join_lists_fit, join_sheet_of, join_whole, head_of, stages_of_key, stages_of_input, read_key_sheet, read_join_sheet}
 use Rattle.sheet.specs.SheetLines.{refused_on, in_turn, line_kinds, whole_lines}
 use Rattle.refusals.specs.Refusals.{refused_word}
 use Rattle.refusals.proofs.Judging.{number_again}
 use Rattle.sheet.proofs.Chained.{whole_rows}
-use Rattle.sheet.proofs.KeyAccepted.{stages_of_key, stages_of_input}
 use Rattle.sheet.proofs.HeldRows.{kinds_long}
 use Rattle.sheet.proofs.SheetWhole.{head_few}
 use Rattle.sheet.proofs.SheetsRead.{key_whole_lem, join_whole_lem}
 
-cases_at : (a b c d e : Bool) → cond a (cond b 2 (cond c 3 (cond d 4 (cond e 6 0)))) 2 ≤ 6
-cases_at true true c d e = omega arith
-cases_at true false true d e = omega arith
-cases_at true false false true e = omega arith
-cases_at true false false false true = omega arith
-cases_at true false false false false = omega arith
-cases_at false b c d e = omega arith
-
 pub number_few : (k : Kind) (seen next : ℕ) (x : Option (List Field)) → line_number k seen next x ≤ 6
-unfolding line_number
-number_few k seen next none = omega arith
-number_few k seen next (some fs) = cases_at (fields_fit k fs) (k.malformed fs) (ltb most_bytes next || (too_many_entries k fs || k.large seen fs)) (k.undefined fs) (k.unfit fs)
+number_few = line_number_few
 
 -- of a run of lines: where it is refused, and where it ends
 pub record Bounded (most : ℕ) (r : Run) : Type 0 where

@@ -11,7 +11,7 @@ use borrow.Author.Tests.{ne_eqb}
 use Rattle.text.specs.declared.field.Field.{Field}
 use Rattle.text.specs.Lines.{first_of, next_of}
 use Rattle.linekinds.specs.Lines.{Kind, Stage, Run, read, refused, before, behind, onward, line_number, fields_of, rows_of, chain}
-use Rattle.sheet.specs.KeySheets.{Reading, turned, ended, head_of}
+use Rattle.sheet.specs.KeySheets.{Reading, ended, head_of, after_head}
 use Rattle.sheet.specs.Sizes.{Each}
 use Rattle.sheet.specs.Refusals.{kinds_of}
 use Rattle.sheet.specs.SheetLines.{in_turn}
@@ -74,23 +74,19 @@ ended_before whole fs (refused n l) = refl
 -- ---- a head line, and the stages that its fields ask for
 
 module _ {A : Type 0} (stages : List Field → List Stage) (whole : List Field → List (List Field) → Reading A) where
-  abbrev pub after_head : Run → Reading A
-  after_head (refused n l) = turned n l
-  after_head (read rs ls l p) = ended (whole (head_of rs)) (chain (stages (head_of rs)) l p ls)
-
   -- the rows of all lines
   abbrev pub whole_rows : List (List Field) → Reading A
   whole_rows rs = whole (head_of rs) (drop 1 rs)
 
   head_at :
       (b : Bool) (fs : List Field) (n line at : ℕ) (ls : List (List ℕ)) → Each (λ c. Counted c.kind) (stages fs) →
-      after_head (cond b (read (fs ∷ []) ls line at) (refused n 1)) ≡ ended whole_rows (cond b (before fs (in_turn (kinds_of (stages fs)) line at ls)) (refused n 1))
+      after_head stages whole (cond b (read (fs ∷ []) ls line at) (refused n 1)) ≡ ended whole_rows (cond b (before fs (in_turn (kinds_of (stages fs)) line at ls)) (refused n 1))
   head_at true fs n line at ls e = rw (chain_in_turn (stages fs) e line at ls) (sym (ended_before whole_rows fs (in_turn (kinds_of (stages fs)) line at ls)))
   head_at false fs n line at ls e = refl
 
   pub head_in_turn :
       (k : Kind) → Counted k → ((fs : List Field) → Each (λ c. Counted c.kind) (stages fs)) → (ls : List (List ℕ)) →
-      after_head (rows_of k 1 0 1 0 ls) ≡ ended whole_rows (in_turn (k ∷ kinds_of (stages (fields_of (first_of k.letter ls)))) 1 0 ls)
+      after_head stages whole (rows_of k 1 0 1 0 ls) ≡ ended whole_rows (in_turn (k ∷ kinds_of (stages (fields_of (first_of k.letter ls)))) 1 0 ls)
   unfolding in_turn
   head_in_turn k c e ls =
       let x : Option (List Field) = first_of k.letter ls in

@@ -5,7 +5,7 @@ use native.Mathlib.Omega.{arith}
 use mathlib.Core.List.{List, [], ◌∷◌, map}
 use mathlib.Core.Bool.{Bool, true, false, cond, not, ◌&&◌, ◌||◌}
 use mathlib.Core.Option.{Option, none, some}
-use lib.Dec.{eqb, ltb}
+use lib.Dec.{eqb, leb, ltb}
 use lib.ListN.{length, get_or, length-map, replicate}
 use borrow.Author.Tests.{eqb-true, eq-eqb, leb-true, le-leb, ltb-false, le-ltb, not-false}
 use Rattle.std.proofs.lemmas.Bool.{and_parts, or_parts}
@@ -16,7 +16,7 @@ use Rattle.text.specs.Bounds.{allows, allows_all, fits}
 use Rattle.keys.specs.Reorder.{Rule}
 use Rattle.keys.specs.Expressions.{Expression}
 use Rattle.linekinds.specs.Lines.{plain, whole_entries, never, most_entries}
-use Rattle.linekinds.specs.KeyLines.{values, defined_expr, undefined_exprs, over, list_line, expr_line, rule_line, direction_line, name_line, input_line}
+use Rattle.linekinds.specs.KeyLines.{values, defined_mode, defined_expr, undefined_exprs, over, list_line, expr_line, rule_line, direction_line, name_line, input_line}
 use Rattle.sheet.specs.KeySheets.{exprs, rules_of, mark, input_of, unused_keys}
 use Rattle.sheet.specs.KeyAnswers.{expr_numbers}
 use Rattle.sheet.specs.KeyTexts.{mark_number, rule_exprs, input_numbers}
@@ -247,3 +247,19 @@ input_back (some es) = ap {B = Option (List Expression)} some (exprs_back es)
 pub mark_back : (b : Bool) → mark (mark_number b) ≡ b
 mark_back true = refl
 mark_back false = refl
+
+-- ---- what the rows of both kinds of sheets give back
+
+mode_at : (a b : Bool) (m : ℕ) → cond a (leb m 2) (cond b (leb m 1) (eqb m 0)) ≡ true → m ≤ 2
+mode_at true b m e = leb-true m 2 e
+mode_at false true m e = omega (arith, leb-true m 1 e)
+mode_at false false m e = omega (arith, eqb-true m 0 e)
+
+pub mode_small : (op m : ℕ) → defined_mode op m ≡ true → m ≤ 2
+mode_small op m e = mode_at (eqb op 0) (eqb op 3) m e
+
+pub expr_back : (es : List Expression) → exprs (values (numbers (expr_numbers es))) ≡ es
+expr_back es = rw (values_numbers (expr_numbers es)) (exprs_back es)
+
+pub rule_back : (rs : List (Rule Expression)) → rules_of (exprs (values (numbers (expr_numbers (rule_exprs rs))))) ≡ rs
+rule_back rs = rw (expr_back (rule_exprs rs)) (rules_back rs)

@@ -5,8 +5,11 @@ pub mod RowsAgain
 pub mod Numbers
 pub mod KeyRows
 pub mod Accepted
+pub mod ReadExactly
 pub mod KeyAccepted
 pub mod LegalRows
+pub mod LegalKeys
+pub mod LegalJoins
 pub mod LegalSheets
 pub mod TriedSizes
 pub mod KeySizes
@@ -19,6 +22,7 @@ pub mod SheetTurns
 pub mod SheetWhole
 pub mod HeldRows
 pub mod HeldSheets
+pub mod CountedLists
 pub mod SheetsRead
 pub mod Bounded
 pub mod HeldTexts

@@ -15,10 +15,11 @@ use Rattle.text.specs.Lines.{first_of, next_of}
 use Rattle.keys.specs.Adjust.{KeySheet}
 use Rattle.keys.specs.Inputs.{JoinSheet}
 use Rattle.linekinds.specs.Lines.{Kind, Run, refused, before, line_number, fields_of, at_end}
-use Rattle.sheet.specs.KeySheets.{Reading, sheet, turned, ended, key_lists_fit, key_whole, join_whole, read_key_sheet, read_join_sheet}
+use Rattle.sheet.specs.KeySheets.{Reading, sheet, turned, ended, key_lists_fit, key_whole, join_whole, stages_of_key, stages_of_input, read_key_sheet, read_join_sheet}
 use Rattle.sheet.specs.SheetLines.{in_turn}
 use Rattle.sheet.proofs.Chained.{whole_rows, ended_before}
-use Rattle.sheet.proofs.KeyAccepted.{made_fits, stages_of_key, stages_of_input, key_in_turn, join_in_turn}
+use Rattle.sheet.proofs.ReadExactly.{made_fits}
+use Rattle.sheet.proofs.KeyAccepted.{key_in_turn, join_in_turn}
 use Rattle.sheet.specs.Refusals.{line_numbers, line_rows, NoLine, FirstLine, TurnedBack, key_kinds, key_numbers, key_sheet_in, join_kinds, join_numbers, join_sheet_in, join_fits}
 
 -- ---- the first number that is not 0

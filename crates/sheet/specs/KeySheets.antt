@@ -6,9 +6,10 @@ use Rattle.text.specs.declared.field.Field.{Field}
 use Rattle.text.specs.Text.{parts}
 use Rattle.keys.specs.Reorder.{Rule}
 use Rattle.keys.specs.Expressions.{Expression}
+use Rattle.keys.specs.Codes.{order_tried}
 use Rattle.keys.specs.Adjust.{KeySheet}
 use Rattle.keys.specs.Inputs.{JoinSheet}
-use Rattle.linekinds.specs.Lines.{Run, read, refused, rows_of, chain, at_end}
+use Rattle.linekinds.specs.Lines.{Stage, Run, read, refused, rows_of, chain, at_end}
 use Rattle.linekinds.specs.KeyLines.{at, values, key_line, input_head, key_stages, input_stages}
 
 -- every three numbers an expression
@@ -73,10 +74,6 @@ pub data Reading (A : Type 0) : Type 0 where
   sheet : A → Reading A
   turned : ℕ → ℕ → Reading A
 
--- L, G and W serve ops 0 (Partitioned) and 2
-abbrev pub pairs_serve : ℕ → ℕ → Bool
-pairs_serve op mode = eqb op 2 || (eqb op 0 && eqb mode 0)
-
 -- S is as long as L (op 2) or empty (others)
 abbrev pub directions_fit : ℕ → List ℕ → List Expression → Bool
 directions_fit op s l = cond (eqb op 2) (eqb (length s) (length l)) (eqb (length s) 0)
@@ -85,10 +82,10 @@ directions_fit op s l = cond (eqb op 2) (eqb (length s) (length l)) (eqb (length
 abbrev pub serves : Bool → ℕ → Bool
 serves b n = b || eqb n 0
 
--- number 5: lengths that differ, or an unused list that has entries
+-- number 5: lengths that differ, or an unused list that has entries; L, G and W serve where an order is tried
 unfoldable pub key_lists_fit : KeySheet → Bool
 key_lists_fit s =
-    let pairs : Bool = pairs_serve s.op s.mode in
+    let pairs : Bool = order_tried s.op s.mode in
     eqb (length s.left) (length s.right) && (directions_fit s.op s.directions s.left
     && (serves pairs (length s.left) && (serves pairs (length s.rewriting)
     && (serves (eqb s.op 3) (length s.groups) && (serves (eqb s.op 3) (length s.aggregates) && serves (eqb s.op 4) (length s.mapped))))))
@@ -116,17 +113,20 @@ join_whole k rs = let s : JoinSheet = join_sheet_of k rs in cond (join_lists_fit
 abbrev pub head_of : List (List Field) → List Field
 head_of rs = get_or rs 0 []
 
--- the lists after a K line
-abbrev pub after_key : Run → Reading KeySheet
-after_key (refused n l) = turned n l
-after_key (read rs ls l p) = ended (key_whole (head_of rs)) (chain (key_stages (at (head_of rs) 6)) l p ls)
+-- the lists after a head line, as its fields ask for them, and what all lines make
+abbrev pub after_head : {A : Type 0} → (List Field → List Stage) → (List Field → List (List Field) → Reading A) → Run → Reading A
+after_head stages whole (refused n l) = turned n l
+after_head stages whole (read rs ls l p) = ended (whole (head_of rs)) (chain (stages (head_of rs)) l p ls)
 
-abbrev pub after_input : Run → Reading JoinSheet
-after_input (refused n l) = turned n l
-after_input (read rs ls l p) = ended (join_whole (head_of rs)) (chain input_stages l p ls)
+-- by the K line's number of children
+abbrev pub stages_of_key : List Field → List Stage
+stages_of_key fs = key_stages (at fs 6)
+
+abbrev pub stages_of_input : List Field → List Stage
+stages_of_input fs = input_stages
 
 unfoldable pub read_key_sheet : List ℕ → Reading KeySheet
-read_key_sheet s = after_key (rows_of key_line 1 0 1 0 (parts 10 s))
+read_key_sheet s = after_head stages_of_key key_whole (rows_of key_line 1 0 1 0 (parts 10 s))
 
 unfoldable pub read_join_sheet : List ℕ → Reading JoinSheet
-read_join_sheet s = after_input (rows_of input_head 1 0 1 0 (parts 10 s))
+read_join_sheet s = after_head stages_of_input join_whole (rows_of input_head 1 0 1 0 (parts 10 s))

@@ -5,7 +5,8 @@ use Rattle.keys.specs.Adjust.{KeySheet}
 use Rattle.keys.specs.Inputs.{JoinSheet}
 use Rattle.linekinds.specs.declared.lists.SheetKind.{SheetKind}
 use Rattle.linekinds.specs.declared.lists.SheetKind.TheVariants.{Key, Join}
-use Rattle.sheet.specs.KeySheets.{Reading, sheet, turned, mark, pairs_serve, serves, read_key_sheet, read_join_sheet}
+use Rattle.keys.specs.Codes.{order_tried}
+use Rattle.sheet.specs.KeySheets.{Reading, sheet, turned, mark, serves, read_key_sheet, read_join_sheet}
 use Rattle.sheet.specs.Held.{child_count, held_key_sheet, held_join_sheet, KeyHeld, JoinHeld, held_text}
 use Rattle.refusals.specs.declared.Refused.{Refused}
 use Rattle.sheet.specs.SheetLines.{refused_on}
@@ -15,7 +16,7 @@ direction_counts op s l = cond (eqb op 2) (eqb s l) (eqb s 0)
 
 -- of L, G, S and W; a pair of W has two numbers
 abbrev pub pair_counts : ℕ → ℕ → ℕ → ℕ → ℕ → ℕ → Bool
-pair_counts op mode l g s w = eqb l g && (direction_counts op s l && (serves (pairs_serve op mode) l && serves (pairs_serve op mode) (w / 2)))
+pair_counts op mode l g s w = eqb l g && (direction_counts op s l && (serves (order_tried op mode) l && serves (order_tried op mode) (w / 2)))
 
 -- the counts are those of the lines R, L, G, S, W, O, A, M, from place 1 on
 unfoldable pub key_counts_fit : ℕ → ℕ → List ℕ → Bool

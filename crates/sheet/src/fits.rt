@@ -3,9 +3,10 @@ ghost use Rattle.std.specs.Prelude.{◌≡◌, ◌≤◌, length};
 ghost use Rattle.sheet.specs.KeySheets.{serves};
 ghost use Rattle.sheet.specs.ListFits.{direction_counts, pair_counts, key_counts_fit, input_counts, join_counts_fit};
 
+use crate::{join_lines, key_lines};
 use keys::codes::Op;
 use keys::inputs::order_tried;
-use linekinds::plain::MARK;
+use linekinds::bounds::MARK;
 
 // A list that does not serve is empty.
 fn serves(b: bool, n: usize) -> bool
@@ -33,14 +34,20 @@ fn pairs_fit(op: u64, mode: u64, l: usize, g: usize, s: usize, w: usize) -> bool
 
 // The counts of a K sheet's lines. They stay a slice, as they are lent: an array type would ask for an exact number of them.
 #[tactic(auto, unfolding(crate::specs::ListFits::key_counts_fit))]
-pub fn key_lists_fit(op: u64, mode: u64, counts: &[usize]) -> bool
+pub(crate) fn key_lists_fit(op: u64, mode: u64, counts: &[usize]) -> bool
     requires { 9 ≤ length counts.now }
     ensures { result ≡ key_counts_fit op mode counts.now }
 {
-    pairs_fit(op, mode, counts[2], counts[3], counts[4], counts[5])
-        && serves(Op::from(op) == Op::Aggregate, counts[6])
-        && serves(Op::from(op) == Op::Aggregate, counts[7])
-        && serves(Op::from(op) == Op::Projection, counts[8])
+    pairs_fit(
+        op,
+        mode,
+        counts[key_lines::LEFT],
+        counts[key_lines::RIGHT],
+        counts[key_lines::DIRECTIONS],
+        counts[key_lines::REWRITING],
+    ) && serves(Op::from(op) == Op::Aggregate, counts[key_lines::GROUPS])
+        && serves(Op::from(op) == Op::Aggregate, counts[key_lines::AGGREGATES])
+        && serves(Op::from(op) == Op::Projection, counts[key_lines::MAPPED])
 }
 
 // H or N: a mark, and no keys after mark 0.
@@ -52,12 +59,13 @@ fn input_fits(mark: u64, n: usize) -> bool
 
 // The counts of an I sheet's lines, and the marks of H and N.
 #[tactic(auto, unfolding(crate::specs::ListFits::join_counts_fit))]
-pub fn join_lists_fit(op: u64, counts: &[usize], h: u64, n: u64) -> bool
+pub(crate) fn join_lists_fit(op: u64, counts: &[usize], h: u64, n: u64) -> bool
     requires { 6 ≤ length counts.now }
     ensures { result ≡ join_counts_fit op counts.now h n }
 {
-    counts[1] == counts[2]
-        && directions_fit(op, counts[3], counts[1])
-        && input_fits(h, counts[4])
-        && input_fits(n, counts[5])
+    let left = counts[join_lines::LEFT];
+    left == counts[join_lines::RIGHT]
+        && directions_fit(op, counts[join_lines::DIRECTIONS], left)
+        && input_fits(h, counts[join_lines::LEFT_INPUT])
+        && input_fits(n, counts[join_lines::RIGHT_INPUT])
 }

@@ -3,5 +3,7 @@
 
 pub mod fits;
 pub mod held;
+pub mod join_lines;
+pub mod key_lines;
 pub mod read;
 pub mod sheets;

@@ -2,6 +2,7 @@
 ghost use Rattle.std.specs.Prelude.{◌≡◌, ◌-◌, ◌≤◌, length};
 ghost use Rattle.sheet.specs.SheetLines.{most_lists, count_by, FewChildren, lines_from, lines_by, whole_lines, ended_by, HeldLines, HeadKept};
 
+use crate::{join_lines, key_lines};
 use linekinds::lists::{SheetKind, judged_list, read_list};
 use refusals::{Refusal, Refused};
 
@@ -47,14 +48,14 @@ fn line_count(k: SheetKind, children: u64) -> usize
 {
     match k {
         // No From goes between u64 and usize.
-        SheetKind::Key => 9 + children as usize,
-        SheetKind::Join => 8,
+        SheetKind::Key => key_lines::LINES + children as usize,
+        SheetKind::Join => join_lines::LINES,
     }
 }
 
 // All lines of a sheet, and nothing after them: line i goes into list i. The first is no list. That there are lists and counts for the most
 // lines stays a condition, here and in `sheets`: C lends the lists, as a slice of any length.
-pub fn read_whole(
+pub(crate) fn read_whole(
     s: &[u8],
     k: SheetKind,
     rows: &mut [[u64; 2]],
@@ -67,7 +68,7 @@ pub fn read_whole(
 {
     let head = judged_list(s, 0, k, 0, rows, &mut lists[0]).map_err(|r| r.on_line(1))?;
     counts[0] = head.count;
-    let n = line_count(k, lists[0][6]);
+    let n = line_count(k, lists[0][key_lines::CHILDREN]);
     let read = read_lists(s, head.next, k, n, rows, lists, counts)?;
     if read.next < s.len() {
         return Err(Refusal::WrongLine.on_line(read.line));

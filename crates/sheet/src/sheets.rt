@@ -5,6 +5,7 @@ ghost use Rattle.sheet.specs.ListFits.{lists_fit, SheetRead};
 
 use crate::fits::{join_lists_fit, key_lists_fit};
 use crate::read::read_whole;
+use crate::{join_lines, key_lines};
 use linekinds::lists::SheetKind;
 use refusals::{Refusal, Refused};
 
@@ -14,8 +15,16 @@ fn lists_fit(k: SheetKind, lists: &[[u64; 64]], counts: &[usize]) -> bool
     ensures { result ≡ lists_fit k lists.now counts.now }
 {
     match k {
-        SheetKind::Key => key_lists_fit(lists[0][0], lists[0][1], counts),
-        SheetKind::Join => join_lists_fit(lists[0][0], counts, lists[4][0], lists[5][0]),
+        SheetKind::Key => {
+            let head = &lists[key_lines::HEAD];
+            key_lists_fit(head[key_lines::OP], head[key_lines::MODE], counts)
+        }
+        SheetKind::Join => join_lists_fit(
+            lists[join_lines::HEAD][join_lines::OP],
+            counts,
+            lists[join_lines::LEFT_INPUT][join_lines::MARK],
+            lists[join_lines::RIGHT_INPUT][join_lines::MARK],
+        ),
     }
 }
 

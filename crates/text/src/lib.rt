@@ -4,4 +4,5 @@
 pub mod bounds;
 pub mod field;
 pub mod line;
+pub mod store;
 pub mod write;

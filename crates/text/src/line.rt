@@ -6,14 +6,13 @@ ghost use Rattle.text.specs.Scan.{ends_line};
 ghost use Rattle.text.specs.Read.{tallied, line_read, stored_in};
 
 use crate::field::{Field, digit_and_comma, field_at};
+use crate::store::store;
 
-// Stores where there is room.
+// Stores a field's row where there is room.
 fn store_row(out: &mut [[u64; 2]], i: usize, field: Field)
     ensures { out.new ≡ set out.old i (row field) }
 {
-    if i < out.len() {
-        out[i] = [field.state(), field.value()];
-    }
+    store(out, i, [field.state(), field.value()]);
 }
 
 // The line ends at `at`: at an LF, or with the text.
@@ -34,7 +33,7 @@ pub struct Fields {
 }
 
 // The fields from `at` to the LF, or to the end of the text, into as much room as there is. Reading goes on at the LF.
-pub fn fields_at(s: &[u8], at: usize, out: &mut [[u64; 2]]) -> Fields
+fn fields_at(s: &[u8], at: usize, out: &mut [[u64; 2]]) -> Fields
     ensures counted { result ≡ tallied (at + until 10 (drop at s.now)) (fields (line (drop at s.now))) }
     ensures stored { out.new ≡ sets out.old 0 (map row (fields (line (drop at s.now)))) }
 {

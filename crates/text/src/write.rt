@@ -105,7 +105,7 @@ pub fn put_number(out: &mut [u8], at: usize, n: u64) -> usize
 }
 
 // A comma, and the field: its digits where it is a number, and else nothing.
-pub fn put_field(out: &mut [u8], at: usize, field: Field) -> usize
+fn put_field(out: &mut [u8], at: usize, field: Field) -> usize
     requires { at + length (44 ∷ field_text field) ≤ length out.old }
     ensures { Wrote out.old at (44 ∷ field_text field) out.new result }
 {

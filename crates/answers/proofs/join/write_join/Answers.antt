@@ -3,7 +3,7 @@ use Prim.Native.Nat.{◌≤◌}
 use mathlib.Core.Path.{sym, ◌∙◌}
 use borrow.Author.Tests.{leb-true}
 use lib.ListN.{length}
-use Rattle.lines.specs.AnswerTexts.{join_text_of}
+use Rattle.lines.specs.Texts.{join_text_of}
 use Rattle.lines.proofs.Room.{room_written}
 use Rattle.answers.proofs.join.write_join.Goals as goal
 

@@ -9,7 +9,7 @@ use Rattle.std.specs.Prelude.{option_copied}
 use Rattle.text.specs.Write.{Wrote}
 use Rattle.text.proofs.Stores.{wrote_then, wrote_length}
 use Rattle.sheet.specs.Held.{child_count}
-use Rattle.lines.specs.AnswerTexts.{key_text_of}
+use Rattle.lines.specs.Texts.{key_text_of}
 use Rattle.lines.specs.Children.{children_text}
 use Rattle.lines.proofs.Room.{room_written}
 use Rattle.answers.specs.AnswerLists.{whole_text}

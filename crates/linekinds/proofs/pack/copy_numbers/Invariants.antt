@@ -1,9 +1,10 @@
--- `linekinds::pack::copy_numbers` meets its contract. The array filled so far, with what is left, is all the numbers.
+-- What is stored, with the numbers from i on, is the whole.
 use mathlib.Core.Path.{◌≡◌}
-use mathlib.Core.List.{◌++◌}
-use lib.ListN.{length, take, drop}
+use Prim.Native.Nat.{◌≤◌}
+use lib.ListN.{length, drop}
+use lib.Seq.{sets}
 use Rattle.linekinds.specs.Reading.{row_values}
 use Rattle.linekinds.proofs.pack.copy_numbers.Given as goal
 
 abbrev pub invariant-loop-i : goal.invariant-loop-i
-invariant-loop-i l = (length l.out ≡ 64) × (take l.i l.out ++ drop l.i (row_values l.rows) ≡ row_values l.rows)
+invariant-loop-i l = (l.i ≤ length l.rows) × (length l.out ≡ length l.initial.out) × (sets l.out l.i (drop l.i (row_values l.rows)) ≡ sets l.initial.out 0 (row_values l.rows))

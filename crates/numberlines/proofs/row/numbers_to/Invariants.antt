@@ -4,4 +4,4 @@ use Rattle.numberlines.specs.NumberLines.{NumbersAt}
 use Rattle.numberlines.proofs.row.numbers_to.Given as goal
 
 abbrev pub invariant-loop-place : goal.invariant-loop-place
-invariant-loop-place l = NumbersAt l.bound.most l.s l.initial.at (take l.place-index l.row) l.at
+invariant-loop-place l = NumbersAt l.s l.initial.at (take l.place-index l.row) l.at

@@ -11,7 +11,7 @@ use Rattle.numberlines.proofs.row.row_at.Goals as goal
 pub returns-in_err-p : goal.returns-in_err-p
 returns-in_err-p c =
     let a = c.args in let r = c.from_residual-in_err-p in let p = err_from_is_err_and r.result r.ensures.1 in
-    row_unusual a.letter a.s.now a.at a.row.now c.in_ok-comma.comma c.in_ok-comma.ensures _ _ (p.1 ∙ ap Err (p.2 ∙ c.in_err-p.ensures))
+    row_unusual a.letter a.s.now a.at a.row.now c.in_ok-comma.comma c.in_ok-comma.ensures _ _ (p.1 ∙ ap Err (p.2 ∙ c.in_err-p.ensures.0))
 
 pub returns : goal.returns
 returns c =
