@@ -36,7 +36,7 @@ pub struct Asked {
 // What is known of a child before any child is changed: dealing out its rows may gain, it gains by their number, it must be hashed.
 #[derive(Clone, Copy)]
 pub struct RepartitionRequirementStatus {
-    pub beneficial: bool,
-    pub stats: bool,
-    pub necessary: bool,
+    pub roundrobin_beneficial: bool,
+    pub roundrobin_beneficial_stats: bool,
+    pub hash_necessary: bool,
 }

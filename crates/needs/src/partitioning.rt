@@ -4,14 +4,13 @@ ghost use Rattle.exchange.specs.Operators.{is_partitioned_join};
 ghost use Rattle.exchange.specs.Status.{status_of};
 ghost use Rattle.exchange.specs.Step.{preserve_file_partition_threshold_met, requires_grouping_id, allow_subset_satisfy_partitioning, partial_aggregate_output_satisfies_final_partitioning, preserve_partial_aggregate_partitioning, add_roundrobin, partitioning_satisfied, preserve_satisfying_file_partitioning, needs_hash_repartition};
 ghost use Rattle.exchange.specs.FactRows.{child_for};
-ghost use Rattle.exchange.specs.Standings.{worked_for, node_for, state_for};
+ghost use Rattle.exchange.specs.Standings.{worked_for, node_for, state_for, status_by};
 
-use crate::status::rows_gain;
 use exchange::fact::{EXACT, SUBSET};
 use exchange::mark::is_set;
 use exchange::partitioning::{AGGEXACT, AGGSUBSET, Standing, Worked};
 use exchange::settings::Settings;
-use exchange::status::{Asked, GAINS, GROUPING};
+use exchange::status::{Asked, GROUPING, RepartitionRequirementStatus};
 use exchange::{kind, need};
 
 // Enough partitions to keep those of the files.
@@ -69,12 +68,12 @@ pub fn preserve_partial_aggregate_partitioning(s: Settings, w: Worked, a: Asked)
 }
 
 // A round robin is wanted, unless the split makes it needless.
-pub fn add_roundrobin(s: Settings, w: Worked, a: Asked) -> bool
-    ensures { (aligned : Bool) → result ≡ add_roundrobin s (worked_for w) (node_for w) (status_of s aligned (child_for a)) }
+pub fn add_roundrobin(s: Settings, w: Worked, a: Asked, t: RepartitionRequirementStatus) -> bool
+    ensures { result ≡ add_roundrobin s (worked_for w) (node_for w) (status_by (child_for a) t) }
 {
     is_set(s.roundrobin)
-        && is_set(a.facts[GAINS])
-        && rows_gain(s, a)
+        && t.roundrobin_beneficial
+        && t.roundrobin_beneficial_stats
         && a.count < s.target
         && !preserve_partial_aggregate_partitioning(s, w, a)
 }
