@@ -42,7 +42,7 @@ const FORMS: u64 = 16;
 pub const PLACES: usize = 129;
 
 // Rows of neither are written too, as the index's definition has it (`slot` of specs/Found), so this is no Option.
-const NOWHERE: usize = 128;
+const NOWHERE: usize = PLACES - 1;
 
 // A child of the worked node, by its number from 1, in a form.
 #[derive(Clone, Copy)]
