@@ -16,7 +16,8 @@ use Rattle.exchange.specs.Step.{split_plan}
 use Rattle.exchange.specs.Replace.{coalesced, relaxed, replace_operator, replace_order_preserving_variants, replace_tracked}
 use Rattle.exchange.specs.Order.{handle_order}
 use Rattle.exchange.specs.Skeleton.{is_added_sort}
-use Rattle.exchange.specs.Limits.{limit_of, id_below, own_limit, limits, limitss, OwnsLimit, Owned, Owneds, taken_off, taken_above, NoLimits}
+use Rattle.exchange.specs.Limits.{limit_of, id_below, own_limit, limits, limitss, OwnsLimit, Owned, Owneds, NoLimits}
+use Rattle.exchange.specs.Worked.{removed, removed_from}
 use Rattle.exchange.proofs.Growing.{Grows}
 use Rattle.exchange.proofs.Handling.{measure_either, measure_operator, measure_handled}
 
@@ -128,15 +129,15 @@ removed_limit o e = go o.limit refl
 
 -- nothing that is taken off above the worked node has a limit
 mutual
-  unfolding taken_off
+  unfolding removed
 
-  pub taken_unlimited : (t : Plan) → NoLimits (taken_off t)
-  taken_unlimited (node o ts) = go (is_removed o) refl (λ e. above_unlimited o e ts)
+  pub removed_unlimited : (t : Plan) → NoLimits (removed t)
+  removed_unlimited (node o ts) = go (is_removed o) refl (λ e. above_unlimited o e ts)
     where
-      go : (b : Bool) → is_removed o ≡ b → (is_removed o ≡ true → NoLimits (taken_above o ts)) → NoLimits (cond b (taken_above o ts) [])
+      go : (b : Bool) → is_removed o ≡ b → (is_removed o ≡ true → NoLimits (removed_from o ts)) → NoLimits (cond b (removed_from o ts) [])
       go true e h = h e
       go false e h = tt
 
-  above_unlimited : (o : Operator) → is_removed o ≡ true → (ts : Plans) → NoLimits (taken_above o ts)
+  above_unlimited : (o : Operator) → is_removed o ≡ true → (ts : Plans) → NoLimits (removed_from o ts)
   above_unlimited o e none = tt
-  above_unlimited o e (t ∷ᶠ ts) = (removed_limit o e, taken_unlimited t)
+  above_unlimited o e (t ∷ᶠ ts) = (removed_limit o e, removed_unlimited t)

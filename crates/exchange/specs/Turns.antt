@@ -9,13 +9,13 @@ use Rattle.exchange.specs.Forms.{form_number, form_of, with_relationship}
 use Rattle.exchange.specs.Facts.{Row, row_of, unsatisfied_at}
 use Rattle.exchange.specs.Operators.{is_keyed}
 use Rattle.exchange.specs.States.{ChildState}
-use Rattle.exchange.specs.Relationships.{Enforced as Outcome, row_missing, stuck, enforced}
+use Rattle.exchange.specs.Relationships.{Enforced as Outcome, row_missing, stuck, enforced, is_target_hash}
 use Rattle.exchange.specs.Standings.{form_by, form_numbers, each_form}
 
 -- `already_target_hash` of the row; a child on its way has its row
 abbrev pub row_already : Option Row → Bool
 row_already nothing = true
-row_already (some x) = is_set x.athash && is_set x.exact
+row_already (some x) = is_target_hash x
 
 module _ (rows : List Row) where
   abbrev pub turn_givable : Turn → Bool

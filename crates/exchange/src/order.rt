@@ -1,8 +1,8 @@
 // The order handling of a child, by what is known of it.
 ghost use Rattle.std.specs.Prelude.{◌≡◌, ◌||◌, ◌≤◌};
 ghost use Rattle.exchange.specs.Settings.{is_set as is_set_mark};
-ghost use Rattle.exchange.specs.Order.{kept_entries};
-ghost use Rattle.exchange.specs.Handling.{enables_streaming, required_replaced, sorted_entries, free_replaced, streams as streams_by, required_handling, free_handling, handling_of};
+ghost use Rattle.exchange.specs.Order.{enables_streaming, kept_entries, required_replaced, free_replaced};
+ghost use Rattle.exchange.specs.Handling.{sorted_entries, streams as streams_by, required_handling, free_handling, handling_of};
 
 use crate::mark::is_set;
 use crate::{kind, need};
