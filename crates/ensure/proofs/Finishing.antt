@@ -22,7 +22,7 @@ use Rattle.exchange.specs.Relationships.{enforced}
 use Rattle.exchange.specs.Operators.{mark}
 use Rattle.exchange.specs.Rows.{packed, node_of, operator_of, unpacked, node_at, children_at, row_of, flatten, flattens}
 use Rattle.exchange.specs.Turns.{Stand, nobody, next}
-use Rattle.exchange.specs.Finished.{Finished, over, beside}
+use Rattle.exchange.proofs.FinishedStates.{Finished, over, beside}
 use Rattle.exchange.specs.Layouts.{layouts_by, hashed_alike}
 use Rattle.exchange.specs.LastForm.{finished_each, EachFinished}
 use Rattle.exchange.specs.Runs.{Readys, MapsAll}

@@ -21,7 +21,7 @@ use Rattle.exchange.specs.Step.{split_plan, merge_on, keyed_on, roundrobin_on, e
 use Rattle.exchange.specs.Relationships.{enforced, already_target_hash, round, rounds, enforce_distribution_relationships}
 use Rattle.exchange.specs.Ensure.{relate, child_states}
 use Rattle.exchange.specs.Built.{built}
-use Rattle.exchange.specs.Finished.{From, End, Finished, over, beside}
+use Rattle.exchange.proofs.FinishedStates.{From, End, Finished, over, beside}
 use Rattle.exchange.proofs.Forms.{form_apart, form_small}
 use Rattle.exchange.proofs.Passing.{Holds, HoldsEnforced, Alls, Steps, Relates, each_steps, each_step, each_round, all_rounds, holds_pass}
 use Rattle.exchange.proofs.StepWays.{holds_satisfied, holds_stepped}
