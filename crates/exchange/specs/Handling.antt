@@ -1,4 +1,5 @@
--- The order handling of a child as numbers: whether its order-preserving operators give way, the entries of a sort above, and whether its mark is cleared.
+-- The order handling of a child as numbers: whether its order-preserving operators give way, the entries of a sort above,
+-- and whether its mark is cleared.
 -- Renders the second loop over the children in `ensure_distribution` of 000, with `add_sort_above_with_check` of 001.
 use Rattle.std.specs.Prelude.{ℕ, Bool, true, false, cond, not, ◌&&◌, ◌||◌, eqb}
 use Rattle.std.proofs.Math.Option.{Option}

@@ -1,4 +1,5 @@
 -- The worked node and a child on its way, by their numbers, and a step's answer as a form.
+-- Renders the loop over the children in `ensure_distribution` of 000.
 use Rattle.std.specs.Prelude.{ℕ, suc, ◌≡◌, List, [], ◌∷◌, map, get_or, ⊤, Option as Answer, Some, None}
 use Rattle.std.proofs.Math.Option.{Option, some, none as nothing}
 use Rattle.exchange.specs.declared.status.Asked.{Asked}

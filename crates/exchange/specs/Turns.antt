@@ -1,4 +1,5 @@
 -- The relationship rounds by the children's numbers: a child's turn in a round is its number, its need, its form and its bit of the mask.
+-- Renders `enforce_distribution_relationships` of 000.
 use Rattle.std.specs.Prelude.{ℕ, zero, suc, ◌+◌, ◌*◌, ◌/◌, ◌%◌, ◌≤◌, ◌≡◌, Bool, true, false, cond, not, ◌&&◌, ◌||◌, List, [], ◌∷◌, eqb, ⊤, Option as Answer, Some, Result, Ok, Err}
 use Rattle.std.proofs.Math.Option.{Option, some, none as nothing}
 use Rattle.exchange.specs.declared.relationship.Turn.{Turn}
