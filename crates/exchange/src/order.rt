@@ -8,7 +8,7 @@ use crate::mark::is_set;
 use crate::{kind, need};
 
 // Whether order-preserving operators give way, the entries of the sort above as a mask, and whether the child's mark is cleared.
-// A mask of no entries is no sort, and every entry may be dropped from one: an Option would say none in two ways.
+// A mask of no entries is no sort, so it is no Option.
 #[derive(Clone, Copy)]
 pub struct Handling {
     pub replaced: bool,
@@ -68,8 +68,8 @@ fn free_replaced(need: u64, maintains: bool, streaming: bool, output: bool) -> b
     !maintains || output
 }
 
-// What is known of a child, and of the worked node over it. All stay numbers, as marks (mark.rt) and kinds (kind.rt) do.
-// That the entries are at most 8 stays a clause below: the definitions of specs/ make a `Known` of any child.
+// What is known of a child, and of the worked node over it: numbers, as marks (mark.rt) and kinds (kind.rt) are.
+// That the entries are at most 8 stays a clause, since the definitions make a `Known` of any child.
 #[derive(Clone, Copy)]
 pub struct Known {
     pub sort: u64,
@@ -145,7 +145,7 @@ fn order_not_required(k: Known) -> Handling
 
 // The order handling of a child: whether an order is required of it decides.
 #[tactic(auto, unfolding(crate::specs::Handling::handling_of))]
-pub fn handle_order(k: Known) -> Handling
+pub(crate) fn handle_order(k: Known) -> Handling
     requires { k.entries ≤ 8 }
     ensures { result ≡ handling_of k }
 {

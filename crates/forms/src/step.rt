@@ -27,11 +27,11 @@ use needs::status::{get_repartition_requirement_status, needs_alignment};
 
 // The worked node whose children take their steps: whether any of them asks to be hashed alike, and their X rows.
 #[derive(Clone, Copy)]
-pub struct Stepping<'a> {
-    pub settings: Settings,
-    pub worked: Worked,
-    pub aligned: bool,
-    pub xs: FactRows<'a>,
+struct Stepping<'a> {
+    settings: Settings,
+    worked: Worked,
+    aligned: bool,
+    xs: FactRows<'a>,
 }
 
 // A child on its way: what is asked of it, and how it stands.
@@ -56,7 +56,7 @@ fn with_top(c: ChildState, top: u64) -> ChildForm
 }
 
 // A child passes into a form, whose row it needs.
-pub fn pass(xs: FactRows, c: ChildForm) -> Option<u64>
+pub(crate) fn pass(xs: FactRows, c: ChildForm) -> Option<u64>
     ensures { Passed c.child c.form (map fact_row xs.entry.rows.now) result }
 {
     let Fact::Row { place: _ } = xs.fact_row(c) else {
@@ -141,7 +141,7 @@ fn standing_in(xs: FactRows, c: ChildForm) -> Option<Standing>
 }
 
 // The form of the child after its step.
-pub fn ensure_child(w: Stepping, a: Asked) -> Option<u64>
+fn ensure_child(w: Stepping, a: Asked) -> Option<u64>
     requires numbered { (1 ≤ a.number) × (a.number ≤ 8) }
     ensures { (o : Operator) (b : NodeFacts) (k : Child) → SameNode w.entry.worked o b → SameChild a k → result ≡ formed (ensure_child w.entry.settings o b (map fact_row w.entry.xs.rows.now) (status_of w.entry.settings w.entry.aligned k)) }
 {

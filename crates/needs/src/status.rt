@@ -14,7 +14,7 @@ use exchange::status::{
 };
 
 // By the row count, dealing out the rows gains.
-pub fn rows_gain(s: Settings, a: Asked) -> bool
+fn rows_gain(s: Settings, a: Asked) -> bool
     ensures { result ≡ rows_gain s (child_facts a.facts) }
 {
     let kind = a.facts[ROWKIND];
@@ -26,7 +26,7 @@ pub fn rows_gain(s: Settings, a: Asked) -> bool
 }
 
 // A keyed child has more than one partition, or would gain by more.
-pub fn asks_alignment(s: Settings, a: Asked) -> bool
+fn asks_alignment(s: Settings, a: Asked) -> bool
     ensures { result ≡ asks_alignment s (child_for a) }
 {
     a.need == need::KEYED && (1 < a.count || is_set(a.facts[GAINS]) && rows_gain(s, a))
