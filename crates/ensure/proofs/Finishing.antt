@@ -22,12 +22,13 @@ use Rattle.exchange.specs.Relationships.{enforced}
 use Rattle.exchange.specs.Operators.{mark}
 use Rattle.exchange.specs.Rows.{packed, node_of, operator_of, unpacked, node_at, children_at, row_of, flatten, flattens}
 use Rattle.exchange.specs.Turns.{Stand, nobody, next}
-use Rattle.exchange.specs.Finished.{Finished, over, beside}
+use Rattle.exchange.proofs.FinishedStates.{Finished, over, beside}
 use Rattle.exchange.specs.Layouts.{layouts_by, hashed_alike}
 use Rattle.exchange.specs.LastForm.{finished_each, EachFinished}
 use Rattle.exchange.specs.Runs.{Readys, MapsAll}
 use Rattle.exchange.specs.Skeleton.{below}
 use Rattle.exchange.specs.Ensure.{can_interleave, interleaved, child_states, handled, finished, answered}
+use Rattle.exchange.proofs.Headed.{readys_below}
 use Rattle.exchange.proofs.TreeRows.{flatten_node, row_packed, row_node, row_operator, tree_in, tree_long}
 use Rattle.exchange.proofs.Marking.{row_at, root_read, below_stands, children_read}
 use Rattle.exchange.proofs.FormsSmall.{finished_small, finished_long}
@@ -176,13 +177,8 @@ module _ (s : Settings) (b : List ℕ) (facts rows : List (List ℕ)) (masks : L
 
     pub came_readys : Readys (each_of (operator_of (node_at src at)) (children_at src at)) src (at + 1) (children_at src at) room 1
     came_readys =
-        record {
-          below = came_shape.below;
-          rest = p.rest;
-          counted = came_shape.counted;
-          stands = came_shape.stands;
-          fits = omega (arith, plan_long, p.fits);
-        }
+        readys_below (each_of (operator_of (node_at src at)) (children_at src at)) src (head_row (operator_of (node_at src at)) (children_at src at) ∷ []) _ p.rest
+        (at + 1) (children_at src at) room 0 1 came_shape.below came_shape.counted came_shape.stands came_shape.plan (omega (arith, p.fits)) refl
 
     pub came_each : (mid : ℕ) → length src + 2 ≤ mid → length facts ≤ 8 → ((k : ℕ) → k < length facts → (child_facts (get_or facts k [])).entries ≤ 8)
         → EachFinished forms facts 1 (children_at src at) (length src) mid

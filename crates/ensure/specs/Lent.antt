@@ -1,4 +1,5 @@
 -- What `ensure_distribution` asks of what it is lent.
+-- Renders document 01, "Tree lines become a lent run of node records".
 use Rattle.std.specs.Prelude.{ℕ, ◌≤◌, ◌≡◌, List, ◌++◌, length, drop}
 use Rattle.exchange.specs.declared.settings.Settings.{Settings}
 use Rattle.exchange.specs.Trees.{root, trees, Plan}

@@ -1,4 +1,4 @@
-// ensure_distribution.
+// The decision on a tree in lent rows: a leaf's answer, or that of its worked node.
 ghost use Rattle.std.specs.Prelude.{◌≡◌, List, ◌++◌, ℕ, ◌+◌, ◌*◌, ◌≤◌, length, Ok};
 ghost use Rattle.exchange.specs.Trees.{Plan};
 ghost use Rattle.exchange.specs.Facts.{Facts};
@@ -34,9 +34,7 @@ fn leave_unchanged(src: &[Row], dst: &mut [Row]) -> Answered
 }
 
 // Decides on the tree at the front of `src`, by what the sheet says beside it. The marks of the tree's root and of its children are set anew
-// in place; the answer's rows stand at the front of `dst`. Here, in worked.rt and in finished.rt `s`, `f`, `mid` and `dst` stay apart: of a
-// struct that lends the rooms by &mut each function would have to promise that they are the same slices still, and settings and facts are
-// handed on together but twice, and taken apart by the last function.
+// in place; the answer's rows stand at the front of `dst`. Here and below the rooms stay apart, since they are lent by &mut.
 pub fn ensure_distribution(
     s: Settings,
     f: PlanFacts,

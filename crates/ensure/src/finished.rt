@@ -45,7 +45,7 @@ fn window_mark(kind: u64, b: NodeRow) -> u64
 }
 
 // The answer of the worked node that stands there and its children in their forms, at the front of `dst`.
-pub fn finish_worked(
+pub(crate) fn finish_worked(
     s: Settings,
     f: PlanFacts,
     forms: &[u64],

@@ -18,8 +18,7 @@ fn layout_in(xs: FactRows, c: ChildForm) -> u64
     x[LAYOUT]
 }
 
-// Whether every child has the layout. An `all` was tried: its closure knows no bound of `i`, so that the child is at most 8 was refused,
-// and with clauses of its own it would be longer than the loop.
+// Whether every child has the layout. No `all`: its closure would know no bound of `i`.
 fn all_layouts(layout: u64, xs: FactRows, forms: Forms) -> bool
     ensures { result ≡ same_layouts layout (layouts_by (map fact_row xs.entry.rows.now) 1 forms.entry.list.now) }
 {
@@ -51,8 +50,8 @@ fn can_interleave(xs: FactRows, forms: Forms) -> bool
     layout != 0 && all_layouts(layout, xs, forms)
 }
 
-// A union becomes an interleave unless the settings keep it. Every number but 0 keeps it, and `is_set` would read 1 alone so.
-pub fn becomes_interleave(s: Settings, kind: u64, xs: FactRows, forms: Forms) -> bool
+// A union becomes an interleave unless the settings keep it, as every number but 0 does.
+pub(crate) fn becomes_interleave(s: Settings, kind: u64, xs: FactRows, forms: Forms) -> bool
     ensures { result ≡ (eqb kind 9 && (eqb s.union 0 && hashed_alike (layouts_by (map fact_row xs.entry.rows.now) 1 forms.entry.list.now))) }
 {
     kind == kind::UNION && s.union == 0 && can_interleave(xs, forms)

@@ -1,6 +1,6 @@
 // How ensure_distribution ends where it has an answer.
 
-// The numbers of the d line, which is why what is true or false is a number here, and how many rows the answer has.
+// The numbers of the d line, marks among them, and how many rows the answer has.
 #[derive(Clone, Copy)]
 pub struct Answered {
     pub changed: u64,

@@ -16,8 +16,8 @@ fn unspecified(n: Node) -> bool
     is_set(n.tracked) && n.need == need::UNSPECIFIED
 }
 
-// Whether any of the `left` trees from `at` on is tracked, with nothing required of it. That so many trees stand there stays a clause here
-// and below, as in `past_tree`, with `left`: nothing else says how many there are.
+// Whether any of the `left` trees from `at` on is tracked, with nothing required of it.
+// That so many stand there stays a clause here and below, as in `past_tree`.
 fn any_unspecified(rows: &[Row], at: usize, left: u64) -> bool
     requires { StandAll rows.now at left }
     ensures { SaysAll any_unspecified rows.now at left result }
@@ -79,7 +79,7 @@ fn mark_children(rows: &mut [Row], at: usize, left: u64)
 }
 
 // The marks of the root and its children.
-pub fn update_children(rows: &mut [Row], at: usize)
+pub(crate) fn update_children(rows: &mut [Row], at: usize)
     requires { Stands rows.old at }
     ensures { Becomes update_children rows.old at rows.new }
 {

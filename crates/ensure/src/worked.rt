@@ -21,7 +21,7 @@ use forms::decide::child_forms;
 
 // The forms of the children of the worked node that stands there, a place for each in `forms`.
 fn worked_forms(s: Settings, f: PlanFacts, src: Place, forms: &mut [u64]) -> Result<(), Unenforced>
-    requires forms_len { length forms.old ≡ length f.children.now }
+    requires as_many { length forms.old ≡ length f.children.now }
     requires stood { Stood src.rows.now src.at (length f.children.now) }
     ensures { (t : Plan) (rest : List (List ℕ)) → drop src.entry.at src.entry.rows.now ≡ flatten t ++ rest → answer result forms.new ≡ told (child_states s (facts_of f.entry) t) }
 {
@@ -36,7 +36,7 @@ fn worked_forms(s: Settings, f: PlanFacts, src: Place, forms: &mut [u64]) -> Res
 }
 
 // Decides on the worked node that stands there, which has as many children as there are facts.
-pub fn ensure_worked(
+pub(crate) fn ensure_worked(
     s: Settings,
     f: PlanFacts,
     src: Place,

@@ -16,9 +16,9 @@ use Rattle.exchange.specs.Forms.{Form, plain_form, split_form, with_top, with_re
 use Rattle.exchange.specs.Facts.{NodeFacts, ChildFacts, Facts, Row, row_of}
 use Rattle.exchange.specs.Operators.{is_keyed, mark, above, new_merge, new_exchange}
 use Rattle.exchange.specs.Children.{update_child, update_each, update_children, is_removed, remove_dist_changing_operators, remove_above}
-use Rattle.exchange.specs.States.{Child, ChildState, children_from, pass, started_by, started, and_then}
+use Rattle.exchange.specs.States.{Child, ChildState, children_from, pass, started_by}
 use Rattle.exchange.specs.Status.{RepartitionRequirementStatus}
-use Rattle.exchange.specs.Step.{split_plan, merge_on, keyed_on, roundrobin_on, split_at_source, satisfy_distribution, ensure_child}
+use Rattle.exchange.specs.Step.{split_plan, merge_on, keyed_on, roundrobin_on, split_at_source, satisfy_distribution}
 use Rattle.exchange.specs.Relationships.{is_given, already_target_hash}
 use Rattle.exchange.specs.Order.{handle_order}
 use Rattle.exchange.specs.Ensure.{Answer, answered, handled, finished, ensured}
@@ -26,8 +26,8 @@ use Rattle.exchange.specs.Skeleton.{below}
 use Rattle.exchange.specs.Rows.{flatten, flattens}
 use Rattle.exchange.specs.Sizes.{lines, liness}
 use Rattle.exchange.specs.Partitioning.{worked_of}
-use Rattle.exchange.proofs.StepWays.{holds_satisfied}
-use Rattle.exchange.proofs.Passing.{Holds, holds_then, holds_cond, holds_pass, Alls, Steps, Relates}
+use Rattle.exchange.proofs.StepWays.{holds_satisfied, holds_stepped}
+use Rattle.exchange.proofs.Passing.{Holds, holds_cond, holds_pass, Alls, Steps, Relates}
 use Rattle.exchange.proofs.Answered.{Finished, Came, leaf, worked, came_always}
 use Rattle.exchange.proofs.OperatorsKept.{of_answer}
 use Rattle.exchange.proofs.Weights.{weight, mark_one, weight_twice, weight_split, lines_handled}
@@ -89,13 +89,9 @@ module _ (rows : List Row) where
         (topped c d 3 roundrobin_on refl (λ x. weight_above (new_exchange 13 x (root d.plan)) d.plan refl) h)
 
     steps : Steps s w b rows Bounded
-    unfolding ensure_child
     steps t =
-        holds_then (Bare t.child) (Bounded t.child) (and_then (started rows t.child) (split_at_source s rows t)) (satisfy_distribution s w b rows t)
-        (holds_then (Bare t.child) (Bare t.child) (started rows t.child) (split_at_source s rows t)
-        (starts t.child (row_of rows t.child.number plain_form))
-        (λ d h. splits t t.child d h))
-        (λ d h. satisfies t t.child d h)
+        holds_stepped s w b rows (Bare t.child) (Bare t.child) (Bounded t.child) t
+        (starts t.child (row_of rows t.child.number plain_form)) (splits t t.child) (satisfies t t.child)
 
     relates : Relates s w b rows Bounded
     relates c d g h =

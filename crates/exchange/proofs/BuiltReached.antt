@@ -13,7 +13,7 @@ use Rattle.exchange.specs.Facts.{Row, row_of}
 use Rattle.exchange.specs.Operators.{above, new_merge, new_exchange}
 use Rattle.exchange.specs.States.{ChildState, and_then}
 use Rattle.exchange.specs.Step.{merge_on, keyed_on, roundrobin_on, split_operator, split_plan}
-use Rattle.exchange.specs.Reached.{with_row, split_by, top_by, relationship_by, plan_of, Reached}
+use Rattle.exchange.proofs.ReachedStates.{with_row, split_by, top_by, relationship_by, plan_of, Reached}
 use Rattle.exchange.specs.Built.{or_blank, row_in, before_relationship, built_root, built_top, under_relationship, built_relationship, topped, related, built}
 
 module _ (rows : List Row) (number : ℕ) (f : Form) where

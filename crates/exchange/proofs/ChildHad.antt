@@ -16,14 +16,15 @@ use Rattle.exchange.specs.Settings.{is_set}
 use Rattle.exchange.specs.Forms.{Form, plain_form, split_form, with_top, with_relationship}
 use Rattle.exchange.specs.Facts.{NodeFacts, Row, row_of}
 use Rattle.exchange.specs.Operators.{is_single, is_keyed, has_order, new_merge, new_exchange}
-use Rattle.exchange.specs.States.{Child, ChildState, need_of, count_of, pass, started_by, started, and_then}
+use Rattle.exchange.specs.States.{Child, ChildState, need_of, count_of, pass, started_by, started}
 use Rattle.exchange.specs.Status.{rows_gain, asks_alignment, status_of}
 use Rattle.exchange.specs.Step.{split_plan, merge_on, keyed_on, roundrobin_on, partitions, add_merge_on_top, add_hash_on_top, add_roundrobin_on_top, add_roundrobin, allow_subset_satisfy_partitioning, split_at_source, needs_hash_repartition, satisfy_distribution, ensure_child}
 use Rattle.exchange.specs.Relationships.{is_givable, is_given, already_target_hash, add_relationship_on_top}
 use Rattle.exchange.specs.Fit.{rows_fit}
 use Rattle.exchange.specs.Skeleton.{is_added_sort}
 use Rattle.exchange.specs.Partitioning.{is_new_keyed, is_had, is_split}
-use Rattle.exchange.proofs.Passing.{Holds, holds_then, holds_cond, holds_pass}
+use Rattle.exchange.proofs.StepWays.{holds_stepped}
+use Rattle.exchange.proofs.Passing.{Holds, holds_cond, holds_pass}
 use Rattle.exchange.proofs.RowsFit.{merge_one}
 
 pick_keyed : (a k x y : Bool) → a ≡ false → k ≡ true → y ≡ true → cond a x (cond k y true) ≡ true
@@ -227,11 +228,8 @@ module _ (s : Settings) (w : Operator) (b : NodeFacts) (rows : List Row) where
         → (is_split s c ≡ true → is_set c.facts.gains ≡ true)
         → (asks_alignment s c ≡ true → aligned ≡ true)
         → Holds (Has c) (ensure_child s w b rows (status_of s aligned c))
-    unfolding ensure_child
     step_has c aligned fresh gains asks =
-        holds_then (Comes c) (Has c) (and_then (started rows c) (split_at_source s rows (status_of s aligned c))) (satisfy_distribution s w b rows (status_of s aligned c))
-        (holds_then (Comes c) (Comes c) (started rows c) (split_at_source s rows (status_of s aligned c)) (begins c fresh) (λ d h. splits c aligned gains d h))
-        (λ d h. satisfies c aligned asks d h)
+        holds_stepped s w b rows (Comes c) (Comes c) (Has c) (status_of s aligned c) (begins c fresh) (splits c aligned gains) (satisfies c aligned asks)
 
     -- a relationship exchange
     pub related_has : (c : Child) (d : ChildState) → is_givable d ≡ true → Has c d → Holds (Has c) (add_relationship_on_top rows d)

@@ -17,7 +17,7 @@ use Rattle.exchange.specs.States.{Child, ChildState, need_of, started_by, with_f
 use Rattle.exchange.specs.Status.{RepartitionRequirementStatus}
 use Rattle.exchange.specs.Step.{split_plan, partitions, add_roundrobin, needs_hash_repartition, split_at_source, satisfy_distribution, ensure_child}
 use Rattle.exchange.specs.Standings.{begun}
-use Rattle.exchange.specs.Reached.{top_on, Reached, passed_into}
+use Rattle.exchange.proofs.ReachedStates.{top_on, Reached, passed_into}
 use Rattle.exchange.proofs.Reached.{reached_started, reached_split, reached_top}
 
 -- what holds of every state that an outcome may be

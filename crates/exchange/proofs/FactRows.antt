@@ -30,7 +30,7 @@ row_found (x ∷ xs) child f =
 
 -- ---- a row that was found
 
-found_in : (xs : List (List ℕ)) (child n p : ℕ) → row_for xs child n ≡ some p → p < length xs
+pub found_in : (xs : List (List ℕ)) (child n p : ℕ) → row_for xs child n ≡ some p → p < length xs
 unfolding row_for
 found_in [] child n p e = absurd (cc)
 found_in (x ∷ xs) child n p e = go (eqb (child_of x) child && eqb (get_or x 1 0) n) (row_for xs child n) e (found_in xs child n)

@@ -16,7 +16,7 @@ use Rattle.exchange.specs.Standings.{form_numbers}
 use Rattle.exchange.specs.Built.{or_blank, row_in}
 use Rattle.exchange.specs.Order.{handle_order}
 use Rattle.exchange.specs.Ensure.{handled}
-use Rattle.exchange.specs.Finished.{End, Finished, over, beside}
+use Rattle.exchange.proofs.FinishedStates.{End, Finished, over, beside}
 use Rattle.exchange.specs.LastForm.{in_form, finished_child, finished_each}
 use Rattle.exchange.proofs.Stored.{past, first_at}
 

@@ -9,7 +9,7 @@ use Rattle.exchange.specs.Facts.{Row}
 use Rattle.exchange.specs.States.{Child, ChildState}
 use Rattle.exchange.specs.Standings.{form_numbers}
 use Rattle.exchange.specs.Turns.{Stand, nobody, next}
-use Rattle.exchange.specs.Finished.{Finished, over, beside}
+use Rattle.exchange.proofs.FinishedStates.{Finished, over, beside}
 
 module _ (rows : List Row) where
   pub stand_small : {n : ℕ} {needs forms : List ℕ} {cs : List ChildState} → Stand rows n needs forms cs → (k : ℕ) → k < length needs → get_or forms k 0 ≤ 15

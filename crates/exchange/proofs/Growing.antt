@@ -8,11 +8,11 @@ use Rattle.exchange.specs.declared.settings.Settings.{Settings}
 use Rattle.exchange.specs.Settings.{is_set}
 use Rattle.exchange.specs.Forms.{Form, plain_form, split_form, with_top, with_relationship}
 use Rattle.exchange.specs.Facts.{NodeFacts, Row, row_of}
-use Rattle.exchange.specs.States.{Child, ChildState, with_form, pass, started_by, started, and_then}
+use Rattle.exchange.specs.States.{Child, ChildState, with_form, pass, started_by}
 use Rattle.exchange.specs.Status.{RepartitionRequirementStatus}
-use Rattle.exchange.specs.Step.{split_plan, merge_on, keyed_on, roundrobin_on, split_at_source, satisfy_distribution, ensure_child}
-use Rattle.exchange.proofs.StepWays.{holds_satisfied}
-use Rattle.exchange.proofs.Passing.{Holds, holds_then, holds_cond, Steps, Relates}
+use Rattle.exchange.specs.Step.{split_plan, merge_on, keyed_on, roundrobin_on, split_at_source, satisfy_distribution}
+use Rattle.exchange.proofs.StepWays.{holds_satisfied, holds_stepped}
+use Rattle.exchange.proofs.Passing.{Holds, holds_cond, Steps, Relates}
 
 -- what a relation of a tree and what it became must do
 pub record Grows (Rel : Plan → Plan → Type 0) : Type 0 where
@@ -57,13 +57,9 @@ module _ (Rel : Plan → Plan → Type 0) (grows : Grows Rel) where
         (grown_top c d 3 roundrobin_on (λ x. grows.dealt c.plan d.plan x p))
 
     pub grown_steps : Steps s w b rows (OfPlans Rel)
-    unfolding ensure_child
     grown_steps t =
-        holds_then (OfPlans Rel t.child) (OfPlans Rel t.child) (and_then (started rows t.child) (split_at_source s rows t)) (satisfy_distribution s w b rows t)
-        (holds_then (OfPlans Rel t.child) (OfPlans Rel t.child) (started rows t.child) (split_at_source s rows t)
-        (grown_start t.child (row_of rows t.child.number plain_form))
-        (λ d p. grown_split t t.child d p))
-        (λ d p. grown_satisfy t t.child d p)
+        holds_stepped s w b rows (OfPlans Rel t.child) (OfPlans Rel t.child) (OfPlans Rel t.child) t
+        (grown_start t.child (row_of rows t.child.number plain_form)) (grown_split t t.child) (grown_satisfy t t.child)
 
     pub grown_relates : Relates s w b rows (OfPlans Rel)
     grown_relates c d g p =

@@ -7,7 +7,7 @@ use mathlib.Core.Option.{Option}
 use native.Mathlib.Omega.{arith}
 use lib.Dec.{eqb}
 use mir.Val.{bool_byte}
-use Rattle.exchange.specs.Trees.{Operator, Plan}
+use Rattle.exchange.specs.Trees.{root, Operator, Plan}
 use Rattle.std.proofs.lemmas.Nat.{shr-shr}
 use Rattle.std.proofs.Math.Nat.{div-one}
 use Rattle.exchange.specs.declared.settings.Settings.{Settings}
@@ -18,7 +18,8 @@ use Rattle.exchange.specs.Operators.{track_root}
 use Rattle.exchange.specs.States.{ChildState}
 use Rattle.exchange.specs.Replace.{replace_order_preserving_variants}
 use Rattle.exchange.specs.Order.{kept_entries, add_sort_above, output_fetch, handle_order}
-use Rattle.exchange.specs.Handling.{known_of, required_handling, free_handling, handling_of, given_up, sorted_by, handled_by}
+use Rattle.exchange.specs.LastForm.{known_by}
+use Rattle.exchange.specs.Handling.{required_handling, free_handling, handling_of, given_up, sorted_by, handled_by}
 
 -- ---- kept entries
 
@@ -91,10 +92,10 @@ entries_at true free required limit p a b e f = e
 entries_at false free required limit p a b e f = f
 
 module _ (s : Settings) (b : NodeFacts) (worked : Operator) (children : ℕ) (c : ChildState) where
-  pub order_handled : handle_order s b worked children c ≡ handled_by (handling_of (known_of s b worked children c)) (output_fetch worked) c.plan
+  pub order_handled : handle_order s b worked children c ≡ handled_by (handling_of (known_by s b worked.kind children c.need (root c.plan).tracked c.facts c.row)) (output_fetch worked) c.plan
   unfolding handle_order handling_of handled_by sorted_by given_up
   order_handled =
-      let k = known_of s b worked children c in
+      let k = known_by s b worked.kind children c.need (root c.plan).tracked c.facts c.row in
       entries_at (eqb c.facts.entries 0) (free_handling k) (required_handling k) (output_fetch worked) c.plan _ _ refl
       (ap (track_root 0) (required_at (required_handling k).replaced (is_set c.row.met) (is_set c.row.aftermet) (kept_entries c.facts.entries c.row.const)
       (output_fetch worked) c.plan (replace_order_preserving_variants c.plan)))

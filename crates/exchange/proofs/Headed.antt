@@ -13,6 +13,12 @@ use Rattle.exchange.specs.Runs.{Ready, Readys, Maps, MapsAll}
 use Rattle.exchange.proofs.Stored.{past, both, first_at}
 use Rattle.exchange.proofs.TreeRows.{flatten_node, tree_long, row_node, row_operator, row_children, tree_in}
 
+-- rows are written, `heads` and then those of the trees below; the latter have the room that the former leave
+pub readys_below : (steps : Plans → Plans) (src heads whole rest : List (List ℕ)) (at count room to next : ℕ) (below : Plans) → trees below ≡ count
+    → drop at src ≡ flattens below ++ rest → whole ≡ heads ++ flattens (steps below) → to + length whole ≤ room → next ≡ to + length heads → Readys steps src at count room next
+readys_below steps src heads whole rest at count room to next below counted stands is fits e =
+    record { below = below; rest = rest; counted = counted; stands = stands; fits = omega (arith, ap length is, length-append heads (flattens (steps below))) }
+
 -- `step` writes `heads` for the operator, and `steps` for its children
 module _ (step : Plan → Plan) (heads : Operator → ℕ → List (List ℕ)) (steps : Plans → Plans)
     (rows_of_lem : (o : Operator) (ts : Plans) → flatten (step (node o ts)) ≡ heads o (trees ts) ++ flattens (steps ts)) where
@@ -58,13 +64,8 @@ module _ (step : Plan → Plan) (heads : Operator → ℕ → List (List ℕ)) (
 
     pub ready_below : (next : ℕ) → next ≡ to + length (heads (operator_of (node_at src at)) (children_at src at)) → Readys steps src (at + 1) (children_at src at) room next
     ready_below next e =
-        record {
-          below = ready_here.below;
-          rest = p.rest;
-          counted = ready_here.counted;
-          stands = ready_here.stands;
-          fits = omega (arith, out_long, p.fits);
-        }
+        readys_below steps src (heads (operator_of (node_at src at)) (children_at src at)) _ p.rest (at + 1) (children_at src at) room to next ready_here.below ready_here.counted
+        ready_here.stands ready_here.out p.fits e
 
   -- the rows above, and then what the children's step gives
   pub node_wrote : (src : List (List ℕ)) (at to next : ℕ) (r : Step) (d d₁ d₂ : List (List ℕ))

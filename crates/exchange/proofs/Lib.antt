@@ -41,6 +41,7 @@ pub mod Passed
 pub mod Marking
 pub mod MarkStored
 pub mod OrderWritten
+pub mod ReachedStates
 pub mod Reached
 pub mod Ensured
 pub mod RoundsLoop
@@ -54,3 +55,4 @@ pub mod PlacesRead
 pub mod FirstAndOthers
 pub mod FinishEach
 pub mod FinishedHandled
+pub mod FinishedStates

@@ -9,16 +9,17 @@ use Rattle.keys.proofs.Truths.{true_false}
 use Rattle.exchange.specs.Trees.{node, none, ◌∷ᶠ◌, root, Operator, Plan, Plans}
 use Rattle.exchange.specs.declared.settings.Settings.{Settings}
 use Rattle.exchange.specs.Facts.{NodeFacts, Row}
-use Rattle.exchange.specs.Operators.{is_sort_preserving_merge, is_repartition, is_present, is_tracked, track_root, above, new_merge, new_exchange, limited_sort, required_sort}
+use Rattle.exchange.specs.Operators.{is_sort_preserving_merge, is_present, is_tracked, track_root, above, new_merge, new_exchange, limited_sort, required_sort}
 use Rattle.exchange.specs.Children.{is_removed}
 use Rattle.exchange.specs.States.{ChildState}
 use Rattle.exchange.specs.Step.{split_plan}
 use Rattle.exchange.specs.Replace.{coalesced, relaxed, replace_operator, replace_order_preserving_variants, replace_tracked}
-use Rattle.exchange.specs.Order.{add_sort_above, handle_order}
+use Rattle.exchange.specs.Order.{handle_order}
 use Rattle.exchange.specs.Skeleton.{is_added_sort}
-use Rattle.exchange.specs.Limits.{limit_of, id_below, own_limit, limits, limitss, OwnsLimit, Owned, Owneds, taken_off, taken_above, NoLimits}
+use Rattle.exchange.specs.Limits.{limit_of, id_below, own_limit, limits, limitss, OwnsLimit, Owned, Owneds, NoLimits}
+use Rattle.exchange.specs.Worked.{removed, removed_from}
 use Rattle.exchange.proofs.Growing.{Grows}
-use Rattle.exchange.proofs.Handling.{measure_handled}
+use Rattle.exchange.proofs.Handling.{measure_either, measure_operator, measure_handled}
 
 -- ---- one operator
 
@@ -89,19 +90,11 @@ limits_merge o ts (some l) e = ap (λ ls. limit_of o.id true (some l) ++ ls) (ap
 limits_replaced : (o : Operator) (ts : Plans)
     → OwnsLimit o → limits (replace_operator o ts) ≡ limit_of o.id (is_sort_preserving_merge o) o.limit ++ limitss ts
 unfolding limits
-limits_replaced o ts h = go (is_sort_preserving_merge o) (is_repartition o && eqb o.keeps 1) refl
-  where
-    go : (b r : Bool) → is_sort_preserving_merge o ≡ b
-        → limits (cond b (cond (is_present o.limit) (above (limited_sort o.limit o.order (coalesced o)) (node (coalesced o) ts)) (node (coalesced o) ts))
-        (cond r (node (relaxed o) ts) (node o ts)))
-        ≡ limit_of o.id (is_sort_preserving_merge o) o.limit ++ limitss ts
-    go true r e = limits_merge o ts o.limit refl ∙ rw e
-    go false true e = ap (λ ls. ls ++ limitss ts) (own_owned (relaxed o) ts h)
-    go false false e = ap (λ ls. ls ++ limitss ts) (own_owned o ts h)
-
-limits_either : (b : Bool) (t u : Plan) → limits t ≡ limits u → limits (cond b t u) ≡ limits u
-limits_either true t u e = e
-limits_either false t u e = refl
+limits_replaced o ts h =
+    measure_operator limits o ts (limit_of o.id (is_sort_preserving_merge o) o.limit ++ limitss ts)
+    (λ e. limits_merge o ts o.limit refl ∙ rw e)
+    (ap (λ ls. ls ++ limitss ts) (own_owned (relaxed o) ts h))
+    (ap (λ ls. ls ++ limitss ts) (own_owned o ts h))
 
 mutual
   unfolding limits replace_order_preserving_variants
@@ -114,20 +107,16 @@ mutual
   pub limitss_replace : (ts : Plans) → Owneds ts → limitss (replace_tracked ts) ≡ limitss ts
   limitss_replace none h = refl
   limitss_replace (t ∷ᶠ ts) h =
-      ap₂ ◌++◌ (limits_either (is_tracked (root t)) (replace_order_preserving_variants t) t (limits_replace t h.0)) (limitss_replace ts h.1)
+      ap₂ ◌++◌ (measure_either limits (is_tracked (root t)) (replace_order_preserving_variants t) t (limits t) (limits_replace t h.0) refl) (limitss_replace ts h.1)
 
 -- ---- order handling
 
-limits_sorted : (entries : ℕ) (limit : Option ℕ) (t : Plan) → limits (add_sort_above entries limit t) ≡ limits t
-limits_sorted entries limit t = go (eqb entries 0) refl
-  where
-    go : (b : Bool) → eqb entries 0 ≡ b → limits (cond b t (above (required_sort limit entries (root t)) t)) ≡ limits t
-    go true e = refl
-    go false e = limits_above (required_sort limit entries (root t)) t (rw e)
+limits_sort : (entries : ℕ) (limit : Option ℕ) (t : Plan) → eqb entries 0 ≡ false → limits (above (required_sort limit entries (root t)) t) ≡ limits t
+limits_sort entries limit t e = limits_above (required_sort limit entries (root t)) t (rw e)
 
 pub limits_handled : (s : Settings) (b : NodeFacts) (w : Operator) (n : ℕ) (c : ChildState) → Owned c.plan
     → limits (handle_order s b w n c) ≡ limits c.plan
-limits_handled s b w n c h = measure_handled limits c (limits_replace c.plan h) limits_sorted limits_track s b w n
+limits_handled s b w n c h = measure_handled limits c (limits_replace c.plan h) limits_sort limits_track s b w n
 
 -- ---- above the worked node
 
@@ -140,15 +129,15 @@ removed_limit o e = go o.limit refl
 
 -- nothing that is taken off above the worked node has a limit
 mutual
-  unfolding taken_off
+  unfolding removed
 
-  pub taken_unlimited : (t : Plan) → NoLimits (taken_off t)
-  taken_unlimited (node o ts) = go (is_removed o) refl (λ e. above_unlimited o e ts)
+  pub removed_unlimited : (t : Plan) → NoLimits (removed t)
+  removed_unlimited (node o ts) = go (is_removed o) refl (λ e. above_unlimited o e ts)
     where
-      go : (b : Bool) → is_removed o ≡ b → (is_removed o ≡ true → NoLimits (taken_above o ts)) → NoLimits (cond b (taken_above o ts) [])
+      go : (b : Bool) → is_removed o ≡ b → (is_removed o ≡ true → NoLimits (removed_from o ts)) → NoLimits (cond b (removed_from o ts) [])
       go true e h = h e
       go false e h = tt
 
-  above_unlimited : (o : Operator) → is_removed o ≡ true → (ts : Plans) → NoLimits (taken_above o ts)
+  above_unlimited : (o : Operator) → is_removed o ≡ true → (ts : Plans) → NoLimits (removed_from o ts)
   above_unlimited o e none = tt
-  above_unlimited o e (t ∷ᶠ ts) = (removed_limit o e, taken_unlimited t)
+  above_unlimited o e (t ∷ᶠ ts) = (removed_limit o e, removed_unlimited t)

@@ -1,5 +1,5 @@
 -- Demand 3, limits: every limit of the tree under and at the worked node is in the answer, with its owner, in the same order, and no other;
--- and nothing above the worked node had one (`taken_unlimited`).
+-- and nothing above the worked node had one (`removed_unlimited`).
 use Prim.Native.Nat.{ℕ, suc}
 use mathlib.Core.Path.{◌≡◌, refl, sym, ap, ap₂, ◌∙◌, subst}
 use mathlib.Core.Bool.{Bool, true, false, cond}

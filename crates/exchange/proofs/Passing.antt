@@ -13,7 +13,7 @@ use Rattle.exchange.specs.States.{Child, ChildState, with_form, pass, and_then, 
 use Rattle.exchange.specs.Status.{RepartitionRequirementStatus, status_of}
 use Rattle.exchange.specs.Step.{ensure_child}
 use Rattle.exchange.specs.Relationships.{Enforced, row_missing, stuck, enforced, is_givable, any_givable, given_set, add_relationship_on_top, round, next_round, rounds}
-use Rattle.exchange.specs.Reached.{passed_into}
+use Rattle.exchange.proofs.ReachedStates.{passed_into}
 use Rattle.exchange.specs.Ensure.{Answer, Ensured, missing_row, unenforceable, answered}
 
 -- P of what is there

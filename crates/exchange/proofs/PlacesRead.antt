@@ -29,6 +29,11 @@ pub record Upto (src : List (List ℕ)) (at : ℕ) (ts : Plans) (rest : List (Li
   pub stands : drop next src ≡ flattens below ++ rest
   pub listed : places_of at ts ≡ take i places ++ places_of next below
 
+-- of trees that are left, the first stands where they do
+left_stands : (src rest : List (List ℕ)) (n i next : ℕ) (us : Plans) → i < n → trees us + i ≡ n → drop next src ≡ flattens us ++ rest → Stands src next
+left_stands src rest n i next none l c h = absurd (omega arith)
+left_stands src rest n i next (t ∷ᶠ us) l c h = record { tree = t; rest = flattens us ++ rest; stands = head_stands src next t us rest h }
+
 places_nil : (at : ℕ) → places_of at none ≡ []
 unfolding places_of
 places_nil at = refl
@@ -42,11 +47,7 @@ module _ (src : List (List ℕ)) (at : ℕ) (ts : Plans) (rest : List (List ℕ)
   upto_start places h = record { below = ts; counted = add-zero (trees ts); stands = h; listed = refl }
 
   pub upto_stands : (i next : ℕ) (places : List ℕ) → i < trees ts → Upto src at ts rest i next places → Stands src next
-  upto_stands i next places l u = go u.below u.counted u.stands
-    where
-      go : (us : Plans) → trees us + i ≡ trees ts → drop next src ≡ flattens us ++ rest → Stands src next
-      go none c h = absurd (omega arith)
-      go (t ∷ᶠ us) c h = record { tree = t; rest = flattens us ++ rest; stands = head_stands src next t us rest h }
+  upto_stands i next places l u = left_stands src rest (trees ts) i next u.below l u.counted u.stands
 
   pub upto_turn : (i next next₁ : ℕ) (places : List ℕ) → i < trees ts → i < length places → PastTree src next next₁ → Upto src at ts rest i next places
       → Upto src at ts rest (i + 1) next₁ (set places i next)
@@ -98,11 +99,7 @@ module _ (src : List (List ℕ)) (ts : Plans) (rest facts : List (List ℕ)) whe
   asked_start at asks h = record { below = ts; counted = add-zero (trees ts); stands = h; listed = refl }
 
   pub asked_stands : (i next : ℕ) (asks : List Asked) → i < trees ts → AskedUpto src ts rest facts i next asks → Stands src next
-  asked_stands i next asks l u = go u.below u.counted u.stands
-    where
-      go : (us : Plans) → trees us + i ≡ trees ts → drop next src ≡ flattens us ++ rest → Stands src next
-      go none c h = absurd (omega arith)
-      go (t ∷ᶠ us) c h = record { tree = t; rest = flattens us ++ rest; stands = head_stands src next t us rest h }
+  asked_stands i next asks l u = left_stands src rest (trees ts) i next u.below l u.counted u.stands
 
   pub asked_turn : (i next next₁ : ℕ) (n : Node) (asks : List Asked) → i < trees ts → i < length asks → i < length facts → n ≡ node_at src next → PastTree src next next₁
       → AskedUpto src ts rest facts i next asks

@@ -13,7 +13,7 @@ use Rattle.exchange.specs.Facts.{Row, row_of}
 use Rattle.exchange.specs.States.{Child, ChildState, count_of, and_then}
 use Rattle.exchange.specs.Step.{merge_on, keyed_on, roundrobin_on, split_plan, partitions}
 use Rattle.exchange.specs.Standings.{begun}
-use Rattle.exchange.specs.Reached.{with_row, top_on, split_by, top_by, plan_of, Reached, passed_into}
+use Rattle.exchange.proofs.ReachedStates.{with_row, top_on, split_by, top_by, plan_of, Reached, passed_into}
 
 pub reached_started : (rows : List Row) (k : Child) (x : Row) → row_of rows k.number plain_form ≡ some x → Reached rows k.plan (begun k x)
 reached_started rows k x e = record { split = omega arith; top = omega arith; relationship = omega arith; row = e; plan = refl }

@@ -15,16 +15,16 @@ use Rattle.exchange.specs.Settings.{is_set}
 use Rattle.exchange.specs.Operators.{is_keyed}
 use Rattle.exchange.specs.Forms.{Form, plain_form, split_form, with_top, with_relationship}
 use Rattle.exchange.specs.Facts.{NodeFacts, Row, Facts, row_of}
-use Rattle.exchange.specs.States.{Child, ChildState, started_by, with_form, children_from, and_then}
+use Rattle.exchange.specs.States.{Child, ChildState, started_by, with_form, children_from}
 use Rattle.exchange.specs.Status.{RepartitionRequirementStatus, needs_alignment, get_repartition_requirement_status}
-use Rattle.exchange.specs.Step.{split_plan, merge_on, keyed_on, roundrobin_on, split_at_source, satisfy_distribution, ensure_child, ensure_children}
+use Rattle.exchange.specs.Step.{split_plan, merge_on, keyed_on, roundrobin_on, ensure_child, ensure_children}
 use Rattle.exchange.specs.Relationships.{enforced, already_target_hash, round, rounds, enforce_distribution_relationships}
 use Rattle.exchange.specs.Ensure.{relate, child_states}
 use Rattle.exchange.specs.Built.{built}
-use Rattle.exchange.specs.Finished.{From, End, Finished, over, beside}
+use Rattle.exchange.proofs.FinishedStates.{From, End, Finished, over, beside}
 use Rattle.exchange.proofs.Forms.{form_apart, form_small}
-use Rattle.exchange.proofs.Passing.{Holds, HoldsEnforced, Alls, Steps, Relates, holds_then, each_steps, each_step, each_round, all_rounds, holds_pass}
-use Rattle.exchange.proofs.StepWays.{holds_satisfied}
+use Rattle.exchange.proofs.Passing.{Holds, HoldsEnforced, Alls, Steps, Relates, each_steps, each_step, each_round, all_rounds, holds_pass}
+use Rattle.exchange.proofs.StepWays.{holds_satisfied, holds_stepped}
 use Rattle.exchange.proofs.Reached.{reached_related}
 use Rattle.exchange.proofs.Ensured.{Fresh, ensured_after}
 use Rattle.exchange.proofs.BuiltReached.{reached_built}
@@ -47,12 +47,10 @@ module _ (k : Child) where
 
 module _ (s : Settings) (worked : Operator) (b : NodeFacts) (rows : List Row) where
   facts_kept : (t : RepartitionRequirementStatus) → Holds (SameFacts t.child) (ensure_child s worked b rows t)
-  unfolding ensure_child
   facts_kept t =
       let k = t.child in
-      holds_then (SameFacts k) (SameFacts k) (and_then (started_by k (row_of rows k.number plain_form)) (split_at_source s rows t)) (satisfy_distribution s worked b rows t)
-      (holds_then (SameFacts k) (SameFacts k) (started_by k (row_of rows k.number plain_form)) (split_at_source s rows t) (facts_begun k (row_of rows k.number plain_form))
-      (λ c h. facts_may k c (is_set s.split && (t.roundrobin_beneficial_stats && is_set c.facts.splits)) split_form split_plan (row_of rows c.number split_form) h))
+      holds_stepped s worked b rows (SameFacts k) (SameFacts k) (SameFacts k) t (facts_begun k (row_of rows k.number plain_form))
+      (λ c h. facts_may k c (is_set s.split && (t.roundrobin_beneficial_stats && is_set c.facts.splits)) split_form split_plan (row_of rows c.number split_form) h)
       (λ c h. holds_satisfied s worked b rows (SameFacts k) t c h
       (holds_pass (SameFacts k) rows c (with_top 1 c.form) merge_on (λ x e. h))
       (holds_pass (SameFacts k) rows c (with_top 2 c.form) keyed_on (λ x e. h))

@@ -1,21 +1,20 @@
 -- The answer has the operators of the sheet, in the same order under the same parents: every step changes or adds only what is set aside.
 use Prim.Native.Nat.{ℕ}
 use mathlib.Core.Path.{◌≡◌, refl, ap, ap₂, ◌∙◌}
-use mathlib.Core.Bool.{Bool, true, false, cond, ◌&&◌}
-use mathlib.Core.Option.{Option, none as nothing}
-use lib.Dec.{eqb}
+use mathlib.Core.Bool.{Bool, true, false, cond}
+use mathlib.Core.Option.{none as nothing}
 use borrow.Author.Tests.{eqb-true}
 use Rattle.exchange.specs.Trees.{Forest, node, none, ◌∷ᶠ◌, ◌++ᶠ◌, root, Operator, Plan, Plans}
 use Rattle.exchange.specs.declared.settings.Settings.{Settings}
 use Rattle.exchange.specs.Facts.{NodeFacts, Row}
-use Rattle.exchange.specs.Operators.{is_sort_preserving_merge, is_repartition, has_order, has_limit, is_tracked, track_root, above, new_merge, limited_sort}
+use Rattle.exchange.specs.Operators.{is_sort_preserving_merge, has_order, has_limit, is_tracked, track_root, above, new_merge, limited_sort}
 use Rattle.exchange.specs.States.{ChildState}
 use Rattle.exchange.specs.Step.{split_plan}
-use Rattle.exchange.specs.Replace.{coalesced, relaxed, replace_operator, replace_order_preserving_variants, replace_tracked}
-use Rattle.exchange.specs.Order.{add_sort_above, handle_order}
+use Rattle.exchange.specs.Replace.{coalesced, replace_merge, replace_operator, replace_order_preserving_variants, replace_tracked}
+use Rattle.exchange.specs.Order.{handle_order}
 use Rattle.exchange.specs.Skeleton.{is_aside, outline, skeleton, skeletons}
 use Rattle.exchange.proofs.Growing.{Grows}
-use Rattle.exchange.proofs.Handling.{measure_handled}
+use Rattle.exchange.proofs.Handling.{measure_either, measure_operator, measure_handled}
 
 pub append_none : {A : Type 0} (ts : Forest A) → ts ++ᶠ none ≡ ts
 append_none none = refl
@@ -58,19 +57,12 @@ aside_merge o e = rw (eqb-true o.kind 1 e)
 
 skeleton_replaced : (o : Operator) (ts : Plans) → skeleton (replace_operator o ts) ≡ outline o (skeletons ts)
 unfolding skeleton
-skeleton_replaced o ts = go (is_sort_preserving_merge o) (has_limit o) (is_repartition o && eqb o.keeps 1) refl
+skeleton_replaced o ts = measure_operator skeleton o ts (outline o (skeletons ts)) merged refl refl
   where
-    go : (b l r : Bool) → is_sort_preserving_merge o ≡ b
-        → skeleton (cond b (cond l (above (limited_sort o.limit o.order (coalesced o)) (node (coalesced o) ts)) (node (coalesced o) ts)) (cond r (node (relaxed o) ts) (node o ts)))
-        ≡ outline o (skeletons ts)
-    go true true r e = rw (aside_merge o e) (append_none (skeletons ts))
-    go true false r e = rw (aside_merge o e)
-    go false l true e = refl
-    go false l false e = refl
-
-skeleton_either : (b : Bool) (t u : Plan) → skeleton t ≡ skeleton u → skeleton (cond b t u) ≡ skeleton u
-skeleton_either true t u e = e
-skeleton_either false t u e = refl
+    merged : is_sort_preserving_merge o ≡ true → skeleton (replace_merge o ts) ≡ outline o (skeletons ts)
+    merged e =
+        measure_either skeleton (has_limit o) (above (limited_sort o.limit o.order (coalesced o)) (node (coalesced o) ts)) (node (coalesced o) ts) (outline o (skeletons ts))
+        (rw (aside_merge o e) (append_none (skeletons ts))) (rw (aside_merge o e))
 
 mutual
   unfolding skeleton replace_order_preserving_variants
@@ -81,16 +73,9 @@ mutual
   pub skeletons_replace : (ts : Plans) → skeletons (replace_tracked ts) ≡ skeletons ts
   skeletons_replace none = refl
   skeletons_replace (t ∷ᶠ ts) =
-      ap₂ ◌++ᶠ◌ (skeleton_either (is_tracked (root t)) (replace_order_preserving_variants t) t (skeleton_replace t)) (skeletons_replace ts)
+      ap₂ ◌++ᶠ◌ (measure_either skeleton (is_tracked (root t)) (replace_order_preserving_variants t) t (skeleton t) (skeleton_replace t) refl) (skeletons_replace ts)
 
 -- ---- order handling
 
-skeleton_sorted : (entries : ℕ) (limit : Option ℕ) (t : Plan) → skeleton (add_sort_above entries limit t) ≡ skeleton t
-skeleton_sorted entries limit t = skeleton_either_not (eqb entries 0) t _ (skeleton_above _ t refl)
-  where
-    skeleton_either_not : (b : Bool) (t u : Plan) → skeleton u ≡ skeleton t → skeleton (cond b t u) ≡ skeleton t
-    skeleton_either_not true t u e = refl
-    skeleton_either_not false t u e = e
-
 pub skeleton_handled : (s : Settings) (b : NodeFacts) (w : Operator) (n : ℕ) (c : ChildState) → skeleton (handle_order s b w n c) ≡ skeleton c.plan
-skeleton_handled s b w n c = measure_handled skeleton c (skeleton_replace c.plan) skeleton_sorted skeleton_track s b w n
+skeleton_handled s b w n c = measure_handled skeleton c (skeleton_replace c.plan) (λ entries limit t e. skeleton_above _ t refl) skeleton_track s b w n

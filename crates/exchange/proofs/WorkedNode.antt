@@ -1,49 +1,20 @@
--- The worked node is found by going down while operators are taken off (`Reached`), and nothing taken off had a limit (`removed_unlimited`).
+-- The worked node is found by going down while operators are taken off (`Reached`).
 -- Assumes nothing.
 use mathlib.Core.Path.{◌≡◌, refl, sym, ap, ◌∙◌}
 use mathlib.Core.Bool.{Bool, true, false, cond, not, ◌&&◌}
-use mathlib.Core.Option.{Option, none as absent, some}
 use mathlib.Core.List.{List, [], ◌∷◌, ◌++◌, append_assoc}
 use Prim.Native.Nat.{ℕ, suc, ◌+◌, ◌<◌}
 use native.Mathlib.Nat.{add-zero}
 use native.Mathlib.Omega.{arith}
-use lib.Dec.{eqb, leb}
+use lib.Dec.{eqb}
 use lib.ListN.{length, drop, get_or}
 use borrow.Author.Tests.{ne_eqb}
 use Rattle.exchange.specs.Trees.{node, none, ◌∷ᶠ◌, trees, Operator, Plan, Plans}
 use Rattle.exchange.specs.Rows.{unpacked, children_of, operator_of, node_at, children_at, row_of, flatten, flattens}
-use Rattle.exchange.specs.Operators.{is_present}
 use Rattle.exchange.specs.Children.{is_removed, remove_dist_changing_operators}
-use Rattle.exchange.specs.Worked.{removed, removed_from}
+use Rattle.exchange.specs.Worked.{removed}
 use Rattle.exchange.proofs.Stored.{past, first_at}
 use Rattle.exchange.proofs.TreeRows.{flatten_node, flattens_cons, row_operator, row_children, tree_in, tree_long}
-
--- ---- nothing taken off had a limit
-
-abbrev pub Unlimited : List Operator → Type 0
-Unlimited [] = Unit {0}
-Unlimited (o ∷ os) = (o.limit ≡ absent) × Unlimited os
-
-removable_free : (o : Operator) → is_removed o ≡ true → o.limit ≡ absent
-removable_free o e = go o.limit (leb 1 o.kind && leb o.kind 4) e
-  where
-    go : (l : Option ℕ) (b : Bool) → (not (is_present l) && b) ≡ true → l ≡ absent
-    go absent b e = refl
-    go (some l) b e = absurd (cc)
-
-chosen : (b : Bool) (os : List Operator) → (b ≡ true → Unlimited os) → Unlimited (cond b os [])
-chosen true os h = h refl
-chosen false os h = tt
-
-mutual
-  unfolding removed
-
-  pub removed_unlimited : (t : Plan) → Unlimited (removed t)
-  removed_unlimited (node o ts) = chosen (is_removed o) (removed_from o ts) (λ e. removed_from_lem o ts (removable_free o e))
-
-  removed_from_lem : (o : Operator) (ts : Plans) → o.limit ≡ absent → Unlimited (removed_from o ts)
-  removed_from_lem o none h = tt
-  removed_from_lem o (t ∷ᶠ ts) h = (h, removed_unlimited t)
 
 -- ---- clause by clause
 

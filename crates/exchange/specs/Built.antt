@@ -51,6 +51,10 @@ module _ (rows : List Row) (child : ℕ) (f : Form) where
   abbrev pub related : Plan → Plan
   related t = cond (is_set f.relationship) (above (built_relationship (root t)) (topped t)) (topped t)
 
+  -- the child's tree in the form, here split, with a keyed exchange on top and one of a relationship
+  --   leaf       to      keyed exchange
+  --                        keyed exchange
+  --                          leaf, split
   unfoldable pub built : Plan → Plan
   built (node o ts) = related (node (built_root o) ts)
 

@@ -37,6 +37,9 @@ update_each none = none
 update_each (t ∷ᶠ ts) = update_child t ∷ᶠ update_each ts
 
 -- the root's mark is cleared, its children's are set; nothing below them changes
+--   other, tracked            other
+--     merge             to      merge, tracked
+--       leaf                      leaf
 abbrev pub update_children : Plan → Plan
 update_children (node o ts) = node (track 0 o) (update_each ts)
 

@@ -45,6 +45,7 @@ abbrev pub becomes_interleave : Settings → Operator → List ChildState → Bo
 becomes_interleave s worked cs = is_union worked && (eqb s.union 0 && can_interleave cs)
 
 -- a union dealt in turn: its order is lost
+--   union, order 5       to      interleave
 abbrev pub interleaved : Operator → Operator
 interleaved o = record {
   id = o.id;

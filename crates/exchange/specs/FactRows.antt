@@ -1,6 +1,6 @@
 -- The B, F and X lines as rows of numbers, and a child by its numbers.
 -- Renders document 01, "Exchange sheet", the paragraph that begins "`B,friendly,window,aggexact,aggsubset`".
-use Rattle.std.specs.Prelude.{ℕ, suc, List, [], ◌∷◌, map, get_or}
+use Rattle.std.specs.Prelude.{ℕ, suc, List, [], ◌∷◌, get_or}
 use Rattle.std.proofs.Math.Option.{Option, some, none as nothing}
 use Rattle.exchange.specs.declared.status.Asked.{Asked}
 use Rattle.exchange.specs.Trees.{node, none, Operator}
@@ -61,6 +61,3 @@ asked_by n (need ∷ needs) (count ∷ counts) (f ∷ fs) =
 asked_by n [] counts fs = []
 asked_by n (need ∷ needs) [] fs = []
 asked_by n (need ∷ needs) (count ∷ counts) [] = []
-
-abbrev pub children_by : ℕ → List ℕ → List ℕ → List (List ℕ) → List Child
-children_by n needs counts fs = map child_for (asked_by n needs counts fs)

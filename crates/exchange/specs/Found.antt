@@ -1,4 +1,5 @@
--- X rows by child and form. Renders document 01, "rows `X,child,form,..`"; where a pair is repeated, which no fine sheet has, the first counts.
+-- X rows by child and form; where a pair is repeated, which no accepted sheet has, the first counts.
+-- Renders document 01, "rows `X,child,form,..`".
 use Rattle.std.specs.Prelude.{ℕ, suc, ◌+◌, ◌*◌, ◌-◌, cond, ◌&&◌, List, [], ◌∷◌, eqb, leb, get_or, set, replicate}
 use Rattle.std.proofs.Math.Option.{Option, none, some}
 use Rattle.exchange.specs.declared.fact.Fact.{Fact}

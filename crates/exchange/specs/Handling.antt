@@ -1,50 +1,19 @@
--- The order handling of a child as numbers: whether its order-preserving operators give way, the entries of a sort above, and whether its mark is cleared.
+-- The order handling of a child as numbers: whether its order-preserving operators give way, the entries of a sort above,
+-- and whether its mark is cleared.
 -- Renders the second loop over the children in `ensure_distribution` of 000, with `add_sort_above_with_check` of 001.
 use Rattle.std.specs.Prelude.{ℕ, Bool, true, false, cond, not, ◌&&◌, ◌||◌, eqb}
 use Rattle.std.proofs.Math.Option.{Option}
-use Rattle.exchange.specs.Trees.{root, Operator, Plan}
-use Rattle.exchange.specs.declared.settings.Settings.{Settings}
+use Rattle.exchange.specs.Trees.{Plan}
 use Rattle.exchange.specs.declared.order.Handling.{Handling}
 use Rattle.exchange.specs.declared.order.Known.{Known}
 use Rattle.exchange.specs.Settings.{is_set}
-use Rattle.exchange.specs.Facts.{NodeFacts}
-use Rattle.exchange.specs.Operators.{is_single, is_keyed, track_root}
-use Rattle.exchange.specs.States.{ChildState}
+use Rattle.exchange.specs.Operators.{track_root}
 use Rattle.exchange.specs.Replace.{replace_order_preserving_variants}
-use Rattle.exchange.specs.Order.{kept_entries, add_sort_above}
+use Rattle.exchange.specs.Order.{enables_streaming, kept_entries, add_sort_above, required_replaced, free_replaced}
 
-abbrev pub enables_streaming : ℕ → ℕ → ℕ → ℕ → Bool
-enables_streaming children maintains ford fplain = eqb children 1 && (is_set maintains && (not (is_set ford) && is_set fplain))
-
--- an order is required: which operators give way, and the entries of the sort
-abbrev pub required_replaced : Bool → Bool → Bool → Bool → Bool
-required_replaced met desirable streaming tracked = (not met || not desirable) && (not streaming && tracked)
-
+-- an order is required: the entries of the sort
 abbrev pub sorted_entries : Bool → Bool → Bool → ℕ → ℕ → ℕ
 sorted_entries replaced met aftermet entries constants = cond (replaced && (met && not aftermet)) (kept_entries entries constants) 0
-
--- none is required: by the need, single or keyed, or unspecified
-abbrev pub free_replaced : ℕ → Bool → Bool → Bool → Bool
-free_replaced need maintains streaming output =
-    cond (is_single need || is_keyed need) (not maintains && not streaming) (not maintains || output)
-
--- the numbers of the struct `Known`, of a child and the worked node over it
-abbrev pub known_of : Settings → NodeFacts → Operator → ℕ → ChildState → Known
-known_of s b worked children c = record {
-  sort = s.sort;
-  friendly = b.friendly;
-  kind = worked.kind;
-  children = children;
-  need = c.need;
-  tracked = (root c.plan).tracked;
-  maintains = c.facts.maintains;
-  entries = c.facts.entries;
-  met = c.row.met;
-  aftermet = c.row.aftermet;
-  constants = c.row.const;
-  ford = c.row.ford;
-  fplain = c.row.fplain;
-}
 
 module _ (k : Known) where
   abbrev pub streams : Bool

@@ -45,8 +45,8 @@ module _ (rows : List Row) (forms : List ℕ) (facts : List (List ℕ)) (s : Set
       finished_child rows child (form_of (get_or forms (child - 1) 0)) (root t).need (child_facts (get_or facts (child - 1) [])) s b worked children t
       ∷ᶠ finished_each (child + 1) ts
 
--- what finishing children asks of their forms and F rows and of a room: children from a number on, at most 8, each with an F row, forms and entries within
--- their bounds, and a room for the largest of the children
+-- what finishing children asks of their forms and F rows and of a room: children from a number on, at most 8, each with an F row,
+-- forms and entries within their bounds, and a room for the largest of the children
 pub record EachFinished (forms : List ℕ) (facts : List (List ℕ)) (child left src mid : ℕ) : Type 0 where
   pub first : 1 ≤ child
   pub last : child + left ≤ length forms + 1

@@ -28,8 +28,6 @@ pub mod Built
 pub mod Sizes
 pub mod Update
 pub mod Turns
-pub mod Reached
 pub mod Layouts
 pub mod LastForm
-pub mod Finished
 pub mod Places

@@ -4,7 +4,6 @@ use Rattle.std.specs.Prelude.{ℕ, ◌≡◌, Bool, true, false, cond, ◌&&◌,
 use Rattle.std.proofs.Math.Option.{Option, some, none as nothing}
 use Rattle.exchange.specs.Trees.{node, none, ◌∷ᶠ◌, root, trees, Operator, Plan, Plans}
 use Rattle.exchange.specs.Operators.{is_sort_preserving_merge, is_coalesce_partitions, has_limit}
-use Rattle.exchange.specs.Children.{is_removed}
 use Rattle.exchange.specs.Skeleton.{is_added_sort}
 
 pub record Limit : Type 0 where
@@ -50,16 +49,7 @@ abbrev mutual
   Owneds none = Unit {0}
   Owneds (t ∷ᶠ ts) = Owned t × Owneds ts
 
--- the operators that `remove_dist_changing_operators` takes off, from the top
-unfoldable mutual
-  pub taken_off : Plan → List Operator
-  taken_off (node o ts) = cond (is_removed o) (taken_above o ts) []
-
-  pub taken_above : Operator → Plans → List Operator
-  taken_above o none = []
-  taken_above o (t ∷ᶠ ts) = o ∷ taken_off t
-
--- none of them has a limit
+-- none of the operators has a limit
 abbrev pub NoLimits : List Operator → Type 0
 NoLimits [] = Unit {0}
 NoLimits (o ∷ os) = (o.limit ≡ nothing) × NoLimits os

@@ -1,4 +1,5 @@
 -- What is said of a new operator, by its numbers.
+-- Renders document 01, "new kinds 12 keyed exchange, 13 round robin, 14 interleave".
 use Rattle.std.specs.Prelude.{ℕ, cond, eqb, Option as Limit, Some, None}
 use Rattle.std.proofs.Math.Option.{Option, some, none as absent}
 use Rattle.exchange.specs.declared.operator.New.{New as Said}

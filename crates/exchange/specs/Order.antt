@@ -12,9 +12,12 @@ use Rattle.exchange.specs.States.{ChildState}
 use Rattle.exchange.specs.Replace.{replace_order_preserving_variants}
 
 -- the worked node, which has one child and keeps its order, would no longer stream over an unordered child
+abbrev pub enables_streaming : ℕ → ℕ → ℕ → ℕ → Bool
+enables_streaming children maintains ford fplain = eqb children 1 && (is_set maintains && (not (is_set ford) && is_set fplain))
+
+-- by the child's F row and the row of its form
 abbrev pub preserving_order_enables_streaming : ℕ → ChildState → Bool
-preserving_order_enables_streaming children c =
-    eqb children 1 && (is_set c.facts.maintains && (not (is_set c.row.ford) && is_set c.row.fplain))
+preserving_order_enables_streaming children c = enables_streaming children c.facts.maintains c.row.ford c.row.fplain
 
 -- the entries of a required order that are not constant, as a mask: bit n for entry n+1
 unfoldable pub kept_entries : ℕ → ℕ → ℕ
@@ -45,10 +48,12 @@ streaming_benefit children c = is_tracked (root c.plan) && preserving_order_enab
 -- ---- an order is required
 
 -- it isn't held, or isn't worth its cost
+abbrev pub required_replaced : Bool → Bool → Bool → Bool → Bool
+required_replaced met desirable streaming tracked = (not met || not desirable) && (not streaming && tracked)
+
 abbrev pub is_given_up : Settings → NodeFacts → ℕ → ChildState → Bool
 is_given_up s b children c =
-    (not (is_set c.row.met) || not (order_preserving_variants_desirable s b))
-    && (not (streaming_benefit children c) && is_tracked (root c.plan))
+    required_replaced (is_set c.row.met) (order_preserving_variants_desirable s b) (streaming_benefit children c) (is_tracked (root c.plan))
 
 -- where it is given up, a sort restores it if it was held; the child is no longer tracked
 --   merge                sort
@@ -63,13 +68,16 @@ order_required s b worked children c =
 -- ---- none is required
 
 -- the worked node keeps no order and, of a single or keyed need, no streaming is lost; an unspecified need under an output requirement always is
+abbrev pub free_replaced : ℕ → Bool → Bool → Bool → Bool
+free_replaced need maintains streaming output =
+    cond (is_single need || is_keyed need) (not maintains && not streaming) (not maintains || output)
+
 abbrev pub is_replaced : Operator → ℕ → ChildState → Bool
-is_replaced worked children c =
-    cond (is_single c.need || is_keyed c.need)
-    (not (is_set c.facts.maintains) && not (streaming_benefit children c))
-    (not (is_set c.facts.maintains) || is_output_requirement worked)
+is_replaced worked children c = free_replaced c.need (is_set c.facts.maintains) (streaming_benefit children c) (is_output_requirement worked)
 
 -- replaced or left, its mark with it
+--   merge             to      coalesce
+--     leaf                      leaf
 abbrev pub order_not_required : Operator → ℕ → ChildState → Plan
 order_not_required worked children c = cond (is_replaced worked children c) (replace_order_preserving_variants c.plan) c.plan
 

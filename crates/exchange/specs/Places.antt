@@ -1,4 +1,5 @@
 -- The children of an operator as lists: the place of each one's row, its need and its count.
+-- Renders document 01, "T lines in preorder".
 use Rattle.std.specs.Prelude.{List, [], ◌∷◌, ℕ, ◌+◌, length}
 use Rattle.exchange.specs.Trees.{none, ◌∷ᶠ◌, root, Plans}
 use Rattle.exchange.specs.Rows.{flatten}

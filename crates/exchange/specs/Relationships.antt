@@ -24,9 +24,13 @@ unfoldable pub given_set : List ChildState → ℕ
 given_set [] = 0
 given_set (c ∷ cs) = c.form.relationship + 2 * given_set cs
 
--- hashed into target partitions by exactly its keys
+-- by a row, hashed into target partitions by exactly its keys
+abbrev pub is_target_hash : Row → Bool
+is_target_hash x = is_set x.athash && is_set x.exact
+
+-- by the row of its form
 abbrev pub already_target_hash : ChildState → Bool
-already_target_hash c = is_set c.row.athash && is_set c.row.exact
+already_target_hash c = is_target_hash c.row
 
 -- a child that is asked is given one, unless it has it, its need is not keyed, or nothing would change
 abbrev pub is_givable : ChildState → Bool
@@ -44,6 +48,9 @@ next_round (some cs) go = go cs
 
 module _ (rows : List Row) where
   -- a keyed exchange whatever stands on top already
+  --   keyed exchange       to      keyed exchange
+  --     leaf                         keyed exchange
+  --                                    leaf
   abbrev pub add_relationship_on_top : ChildState → Option ChildState
   add_relationship_on_top c = pass rows (with_relationship c.form) keyed_on c
 

@@ -42,7 +42,9 @@ replace_merge o ts =
     let c = coalesced o in
     cond (has_limit o) (above (limited_sort o.limit o.order c) (node c ts)) (node c ts)
 
--- what comes in an operator's place, above its children
+-- what comes in an operator's place, above its children; of an exchange that keeps an order
+--   repartition, order 5       to      repartition
+--     leaf, order 5                      leaf, order 5
 abbrev pub replace_operator : Operator → Plans → Plan
 replace_operator o ts =
     cond (is_sort_preserving_merge o) (replace_merge o ts) (cond (is_repartition o && eqb o.keeps 1) (node (relaxed o) ts) (node o ts))

@@ -1,4 +1,5 @@
 -- What the functions over lent rows ask and give: a tree stands in the input, and rows are stored in the output.
+-- Renders document 01, "Tree lines become a lent run of node records".
 use Rattle.std.specs.Prelude.{◌≡◌, Bool, List, ◌++◌, ℕ, ◌+◌, ◌≤◌, length, drop}
 use Rattle.std.proofs.lemmas.List.Edits.{sets}
 use Rattle.exchange.specs.declared.row.Step.{Step}

@@ -1,5 +1,6 @@
--- The settings on the D line (the struct `Settings`: target, batch, subset and files are numbers, the others marks), and the bounds that refusal 7 tests.
--- Renders document 01, "`D,target,roundrobin,split,batch,estimates,subset,files,sort,union`", and what `ensure_distribution` of 000 reads of its `config`.
+-- The settings on the D line (target, batch, subset and files are numbers, the others marks), and the bounds that refusal 7 tests.
+-- Renders document 01, "`D,target,roundrobin,split,batch,estimates,subset,files,sort,union`", and what `ensure_distribution` of 000
+-- reads of its `config`.
 use Rattle.std.specs.Prelude.{ℕ, Bool, cond, ◌&&◌, eqb, leb, Option, Some, None}
 use Rattle.exchange.specs.declared.settings.Settings.{Settings}
 

@@ -1,5 +1,6 @@
 -- The worked node and a child on its way, by their numbers, and a step's answer as a form.
-use Rattle.std.specs.Prelude.{ℕ, suc, ◌≡◌, List, [], ◌∷◌, map, ⊤, Option as Answer, Some, None}
+-- Renders the loop over the children in `ensure_distribution` of 000.
+use Rattle.std.specs.Prelude.{ℕ, suc, ◌≡◌, List, [], ◌∷◌, map, get_or, ⊤, Option as Answer, Some, None}
 use Rattle.std.proofs.Math.Option.{Option, some, none as nothing}
 use Rattle.exchange.specs.declared.status.Asked.{Asked}
 use Rattle.exchange.specs.declared.status.RepartitionRequirementStatus.{RepartitionRequirementStatus as Told}
@@ -32,7 +33,17 @@ state_for a c =
 
 -- the status of a child that a struct stands for
 abbrev pub status_by : Child → Told → RepartitionRequirementStatus
-status_by k t = record { child = k; roundrobin_beneficial = t.beneficial; roundrobin_beneficial_stats = t.stats; hash_necessary = t.necessary }
+status_by k t = record {
+  child = k;
+  roundrobin_beneficial = t.roundrobin_beneficial;
+  roundrobin_beneficial_stats = t.roundrobin_beneficial_stats;
+  hash_necessary = t.hash_necessary;
+}
+
+-- a child in the form of that number, by the row at a place: its count is the row's
+abbrev pub standing_at : List (List ℕ) → ℕ → Option ℕ → Answer Standing
+standing_at xs form nothing = None
+standing_at xs form (some p) = Some (record { form = form; count = get_or (get_or xs p []) 2 0; row = get_or xs p [] })
 
 -- the form that a step leaves
 abbrev pub formed : Option ChildState → Answer ℕ

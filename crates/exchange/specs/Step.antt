@@ -41,6 +41,7 @@ split_operator x o = record {
 }
 
 -- the split goes to the child's own label; what is below it stays
+--   leaf of 2       to      leaf of 8
 abbrev pub split_plan : Row → Plan → Plan
 split_plan x (node o ts) = node (split_operator x o) ts
 
@@ -55,10 +56,14 @@ abbrev pub add_merge_on_top : List Row → ChildState → Option ChildState
 add_merge_on_top rows c = cond (ltb 1 (partitions c)) (pass rows (with_top 1 c.form) merge_on c) (some c)
 
 -- a keyed exchange
+--   leaf of 2       to      keyed exchange of 8
+--                             leaf of 2
 abbrev pub add_hash_on_top : List Row → ChildState → Option ChildState
 add_hash_on_top rows c = pass rows (with_top 2 c.form) keyed_on c
 
 -- a round robin where there are fewer partitions than the target
+--   leaf of 2       to      round robin of 8
+--                             leaf of 2
 abbrev pub add_roundrobin_on_top : List Row → ℕ → ChildState → Option ChildState
 add_roundrobin_on_top rows target c = cond (ltb (partitions c) target) (pass rows (with_top 3 c.form) roundrobin_on c) (some c)
 

@@ -1,4 +1,5 @@
 -- The relationship rounds by the children's numbers: a child's turn in a round is its number, its need, its form and its bit of the mask.
+-- Renders `enforce_distribution_relationships` of 000.
 use Rattle.std.specs.Prelude.{ℕ, zero, suc, ◌+◌, ◌*◌, ◌/◌, ◌%◌, ◌≤◌, ◌≡◌, Bool, true, false, cond, not, ◌&&◌, ◌||◌, List, [], ◌∷◌, eqb, ⊤, Option as Answer, Some, Result, Ok, Err}
 use Rattle.std.proofs.Math.Option.{Option, some, none as nothing}
 use Rattle.exchange.specs.declared.relationship.Turn.{Turn}
@@ -9,13 +10,13 @@ use Rattle.exchange.specs.Forms.{form_number, form_of, with_relationship}
 use Rattle.exchange.specs.Facts.{Row, row_of, unsatisfied_at}
 use Rattle.exchange.specs.Operators.{is_keyed}
 use Rattle.exchange.specs.States.{ChildState}
-use Rattle.exchange.specs.Relationships.{Enforced as Outcome, row_missing, stuck, enforced}
+use Rattle.exchange.specs.Relationships.{Enforced as Outcome, row_missing, stuck, enforced, is_target_hash}
 use Rattle.exchange.specs.Standings.{form_by, form_numbers, each_form}
 
 -- `already_target_hash` of the row; a child on its way has its row
 abbrev pub row_already : Option Row → Bool
 row_already nothing = true
-row_already (some x) = is_set x.athash && is_set x.exact
+row_already (some x) = is_target_hash x
 
 module _ (rows : List Row) where
   abbrev pub turn_givable : Turn → Bool

@@ -31,6 +31,7 @@ pub const ORDER: usize = 12;
 
 pub const WIDTH: usize = 13;
 
+// An X row.
 pub type FactRow = [u64; WIDTH];
 
 // Children are numbered from 1 to this.
@@ -41,8 +42,8 @@ const FORMS: u64 = 16;
 // A place for each child and form, and one for rows of neither.
 pub const PLACES: usize = 129;
 
-// Rows of neither are written too, as the index's definition has it (`slot` of specs/Found), so this is no Option.
-const NOWHERE: usize = 128;
+// Where rows of no child or form go; they are written too, so this is no Option.
+const NOWHERE: usize = PLACES - 1;
 
 // A child of the worked node, by its number from 1, in a form.
 #[derive(Clone, Copy)]
@@ -52,7 +53,7 @@ pub struct ChildForm {
     pub ghost within: { (1 ≤ child) × (child ≤ 8) × (form ≤ 15) },
 }
 
-// The X rows with their index: a place plus 1 for each child and form, 0 for none. C lends the index as such numbers (`lochkave_decide_in`).
+// The X rows with their index: a place plus 1 for each child and form, 0 for none. C lends it as numbers.
 #[derive(Clone, Copy)]
 pub struct FactRows<'a> {
     pub index: &'a [u64],
@@ -60,7 +61,7 @@ pub struct FactRows<'a> {
     pub ghost indexed: { index.now ≡ index_of rows.now },
 }
 
-// Document 01 names it, so it is no Option.
+// The place of a row, or that it is missing; document 01 names it, so it is no Option.
 #[derive(Clone, Copy)]
 pub enum Fact {
     Row { place: usize },
@@ -80,7 +81,7 @@ fn slot(child: u64, form: u64) -> usize
 }
 
 // The index of the rows, filled from the last of them to the first, so that the first of a child and form counts.
-// Its length is a clause: the index is lent as a slice, and an array's reference would ask more of who lends it.
+// Its length is a clause, since it is lent as a slice.
 pub fn index_rows(rows: &[FactRow], index: &mut [u64])
     requires { length index.old ≡ 129 }
     ensures { index.new ≡ index_of rows.now }

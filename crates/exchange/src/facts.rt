@@ -38,8 +38,7 @@ pub struct Needing {
     pub ghost ordered: { (child_facts facts).entries ≤ 8 },
 }
 
-// The children still to be finished: `left` of them, from number `child` on, with the forms and the F rows of all:
-// two slices, since they are lent as two.
+// The children still to be finished: `left` of them, from number `child` on, with the forms and the F rows of all, lent as two slices.
 #[derive(Clone, Copy)]
 pub struct Unfinished<'a> {
     pub forms: &'a [u64],

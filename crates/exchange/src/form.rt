@@ -8,7 +8,7 @@ pub const PLAIN: u64 = 0;
 // Split at its source.
 pub const SPLIT: u64 = 1;
 
-// What stands topmost. It stays a number: it is two bits of the form, taken from it and put back into it, and the definitions take any number.
+// What stands topmost: a number, since it is two bits of the form.
 pub const TOP_NONE: u64 = 0;
 
 pub const TOP_MERGE: u64 = 1;

@@ -1,6 +1,4 @@
-// The kinds of operators, by document 01's numbers. They stay numbers: an operator that no rule changes is written back with the number
-// that it came with, and each rule asks for one kind or for a run of them (`MERGE <= kind`), never for which of all it is, so that an enum
-// that is read from the number before each such test would be no plainer.
+// The kinds of operators, by document 01's numbers. They stay numbers: rules ask for one kind or for a run of them (`MERGE <= kind`).
 ghost use Rattle.std.specs.Prelude.{◌≡◌};
 ghost use Rattle.exchange.specs.ReplaceRows.{exchanges as exchange_kind};
 

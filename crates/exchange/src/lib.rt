@@ -1,4 +1,4 @@
-// Exchange rules: ensure_distribution and its steps.
+// Operator trees on rows: settings, facts, forms, the trees that `ensure_distribution` builds, and their order handling.
 #![tactic(auto)]
 
 pub mod child;

@@ -3,8 +3,8 @@ ghost use Rattle.std.specs.Prelude.{ℕ, ◌≤◌, ◌<◌, length, get_or};
 
 use crate::status::Asked;
 
-// What is asked of each child; a child's number is its place, whatever number stands there. Where their forms are written, that these
-// are as many stays a clause: forms are lent by &mut, and of a struct of both each function would have to promise that they are as many still.
+// What is asked of each child, in order; a child's number is its place, whatever number stands there.
+// Where their forms are lent by &mut, that these are as many stays a clause.
 #[derive(Clone, Copy)]
 pub struct Asks<'a> {
     pub list: &'a [Asked],

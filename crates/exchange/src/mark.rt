@@ -1,5 +1,4 @@
-// A mark of a row or a setting, set where it is 1. It stays a number: a bool would ask more of callers than a number does, and the
-// definitions take any number.
+// A mark of a row or a setting, set where it is 1. It stays a number, since the definitions take any.
 ghost use Rattle.std.specs.Prelude.{◌≡◌};
 ghost use Rattle.exchange.specs.Settings.{is_set as is_set_mark};
 

@@ -1,4 +1,4 @@
-// What is required of an operator by the one above it, by document 01's numbers, which stay numbers as kinds do (kind.rt).
+// What is required of an operator by the one above it, by document 01's numbers; numbers, as kinds are (kind.rt).
 pub const UNSPECIFIED: u64 = 0;
 
 pub const SINGLE: u64 = 1;

@@ -38,7 +38,7 @@ pub fn limit_of(n: Node) -> Option<u64>
 }
 
 // Every new operator: id 0, and the need of what it stands on. An absent limit has mark 0 and number 0.
-pub fn new_operator(n: New, under: Node) -> Node
+pub(crate) fn new_operator(n: New, under: Node) -> Node
     ensures { result ≡ node_of (new_operator (new_of n) (operator_of under)) }
 {
     Node {
@@ -65,7 +65,7 @@ fn merge_kind(under: Node) -> u64
     kind::MERGE
 }
 
-pub fn new_merge(x: FactRow, under: Node) -> Node
+pub(crate) fn new_merge(x: FactRow, under: Node) -> Node
     ensures { result ≡ node_of (new_merge (fact_row x) (operator_of under)) }
 {
     let n = New {
@@ -87,7 +87,7 @@ fn keeps_order(under: Node) -> u64
     u64::from(under.order != 0 && 1 < under.count)
 }
 
-pub fn new_exchange(kind: u64, x: FactRow, under: Node) -> Node
+pub(crate) fn new_exchange(kind: u64, x: FactRow, under: Node) -> Node
     ensures { result ≡ node_of (new_exchange kind (fact_row x) (operator_of under)) }
 {
     let n = New {
@@ -103,7 +103,7 @@ pub fn new_exchange(kind: u64, x: FactRow, under: Node) -> Node
 }
 
 // A sort by the entries that were kept, with the limit of `limiting`.
-pub fn required_sort(limiting: Settled, entries: u64, under: Node) -> Node
+pub(crate) fn required_sort(limiting: Settled, entries: u64, under: Node) -> Node
     ensures { result ≡ node_of (required_sort (operator_of limiting.node).limit entries (operator_of under)) }
 {
     let n = New {

@@ -1,14 +1,14 @@
 // The order handling of a child, by what is known of it.
 ghost use Rattle.std.specs.Prelude.{◌≡◌, ◌||◌, ◌≤◌};
 ghost use Rattle.exchange.specs.Settings.{is_set as is_set_mark};
-ghost use Rattle.exchange.specs.Order.{kept_entries};
-ghost use Rattle.exchange.specs.Handling.{enables_streaming, required_replaced, sorted_entries, free_replaced, streams as streams_by, required_handling, free_handling, handling_of};
+ghost use Rattle.exchange.specs.Order.{enables_streaming, kept_entries, required_replaced, free_replaced};
+ghost use Rattle.exchange.specs.Handling.{sorted_entries, streams as streams_by, required_handling, free_handling, handling_of};
 
 use crate::mark::is_set;
 use crate::{kind, need};
 
 // Whether order-preserving operators give way, the entries of the sort above as a mask, and whether the child's mark is cleared.
-// A mask of no entries is no sort, and every entry may be dropped from one: an Option would say none in two ways.
+// A mask of no entries is no sort, so it is no Option.
 #[derive(Clone, Copy)]
 pub struct Handling {
     pub replaced: bool,
@@ -68,8 +68,8 @@ fn free_replaced(need: u64, maintains: bool, streaming: bool, output: bool) -> b
     !maintains || output
 }
 
-// What is known of a child, and of the worked node over it. All stay numbers, as marks (mark.rt) and kinds (kind.rt) do.
-// That the entries are at most 8 stays a clause below: the definitions of specs/ make a `Known` of any child.
+// What is known of a child, and of the worked node over it: numbers, as marks (mark.rt) and kinds (kind.rt) are.
+// That the entries are at most 8 stays a clause, since the definitions make a `Known` of any child.
 #[derive(Clone, Copy)]
 pub struct Known {
     pub sort: u64,
@@ -145,7 +145,7 @@ fn order_not_required(k: Known) -> Handling
 
 // The order handling of a child: whether an order is required of it decides.
 #[tactic(auto, unfolding(crate::specs::Handling::handling_of))]
-pub fn handle_order(k: Known) -> Handling
+pub(crate) fn handle_order(k: Known) -> Handling
     requires { k.entries ≤ 8 }
     ensures { result ≡ handling_of k }
 {

@@ -10,6 +10,7 @@ pub const AGGEXACT: usize = 2;
 
 pub const AGGSUBSET: usize = 3;
 
+// A B row.
 pub type NodeRow = [u64; 4];
 
 // The worked node: its kind and its B row.

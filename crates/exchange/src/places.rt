@@ -23,8 +23,8 @@ pub fn child_places(rows: &[Row], at: usize, places: &mut [usize])
 
 // The children from `at` on, each with its number from 1, its need and count, and its F row.
 pub fn asked_children(rows: &[Row], at: usize, facts: &[ChildRow], asks: &mut [Asked])
-    requires stand_all { StandAll rows.now at (length facts.now) }
-    requires asks_len { length asks.old ≡ length facts.now }
+    requires stand { StandAll rows.now at (length facts.now) }
+    requires as_many { length asks.old ≡ length facts.now }
     ensures { (ts : Plans) (rest : List (List ℕ)) → trees ts ≡ length facts.now → drop at rows.now ≡ flattens ts ++ rest → asks.new ≡ asked_by 1 (needs_of ts) (counts_of ts) facts.now }
 {
     let mut next = at;

@@ -1,7 +1,6 @@
 // A child's turn in a relationship round, and why the rounds may come to nothing.
 
-// A child's turn in a round: its number from 1, its need, its form, and its bit of the mask. They stay numbers, as needs
-// (kind.rt) and marks (mark.rt) do: the definition of a turn (specs/Turns) takes any number and form.
+// A child's turn in a round: its number from 1, its need, its form, and its bit of the mask; numbers, as needs and marks are.
 #[derive(Clone, Copy)]
 pub struct Turn {
     pub number: u64,

@@ -1,7 +1,8 @@
-// The settings of a run, within their bounds. Those that are set or not are marks, and stay numbers as all marks do (mark.rt).
+// The settings of a run, within their bounds.
 ghost use Rattle.std.specs.Prelude.{◌≡◌};
 ghost use Rattle.exchange.specs.Settings.{checked};
 
+// The numbers of the D line; those that are set or not are marks (mark.rt).
 #[derive(Clone, Copy)]
 pub struct Settings {
     pub target: u64,
@@ -22,7 +23,7 @@ impl Settings {
 
     pub const MIN_BATCH: u64 = 1;
 
-    // The settings, where target and batch are within their bounds. Document 01 names it; its nine numbers are those of the D line.
+    // The settings, where target and batch are within their bounds; document 01 names it.
     #[tactic(auto, unfolding(crate::specs::Settings::checked))]
     pub fn new(
         target: u64,

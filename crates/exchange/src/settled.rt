@@ -4,6 +4,7 @@ ghost use Rattle.exchange.specs.Rows.{node_of, operator_of};
 
 use crate::row::Node;
 
+// The node, and that it is so.
 #[derive(Clone, Copy)]
 pub struct Settled {
     pub node: Node,

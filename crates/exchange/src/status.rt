@@ -1,4 +1,5 @@
 // The F row of a child of the worked node, and the child with it.
+
 // The places of an F row.
 pub const GAINS: usize = 0;
 
@@ -16,12 +17,12 @@ pub const ENTRIES: usize = 6;
 
 pub const WIDTH: usize = 7;
 
-// Where the number of rows in an F row comes from; any other kind says that there is none. They stay numbers: one function
-// reads this one (`rows_gain` of `needs`), by two tests, and any other number is the third kind.
+// Where the number of rows in an F row comes from; any other number says that there is none, so they stay numbers.
 pub const ROWS_EXACT: u64 = 0;
 
 pub const ROWS_ESTIMATED: u64 = 1;
 
+// An F row.
 pub type ChildRow = [u64; WIDTH];
 
 // A child of the worked node: its number from 1, need and count of its root, and its F row.
@@ -36,7 +37,7 @@ pub struct Asked {
 // What is known of a child before any child is changed: dealing out its rows may gain, it gains by their number, it must be hashed.
 #[derive(Clone, Copy)]
 pub struct RepartitionRequirementStatus {
-    pub beneficial: bool,
-    pub stats: bool,
-    pub necessary: bool,
+    pub roundrobin_beneficial: bool,
+    pub roundrobin_beneficial_stats: bool,
+    pub hash_necessary: bool,
 }

@@ -18,7 +18,7 @@ use exchange::partitioning::Worked;
 use exchange::relationship::Unenforced;
 use exchange::settings::Settings;
 
-// That there are as many forms as asks stays a clause, as `Asks` says.
+// The children's forms after their steps and the rounds. That there are as many as asks stays a clause, as `Asks` says.
 pub fn child_forms(
     s: Settings,
     w: Worked,

@@ -3,13 +3,14 @@ ghost use Rattle.std.specs.Prelude.{◌≡◌, Bool, cond, ◌&&◌, List, map, 
 ghost use Rattle.std.proofs.Math.Option.{some};
 ghost use Rattle.exchange.specs.Trees.{Operator};
 ghost use Rattle.exchange.specs.Settings.{is_set as is_set_mark};
-ghost use Rattle.exchange.specs.Forms.{form_number, form_of, split_form, with_top};
-ghost use Rattle.exchange.specs.Facts.{NodeFacts, Row};
-ghost use Rattle.exchange.specs.States.{Child, pass, and_then};
-ghost use Rattle.exchange.specs.Status.{rows_gain, status_of, get_repartition_requirement_status};
-ghost use Rattle.exchange.specs.Step.{add_roundrobin, add_merge_on_top, add_hash_on_top, add_roundrobin_on_top, satisfy_distribution, split_plan, ensure_child, ensure_children};
+ghost use Rattle.exchange.specs.Forms.{form_number, form_of, with_top};
+ghost use Rattle.exchange.specs.Found.{row_for};
+ghost use Rattle.exchange.specs.Facts.{NodeFacts};
+ghost use Rattle.exchange.specs.States.{Child};
+ghost use Rattle.exchange.specs.Status.{status_of, get_repartition_requirement_status};
+ghost use Rattle.exchange.specs.Step.{add_roundrobin, add_merge_on_top, add_hash_on_top, add_roundrobin_on_top, satisfy_distribution, ensure_child, ensure_children};
 ghost use Rattle.exchange.specs.FactRows.{child_facts, fact_row, child_for};
-ghost use Rattle.exchange.specs.Standings.{worked_for, node_for, state_for, formed, begun, Passed, SameNode, SameChild, SameChildren, numbered_from, resulting, form_list, each_form};
+ghost use Rattle.exchange.specs.Standings.{worked_for, node_for, state_for, status_by, standing_at, formed, Passed, SameNode, SameChild, SameChildren, numbered_from, resulting, form_list, each_form};
 
 use exchange::fact::{COUNT, ChildForm, Fact, FactRows};
 use exchange::form::{
@@ -20,17 +21,17 @@ use exchange::mark::is_set;
 use exchange::need;
 use exchange::partitioning::{Standing, Worked};
 use exchange::settings::Settings;
-use exchange::status::{Asked, SPLITS};
+use exchange::status::{Asked, RepartitionRequirementStatus, SPLITS};
 use needs::partitioning::{add_roundrobin, needs_hash_repartition};
-use needs::status::{get_repartition_requirement_status, needs_alignment, rows_gain};
+use needs::status::{get_repartition_requirement_status, needs_alignment};
 
 // The worked node whose children take their steps: whether any of them asks to be hashed alike, and their X rows.
 #[derive(Clone, Copy)]
-pub struct Stepping<'a> {
-    pub settings: Settings,
-    pub worked: Worked,
-    pub aligned: bool,
-    pub xs: FactRows<'a>,
+struct Stepping<'a> {
+    settings: Settings,
+    worked: Worked,
+    aligned: bool,
+    xs: FactRows<'a>,
 }
 
 // A child on its way: what is asked of it, and how it stands.
@@ -55,7 +56,7 @@ fn with_top(c: ChildState, top: u64) -> ChildForm
 }
 
 // A child passes into a form, whose row it needs.
-pub fn pass(xs: FactRows, c: ChildForm) -> Option<u64>
+pub(crate) fn pass(xs: FactRows, c: ChildForm) -> Option<u64>
     ensures { Passed c.child c.form (map fact_row xs.entry.rows.now) result }
 {
     let Fact::Row { place: _ } = xs.fact_row(c) else {
@@ -91,83 +92,79 @@ fn add_roundrobin_on_top(target: u64, c: ChildState, xs: FactRows) -> Option<u64
     pass(xs, with_top(c, TOP_ROUND_ROBIN))
 }
 
+// A child of an unspecified need: a round robin, where it is wanted.
+fn satisfy_unspecified(w: Stepping, t: RepartitionRequirementStatus, c: ChildState) -> Option<u64>
+    ensures { result ≡ formed (cond (add_roundrobin w.entry.settings (worked_for w.entry.worked) (node_for w.entry.worked) (status_by (child_for c.asked) t)) (add_roundrobin_on_top (map fact_row w.entry.xs.rows.now) w.entry.settings.target (state_for c.asked c.standing)) (some (state_for c.asked c.standing))) }
+{
+    if add_roundrobin(w.settings, w.worked, c.asked, t) {
+        return add_roundrobin_on_top(w.settings.target, c, w.xs);
+    }
+    Some(c.standing.form)
+}
+
 // By the need: single, keyed, unspecified.
-fn satisfy_distribution(w: Stepping, c: ChildState) -> Option<u64>
-    ensures { result ≡ formed (satisfy_distribution w.entry.settings (worked_for w.entry.worked) (node_for w.entry.worked) (map fact_row w.entry.xs.rows.now) (status_of w.entry.settings w.entry.aligned (child_for c.asked)) (state_for c.asked c.standing)) }
+fn satisfy_distribution(w: Stepping, t: RepartitionRequirementStatus, c: ChildState) -> Option<u64>
+    ensures { result ≡ formed (satisfy_distribution w.entry.settings (worked_for w.entry.worked) (node_for w.entry.worked) (map fact_row w.entry.xs.rows.now) (status_by (child_for c.asked) t) (state_for c.asked c.standing)) }
 {
     let a = c.asked;
     if a.need == need::SINGLE {
         return add_merge_on_top(c, w.xs);
     }
     if a.need != need::KEYED {
-        return satisfy_unspecified(w, c);
+        return satisfy_unspecified(w, t, c);
     }
-    let t = get_repartition_requirement_status(w.settings, w.aligned, a.need, a.count, a.facts);
-    if !t.necessary || !needs_hash_repartition(w.settings, w.worked, a, c.standing) {
+    if !t.hash_necessary || !needs_hash_repartition(w.settings, w.worked, a, c.standing) {
         return Some(c.standing.form);
     }
     add_hash_on_top(c, w.xs)
 }
 
-fn satisfy_unspecified(w: Stepping, c: ChildState) -> Option<u64>
-    ensures { (aligned : Bool) → result ≡ formed (cond (add_roundrobin w.entry.settings (worked_for w.entry.worked) (node_for w.entry.worked) (status_of w.entry.settings aligned (child_for c.asked))) (add_roundrobin_on_top (map fact_row w.entry.xs.rows.now) w.entry.settings.target (state_for c.asked c.standing)) (some (state_for c.asked c.standing))) }
+fn splits_at_source(s: Settings, t: RepartitionRequirementStatus, a: Asked) -> bool
+    ensures { result ≡ (is_set_mark s.split && (t.roundrobin_beneficial_stats && is_set_mark (child_facts a.facts).splits)) }
 {
-    if add_roundrobin(w.settings, w.worked, c.asked) {
-        return add_roundrobin_on_top(w.settings.target, c, w.xs);
-    }
-    Some(c.standing.form)
+    is_set(s.split) && t.roundrobin_beneficial_stats && is_set(a.facts[SPLITS])
 }
 
-fn splits_at_source(s: Settings, a: Asked) -> bool
-    ensures { result ≡ (is_set_mark s.split && (rows_gain s (child_facts a.facts) && is_set_mark (child_facts a.facts).splits)) }
+// A child in a form, whose row it needs; its count is the row's.
+fn standing_in(xs: FactRows, c: ChildForm) -> Option<Standing>
+    ensures { result ≡ standing_at xs.entry.rows.now c.form (row_for xs.entry.rows.now c.child c.form) }
 {
-    is_set(s.split) && rows_gain(s, a) && is_set(a.facts[SPLITS])
-}
-
-// A child that is split at its source, from there on.
-fn ensure_split(w: Stepping, a: Asked) -> Option<u64>
-    requires numbered { (1 ≤ a.number) × (a.number ≤ 8) }
-    ensures { (x : Row) → result ≡ formed (and_then (pass (map fact_row w.entry.xs.rows.now) split_form split_plan (begun (child_for a) x)) (satisfy_distribution w.entry.settings (worked_for w.entry.worked) (node_for w.entry.worked) (map fact_row w.entry.xs.rows.now) (status_of w.entry.settings w.entry.aligned (child_for a)))) }
-{
-    let at = ChildForm {
-        child: a.number,
-        form: SPLIT,
-    };
-    let Fact::Row { place } = w.xs.fact_row(at) else {
+    let Fact::Row { place } = xs.fact_row(c) else {
         return None;
     };
-    let x = w.xs.rows[place];
-    let standing = Standing {
-        form: SPLIT,
-        count: x[COUNT],
-        row: x,
-    };
-    let c = ChildState { asked: a, standing };
-    satisfy_distribution(w, c)
+    let row = xs.rows[place];
+    Some(Standing {
+        form: c.form,
+        count: row[COUNT],
+        row,
+    })
 }
 
 // The form of the child after its step.
-pub fn ensure_child(w: Stepping, a: Asked) -> Option<u64>
+fn ensure_child(w: Stepping, a: Asked) -> Option<u64>
     requires numbered { (1 ≤ a.number) × (a.number ≤ 8) }
     ensures { (o : Operator) (b : NodeFacts) (k : Child) → SameNode w.entry.worked o b → SameChild a k → result ≡ formed (ensure_child w.entry.settings o b (map fact_row w.entry.xs.rows.now) (status_of w.entry.settings w.entry.aligned k)) }
 {
-    let at = ChildForm {
+    let t = get_repartition_requirement_status(w.settings, w.aligned, a);
+    let plain = ChildForm {
         child: a.number,
         form: PLAIN,
     };
-    let Fact::Row { place } = w.xs.fact_row(at) else {
-        return None;
-    };
-    if splits_at_source(w.settings, a) {
-        return ensure_split(w, a);
+    let unsplit = standing_in(w.xs, plain)?;
+    if !splits_at_source(w.settings, t, a) {
+        let standing = Standing {
+            count: a.count,
+            ..unsplit
+        };
+        return satisfy_distribution(w, t, ChildState { asked: a, standing });
     }
-    let standing = Standing {
-        form: PLAIN,
-        count: a.count,
-        row: w.xs.rows[place],
+    let split = ChildForm {
+        child: a.number,
+        form: SPLIT,
     };
+    let standing = standing_in(w.xs, split)?;
     let c = ChildState { asked: a, standing };
-    satisfy_distribution(w, c)
+    satisfy_distribution(w, t, c)
 }
 
 // The forms of the children after their steps, one after the other.

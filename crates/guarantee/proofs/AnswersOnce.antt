@@ -2,35 +2,27 @@
 --     key_answer_once     K sheets
 --     join_answer_once    I sheets
 use Prim.Native.Nat.{ℕ}
-use mathlib.Core.Path.{◌≡◌, refl}
+use mathlib.Core.Path.{◌≡◌}
 use mathlib.Core.List.{List, [], ◌∷◌, ◌++◌, append-nil}
 use Rattle.text.specs.Write.{line_text}
 use Rattle.keys.specs.Expressions.{Expression}
 use Rattle.keys.specs.Adjust.{KeyAnswer, Projected}
 use Rattle.keys.specs.Inputs.{JoinAnswer}
 use Rattle.sheet.specs.KeyAnswers.{numbers_line, projected_numbers, child_lines, key_answer_text, join_answer_text}
-use Rattle.guarantee.proofs.LinesOnce.{numbers_line_once, exprs_line_once}
+use Rattle.guarantee.proofs.LinesOnce.{each_once, numbers_line_once, exprs_line_once}
 
 projected_once : (ps qs : List Projected) → projected_numbers ps ≡ projected_numbers qs → ps ≡ qs
-projected_once [] [] e = refl
-projected_once [] (q ∷ qs) e = absurd (cc)
-projected_once (p ∷ ps) [] e = absurd (cc)
-projected_once (p ∷ ps) (q ∷ qs) e =
+projected_once = each_once projected_numbers (λ q qs e. absurd (cc)) (λ p q ps qs e.
     let n : p.name ≡ q.name = cc in
     let k : p.place ≡ q.place = cc in
-    let r = projected_once ps qs (cc) in
-    λ j. record { name = n j; place = k j } ∷ r j
+    (λ j. record { name = n j; place = k j }, cc))
 
 -- the C lines are the last: the text ends with them
 pub children_once : (cs ds : List (List Expression)) → child_lines cs ≡ child_lines ds → cs ≡ ds
 unfolding line_text
-children_once [] [] e = refl
-children_once [] (d ∷ ds) e = absurd (cc)
-children_once (c ∷ cs) [] e = absurd (cc)
-children_once (c ∷ cs) (d ∷ ds) e =
+children_once = each_once child_lines (λ d ds e. absurd (cc)) (λ c d cs ds e.
     let r = exprs_line_once 67 67 c d (child_lines cs) (child_lines ds) e in
-    let s = children_once cs ds r.rest in
-    λ j. r.fields j ∷ s j
+    (r.fields, r.rest))
 
 pub key_answer_once : (a b : KeyAnswer) → key_answer_text a ≡ key_answer_text b → a ≡ b
 unfolding key_answer_text

@@ -14,13 +14,13 @@ use Rattle.exchange.specs.Settings.{is_set}
 use Rattle.exchange.specs.Forms.{Form, plain_form, split_form, with_top, with_relationship}
 use Rattle.exchange.specs.Facts.{NodeFacts, Row, row_of}
 use Rattle.exchange.specs.Operators.{is_keyed, mark, has_order}
-use Rattle.exchange.specs.States.{Child, ChildState, pass, started_by, started, and_then}
+use Rattle.exchange.specs.States.{Child, ChildState, pass, started_by, started}
 use Rattle.exchange.specs.Status.{rows_gain, status_of}
 use Rattle.exchange.specs.Step.{split_plan, merge_on, keyed_on, roundrobin_on, split_at_source, satisfy_distribution, ensure_child}
 use Rattle.exchange.specs.Relationships.{is_given, already_target_hash}
 use Rattle.exchange.specs.Partitioning.{is_split}
-use Rattle.exchange.proofs.StepWays.{holds_satisfied}
-use Rattle.exchange.proofs.Passing.{Holds, holds_then, holds_cond, holds_pass, EachSteps, Relates}
+use Rattle.exchange.proofs.StepWays.{holds_satisfied, holds_stepped}
+use Rattle.exchange.proofs.Passing.{Holds, holds_cond, holds_pass, EachSteps, Relates}
 use Rattle.guarantee.specs.Partitioning.{new_on_top}
 
 -- the tops of a form: its relationship exchange, and what is under that
@@ -108,11 +108,7 @@ module _ (s : Settings) (w : Operator) (b : NodeFacts) (rows : List Row) where
       holds_satisfied s w b rows (Formed c) (status_of s aligned c) d (stays c d h) (put 1 merge_on refl tops_merge) (put 2 keyed_on refl tops_keyed) (put 3 roundrobin_on refl tops_dealt)
 
   step_formed : (c : Child) (aligned : Bool) → new_on_top c.plan ≡ [] → Holds (Formed c) (ensure_child s w b rows (status_of s aligned c))
-  unfolding ensure_child
-  step_formed c aligned e =
-      holds_then (Bare c) (Formed c) (and_then (started rows c) (split_at_source s rows (status_of s aligned c))) (satisfy_distribution s w b rows (status_of s aligned c))
-      (holds_then (Begun c) (Bare c) (started rows c) (split_at_source s rows (status_of s aligned c)) (begins c e) (splits c aligned))
-      (satisfies c aligned)
+  step_formed c aligned e = holds_stepped s w b rows (Begun c) (Bare c) (Formed c) (status_of s aligned c) (begins c e) (splits c aligned) (satisfies c aligned)
 
   -- nothing new stands on the children of a sheet
   abbrev pub Unnew : List Child → Type 0

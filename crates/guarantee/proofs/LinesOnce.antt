@@ -115,14 +115,19 @@ numbers_plain : (ns : List ℕ) → Plain (map number ns)
 numbers_plain [] = tt
 numbers_plain (n ∷ ns) = (tt, numbers_plain ns)
 
+-- a text from which the first element and that of the rest are known, and which is another where there is none, is that of one list only
+pub each_once : {A B : Type 0} (f : List A → B) → ((y : A) (ys : List A) → f [] ≡ f (y ∷ ys) → ⊥)
+    → ((x y : A) (xs ys : List A) → f (x ∷ xs) ≡ f (y ∷ ys) → (x ≡ y) × (f xs ≡ f ys)) → (xs ys : List A) → f xs ≡ f ys → xs ≡ ys
+each_once f none one [] [] e = refl
+each_once f none one [] (y ∷ ys) e = absurd (none y ys e)
+each_once f none one (x ∷ xs) [] e = absurd (none x xs (sym e))
+each_once f none one (x ∷ xs) (y ∷ ys) e =
+    let r = one x y xs ys e in
+    let s = each_once f none one xs ys r.1 in
+    λ j. r.0 j ∷ s j
+
 map_number_once : (ms ns : List ℕ) → map number ms ≡ map number ns → ms ≡ ns
-map_number_once [] [] e = refl
-map_number_once [] (n ∷ ns) e = absurd (cc)
-map_number_once (m ∷ ms) [] e = absurd (cc)
-map_number_once (m ∷ ms) (n ∷ ns) e =
-    let a : m ≡ n = cc in
-    let r = map_number_once ms ns (cc) in
-    λ j. a j ∷ r j
+map_number_once = each_once (map number) (λ n ns e. absurd (cc)) (λ m n ms ns e. (cc, cc))
 
 pub numbers_line_once : (a b : ℕ) (ms ns xs ys : List ℕ) → numbers_line a ms ++ xs ≡ numbers_line b ns ++ ys → SameLine a b ms ns xs ys
 numbers_line_once a b ms ns xs ys e =
@@ -130,15 +135,11 @@ numbers_line_once a b ms ns xs ys e =
     record { letter = r.letter; fields = map_number_once ms ns r.fields; rest = r.rest }
 
 pub expr_numbers_once : (es fs : List Expression) → expr_numbers es ≡ expr_numbers fs → es ≡ fs
-expr_numbers_once [] [] e = refl
-expr_numbers_once [] (f ∷ fs) e = absurd (cc)
-expr_numbers_once (x ∷ es) [] e = absurd (cc)
-expr_numbers_once (x ∷ es) (y ∷ fs) e =
+expr_numbers_once = each_once expr_numbers (λ y fs e. absurd (cc)) (λ x y es fs e.
     let k : x.kind ≡ y.kind = cc in
     let n : x.name ≡ y.name = cc in
     let i : x.index ≡ y.index = cc in
-    let r = expr_numbers_once es fs (cc) in
-    λ j. record { kind = k j; name = n j; index = i j } ∷ r j
+    (λ j. record { kind = k j; name = n j; index = i j }, cc))
 
 pub exprs_line_once : (a b : ℕ) (es fs : List Expression) (xs ys : List ℕ) → exprs_line a es ++ xs ≡ exprs_line b fs ++ ys → SameLine a b es fs xs ys
 exprs_line_once a b es fs xs ys e =

@@ -9,9 +9,10 @@ use Rattle.exchange.specs.Facts.{ChildFacts}
 use Rattle.exchange.specs.States.{Child}
 use Rattle.exchange.specs.Status.{rows_gain}
 use Rattle.exchange.specs.Ensure.{Answer, answered, ensured}
-use Rattle.exchange.specs.Limits.{taken_off, NoLimits}
+use Rattle.exchange.specs.Limits.{NoLimits}
+use Rattle.exchange.specs.Worked.{removed}
 use Rattle.exchange.specs.Partitioning.{splits_gain, worked_of, children_of}
-use Rattle.exchange.proofs.LimitsKept.{taken_unlimited}
+use Rattle.exchange.proofs.LimitsKept.{removed_unlimited}
 use Rattle.exchange.proofs.LimitsOfSheets.{sheet_limits_kept}
 use Rattle.sheet.specs.KeySheets.{sheet}
 use Rattle.sheet.specs.KeyAnswers.{wrote}
@@ -35,8 +36,8 @@ use Rattle.guarantee.proofs.Together.{plan_together}
 use Rattle.guarantee.proofs.Bared.{shown, shown_text, shown_needs, shown_kept}
 
 -- nothing that is taken off above the worked node has a limit: demand 3's third condition holds of every sheet
-pub nothing_taken : (x : PlanSheet) → NoLimits (taken_off x.plan)
-nothing_taken x = taken_unlimited x.plan
+pub nothing_taken : (x : PlanSheet) → NoLimits (removed x.plan)
+nothing_taken x = removed_unlimited x.plan
 
 -- the condition on splits reads F lines only
 same_gain : (s : Settings) (cs ks : List Child) → SameChildren cs ks → splits_gain s ks ≡ splits_gain s cs

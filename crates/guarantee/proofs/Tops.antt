@@ -10,12 +10,12 @@ use borrow.Author.Tests.{eqb-true}
 use Rattle.exchange.specs.Trees.{node, none, ◌∷ᶠ◌, root, Operator, Plan, Plans}
 use Rattle.exchange.specs.declared.settings.Settings.{Settings}
 use Rattle.exchange.specs.Facts.{NodeFacts}
-use Rattle.exchange.specs.Operators.{is_sort_preserving_merge, is_repartition, has_limit, is_tracked, track_root, above, limited_sort, required_sort}
+use Rattle.exchange.specs.Operators.{is_sort_preserving_merge, has_limit, is_tracked, track_root, above, limited_sort, required_sort}
 use Rattle.exchange.specs.States.{ChildState}
-use Rattle.exchange.specs.Replace.{coalesced, relaxed, replace_operator, replace_order_preserving_variants, replace_tracked}
-use Rattle.exchange.specs.Order.{add_sort_above, handle_order}
+use Rattle.exchange.specs.Replace.{coalesced, replace_merge, replace_operator, replace_order_preserving_variants, replace_tracked}
+use Rattle.exchange.specs.Order.{handle_order}
 use Rattle.exchange.specs.Partitioning.{is_new_keyed, beneath_sorts, beneath_first}
-use Rattle.exchange.proofs.Handling.{measure_handled}
+use Rattle.exchange.proofs.Handling.{measure_either, measure_operator, measure_handled}
 use Rattle.guarantee.specs.Partitioning.{top_code, new_on_top, new_on_first, topmost}
 
 -- ---- the order handling
@@ -24,25 +24,18 @@ tops_tracked : (m : ℕ) (t : Plan) → new_on_top (track_root m t) ≡ new_on_t
 unfolding new_on_top
 tops_tracked m (node o ts) = refl
 
-tops_sorted : (entries : ℕ) (limit : Option ℕ) (t : Plan) → new_on_top (add_sort_above entries limit t) ≡ new_on_top t
+tops_sort : (entries : ℕ) (limit : Option ℕ) (t : Plan) → eqb entries 0 ≡ false → new_on_top (above (required_sort limit entries (root t)) t) ≡ new_on_top t
 unfolding new_on_top
-tops_sorted entries limit t = go (eqb entries 0)
-  where
-    go : (b : Bool) → new_on_top (cond b t (above (required_sort limit entries (root t)) t)) ≡ new_on_top t
-    go true = refl
-    go false = refl
+tops_sort entries limit t e = refl
 
 tops_operator : (o : Operator) (ts : Plans) → new_on_top (replace_operator o ts) ≡ cond (eqb o.id 0) (top_code o.kind ++ new_on_first ts) []
 unfolding new_on_top
-tops_operator o ts = go (is_sort_preserving_merge o) refl (has_limit o) (is_repartition o && eqb o.keeps 1)
+tops_operator o ts = measure_operator new_on_top o ts _ merged refl refl
   where
-    go : (b : Bool) → is_sort_preserving_merge o ≡ b → (l r : Bool)
-        → new_on_top (cond b (cond l (above (limited_sort o.limit o.order (coalesced o)) (node (coalesced o) ts)) (node (coalesced o) ts)) (cond r (node (relaxed o) ts) (node o ts)))
-        ≡ cond (eqb o.id 0) (top_code o.kind ++ new_on_first ts) []
-    go true e true r = rw (eqb-true o.kind 1 e)
-    go true e false r = rw (eqb-true o.kind 1 e)
-    go false e l true = refl
-    go false e l false = refl
+    merged : is_sort_preserving_merge o ≡ true → new_on_top (replace_merge o ts) ≡ cond (eqb o.id 0) (top_code o.kind ++ new_on_first ts) []
+    merged m =
+        measure_either new_on_top (has_limit o) (above (limited_sort o.limit o.order (coalesced o)) (node (coalesced o) ts)) (node (coalesced o) ts) _
+        (rw (eqb-true o.kind 1 m)) (rw (eqb-true o.kind 1 m))
 
 mutual
   unfolding new_on_top replace_order_preserving_variants
@@ -52,14 +45,10 @@ mutual
 
   tops_first : (ts : Plans) → new_on_first (replace_tracked ts) ≡ new_on_first ts
   tops_first none = refl
-  tops_first (t ∷ᶠ ts) = go (is_tracked (root t)) (tops_replaced t)
-    where
-      go : (b : Bool) → new_on_top (replace_order_preserving_variants t) ≡ new_on_top t → new_on_top (cond b (replace_order_preserving_variants t) t) ≡ new_on_top t
-      go true e = e
-      go false e = refl
+  tops_first (t ∷ᶠ ts) = measure_either new_on_top (is_tracked (root t)) (replace_order_preserving_variants t) t (new_on_top t) (tops_replaced t) refl
 
 pub tops_handled : (s : Settings) (b : NodeFacts) (w : Operator) (n : ℕ) (d : ChildState) → new_on_top (handle_order s b w n d) ≡ new_on_top d.plan
-tops_handled s b w n d = measure_handled new_on_top d (tops_replaced d.plan) tops_sorted tops_tracked s b w n
+tops_handled s b w n d = measure_handled new_on_top d (tops_replaced d.plan) tops_sort tops_tracked s b w n
 
 -- ---- topmost and beneath new sorts
 

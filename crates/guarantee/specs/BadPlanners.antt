@@ -1,5 +1,6 @@
--- Bad planners, each an `Outcome` of any sheet's bytes. Document 01, "Tries bad planners: pairs in sheet order always (demand 3's "exactly" stops it);
--- "impossible" before searching (3); keys ordered, trees copied (2, and 3 by partitioning); one stock decision (2); every sheet turned back (2 and the table)".
+-- Bad planners, each an `Outcome` of any sheet's bytes.
+-- Document 01, "Tries bad planners: pairs in sheet order always (demand 3's "exactly" stops it); "impossible" before searching (3);
+-- keys ordered, trees copied (2, and 3 by partitioning); one stock decision (2); every sheet turned back (2 and the table)".
 use Rattle.std.specs.Prelude.{ℕ, cond, ◌&&◌, ◌||◌, List, [], eqb, length, get_or}
 use Rattle.keys.specs.Reorder.{Tried, met, rewrite, meets}
 use Rattle.keys.specs.Expressions.{Expression, same_expr}

@@ -1,5 +1,5 @@
--- The conditions of demand 3: "that holds no placeholder expression, where no child whose mark `gains` is 0 is split at its source". The third, "no operator with
--- a limit is taken off above the worked node", always holds (`nothing_taken`).
+-- The conditions of demand 3: "that holds no placeholder expression, where no child whose mark `gains` is 0 is split at its source".
+-- The third, "no operator with a limit is taken off above the worked node", always holds (`nothing_taken`).
 use Rattle.std.specs.Prelude.{ℕ, ◌≡◌, true, List, [], ◌∷◌, ◌++◌}
 use Rattle.keys.specs.Expressions.{Expression, same_expr, placeholder}
 use Rattle.keys.specs.Arrange.{Lacks}

@@ -1,5 +1,5 @@
--- Demand 3, "Where a join's order is tried, they are called impossible exactly when no arrangement of them fits either side, raw or rewritten; else one side
--- fits as it comes out".
+-- Demand 3, "Where a join's order is tried, they are called impossible exactly when no arrangement of them fits either side,
+-- raw or rewritten; else one side fits as it comes out".
 use Rattle.std.specs.Prelude.{◌≡◌, true, false, ◌↔◌}
 use Rattle.keys.specs.Expressions.{same_expr}
 use Rattle.keys.specs.Adjust.{KeySheet, KeyAnswer}

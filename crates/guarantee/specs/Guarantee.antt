@@ -1,5 +1,5 @@
--- DEMAND 3, WHOLE. `Guaranteed` says it of any sheet and any answer, both as bytes; `AnswersGuaranteed`, that every answer of `decision` is guaranteed. It is proved in
--- proofs/Guarantee. Each sentence has a file of its name beside this one.
+-- Demand 3, whole. `Guaranteed` says it of any sheet and any answer, both as bytes; `AnswersGuaranteed`, that every answer of
+-- `decision` is guaranteed. It is proved in proofs/Guarantee. Each sentence has a file of its name beside this one.
 use Rattle.std.specs.Prelude.{ℕ, ◌≡◌, List}
 use Rattle.keys.specs.Adjust.{KeySheet, KeyAnswer}
 use Rattle.keys.specs.Inputs.{JoinSheet, JoinAnswer}

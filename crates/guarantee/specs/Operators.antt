@@ -1,4 +1,5 @@
--- Demand 3, "Exchanges, merges and added sorts set aside, the operators under the worked node are the same, in the same order under the same parents".
+-- Demand 3, "Exchanges, merges and added sorts set aside, the operators under the worked node are the same, in the same order
+-- under the same parents".
 use Rattle.std.specs.Prelude.{◌≡◌, ◌⊎◌}
 use Rattle.exchange.specs.Trees.{root, Operator, Plan}
 use Rattle.exchange.specs.Children.{remove_dist_changing_operators}

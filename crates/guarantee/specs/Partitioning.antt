@@ -1,5 +1,6 @@
--- Demand 3, "Each child of the worked node has the partitioning it needs", as document 01 measures it: "Measured beneath new sorts, a single need is had by at
--- most one partition; a keyed one by that, by a new exchange on its keys, or by the row of its last form: its `exact`, or `subset` where the step allows subsets".
+-- Demand 3, "Each child of the worked node has the partitioning it needs", as document 01 measures it: "Measured beneath new sorts,
+-- a single need is had by at most one partition; a keyed one by that, by a new exchange on its keys, or by the row of its last form:
+-- its `exact`, or `subset` where the step allows subsets".
 use Rattle.std.specs.Prelude.{ℕ, ◌≡◌, Bool, true, false, cond, ◌&&◌, ◌||◌, List, [], ◌∷◌, ◌++◌, eqb, leb}
 use Rattle.std.proofs.Math.Option.{Option, some, none as nothing}
 use Rattle.exchange.specs.Trees.{node, none, ◌∷ᶠ◌, root, Plan, Plans}

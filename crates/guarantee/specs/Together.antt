@@ -1,5 +1,5 @@
--- Beyond demand 3: for the set of children that were given a relationship exchange the engine calls no child unsatisfied (Y at that set is 0), so that the two
--- sides of a partitioned join are dealt alike as the engine judges it.
+-- Beyond demand 3: for the set of children that were given a relationship exchange the engine calls no child unsatisfied
+-- (Y at that set is 0), so that the two sides of a partitioned join are dealt alike as the engine judges it.
 use Rattle.std.specs.Prelude.{ℕ, ◌/◌, ◌%◌, ◌≤◌, ◌≡◌, List, length}
 use Rattle.exchange.specs.Trees.{none, ◌∷ᶠ◌, Plan, Plans}
 use Rattle.exchange.specs.Facts.{unsatisfied_at}

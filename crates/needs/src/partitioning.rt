@@ -4,24 +4,23 @@ ghost use Rattle.exchange.specs.Operators.{is_partitioned_join};
 ghost use Rattle.exchange.specs.Status.{status_of};
 ghost use Rattle.exchange.specs.Step.{preserve_file_partition_threshold_met, requires_grouping_id, allow_subset_satisfy_partitioning, partial_aggregate_output_satisfies_final_partitioning, preserve_partial_aggregate_partitioning, add_roundrobin, partitioning_satisfied, preserve_satisfying_file_partitioning, needs_hash_repartition};
 ghost use Rattle.exchange.specs.FactRows.{child_for};
-ghost use Rattle.exchange.specs.Standings.{worked_for, node_for, state_for};
+ghost use Rattle.exchange.specs.Standings.{worked_for, node_for, state_for, status_by};
 
-use crate::status::rows_gain;
 use exchange::fact::{EXACT, SUBSET};
 use exchange::mark::is_set;
 use exchange::partitioning::{AGGEXACT, AGGSUBSET, Standing, Worked};
 use exchange::settings::Settings;
-use exchange::status::{Asked, GAINS, GROUPING};
+use exchange::status::{Asked, GROUPING, RepartitionRequirementStatus};
 use exchange::{kind, need};
 
 // Enough partitions to keep those of the files.
-pub fn preserve_file_partition_threshold_met(s: Settings, a: Asked) -> bool
+fn preserve_file_partition_threshold_met(s: Settings, a: Asked) -> bool
     ensures { result ≡ preserve_file_partition_threshold_met s (child_for a) }
 {
     0 < s.files && s.files <= a.count
 }
 
-pub fn requires_grouping_id(a: Asked) -> bool
+fn requires_grouping_id(a: Asked) -> bool
     ensures { result ≡ requires_grouping_id (child_for a) }
 {
     a.need == need::KEYED && is_set(a.facts[GROUPING])
@@ -41,13 +40,13 @@ fn count_allows_subset(s: Settings, a: Asked) -> bool
 }
 
 // A hash partitioning by some of the keys will do.
-pub fn allow_subset_satisfy_partitioning(s: Settings, w: Worked, a: Asked) -> bool
+fn allow_subset_satisfy_partitioning(s: Settings, w: Worked, a: Asked) -> bool
     ensures { result ≡ allow_subset_satisfy_partitioning s (worked_for w) (child_for a) }
 {
     count_allows_subset(s, a) && !is_partitioned_join(w) && !requires_grouping_id(a)
 }
 
-pub fn partial_aggregate_output_satisfies_final_partitioning(w: Worked, subsets: bool) -> bool
+fn partial_aggregate_output_satisfies_final_partitioning(w: Worked, subsets: bool) -> bool
     ensures { result ≡ partial_aggregate_output_satisfies_final_partitioning (worked_for w) (node_for w) subsets }
 {
     let answer = if subsets {
@@ -58,7 +57,7 @@ pub fn partial_aggregate_output_satisfies_final_partitioning(w: Worked, subsets:
     w.kind == kind::PARTIAL_AGGREGATE && is_set(answer)
 }
 
-pub fn preserve_partial_aggregate_partitioning(s: Settings, w: Worked, a: Asked) -> bool
+fn preserve_partial_aggregate_partitioning(s: Settings, w: Worked, a: Asked) -> bool
     ensures { result ≡ preserve_partial_aggregate_partitioning s (worked_for w) (node_for w) (child_for a) }
 {
     preserve_file_partition_threshold_met(s, a)
@@ -69,19 +68,18 @@ pub fn preserve_partial_aggregate_partitioning(s: Settings, w: Worked, a: Asked)
 }
 
 // A round robin is wanted, unless the split makes it needless.
-pub fn add_roundrobin(s: Settings, w: Worked, a: Asked) -> bool
-    ensures { (aligned : Bool) → result ≡ add_roundrobin s (worked_for w) (node_for w) (status_of s aligned (child_for a)) }
+pub fn add_roundrobin(s: Settings, w: Worked, a: Asked, t: RepartitionRequirementStatus) -> bool
+    ensures { result ≡ add_roundrobin s (worked_for w) (node_for w) (status_by (child_for a) t) }
 {
     is_set(s.roundrobin)
-        && is_set(a.facts[GAINS])
-        && rows_gain(s, a)
+        && t.roundrobin_beneficial
+        && t.roundrobin_beneficial_stats
         && a.count < s.target
         && !preserve_partial_aggregate_partitioning(s, w, a)
 }
 
-// The row's answer to the keyed need, with subsets where they are allowed. Here and below `s`, `w`, `a` and `c` stay four: each
-// function calls one that takes fewer of them, so a struct would have to be one for each run of them.
-pub fn partitioning_satisfied(s: Settings, w: Worked, a: Asked, c: Standing) -> bool
+// The row's answer to the keyed need, with subsets where they are allowed. Here and below four parameters stay: what is called takes fewer.
+fn partitioning_satisfied(s: Settings, w: Worked, a: Asked, c: Standing) -> bool
     ensures { (aligned : Bool) → result ≡ partitioning_satisfied s (worked_for w) (status_of s aligned (child_for a)) (state_for a c) }
 {
     if allow_subset_satisfy_partitioning(s, w, a) {
@@ -91,7 +89,7 @@ pub fn partitioning_satisfied(s: Settings, w: Worked, a: Asked, c: Standing) -> 
 }
 
 // What satisfies already stays as it is, since only the count would grow.
-pub fn preserve_satisfying_file_partitioning(s: Settings, w: Worked, a: Asked, c: Standing) -> bool
+fn preserve_satisfying_file_partitioning(s: Settings, w: Worked, a: Asked, c: Standing) -> bool
     ensures { (aligned : Bool) → result ≡ preserve_satisfying_file_partitioning s (worked_for w) (status_of s aligned (child_for a)) (state_for a c) }
 {
     let satisfied = partitioning_satisfied(s, w, a, c);

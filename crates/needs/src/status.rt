@@ -10,11 +10,11 @@ use exchange::mark::is_set;
 use exchange::need;
 use exchange::settings::Settings;
 use exchange::status::{
-    Asked, ChildRow, GAINS, ROWKIND, ROWS, ROWS_ESTIMATED, ROWS_EXACT, RepartitionRequirementStatus,
+    Asked, GAINS, ROWKIND, ROWS, ROWS_ESTIMATED, ROWS_EXACT, RepartitionRequirementStatus,
 };
 
 // By the row count, dealing out the rows gains.
-pub fn rows_gain(s: Settings, a: Asked) -> bool
+fn rows_gain(s: Settings, a: Asked) -> bool
     ensures { result ≡ rows_gain s (child_facts a.facts) }
 {
     let kind = a.facts[ROWKIND];
@@ -26,41 +26,33 @@ pub fn rows_gain(s: Settings, a: Asked) -> bool
 }
 
 // A keyed child has more than one partition, or would gain by more.
-pub fn asks_alignment(s: Settings, a: Asked) -> bool
+fn asks_alignment(s: Settings, a: Asked) -> bool
     ensures { result ≡ asks_alignment s (child_for a) }
 {
     a.need == need::KEYED && (1 < a.count || is_set(a.facts[GAINS]) && rows_gain(s, a))
 }
 
 // A keyed child is hashed for its own partitions, or since one of the keyed children asks.
-fn hash_necessary(need: u64, count: u64, aligned: bool) -> bool
-    ensures { result ≡ (is_keyed need && (ltb 1 count || aligned)) }
+fn hash_necessary(a: Asked, aligned: bool) -> bool
+    ensures { result ≡ (is_keyed a.need && (ltb 1 a.count || aligned)) }
 {
-    need == need::KEYED && (1 < count || aligned)
+    a.need == need::KEYED && (1 < a.count || aligned)
 }
 
-// Of a child of that need, count before the split and F row, given whether any of the children asks (`needs_alignment`).
+// Of one child, given whether any of the children asks (`needs_alignment`).
 pub fn get_repartition_requirement_status(
     s: Settings,
     aligned: bool,
-    need: u64,
-    count: u64,
-    facts: ChildRow,
+    a: Asked,
 ) -> RepartitionRequirementStatus
-    ensures { (k : Child) → need_of k ≡ need → count_of k ≡ count → k.facts ≡ child_facts facts → status_by k result ≡ status_of s aligned k }
+    ensures { (k : Child) → need_of k ≡ a.need → count_of k ≡ a.count → k.facts ≡ child_facts a.facts → status_by k result ≡ status_of s aligned k }
 {
-    let a = Asked {
-        number: 0,
-        need,
-        count,
-        facts,
-    };
-    let stats = rows_gain(s, a);
-    let necessary = hash_necessary(need, count, aligned);
+    let gain = rows_gain(s, a);
+    let necessary = hash_necessary(a, aligned);
     RepartitionRequirementStatus {
-        beneficial: is_set(facts[GAINS]),
-        stats,
-        necessary,
+        roundrobin_beneficial: is_set(a.facts[GAINS]),
+        roundrobin_beneficial_stats: gain,
+        hash_necessary: necessary,
     }
 }
 

@@ -6,7 +6,7 @@ ghost use Rattle.exchange.specs.ReplaceRows.{merge_sort, relaxed_or};
 ghost use Rattle.exchange.specs.Step.{split_operator};
 ghost use Rattle.nodes.specs.Nodes.{zero as zero_node, settled, changed, new_mark, split_row};
 
-use exchange::fact::FactRow;
+use exchange::fact::{COUNT, ORDER, WIDTH};
 use exchange::row::Node;
 use exchange::settled::Settled;
 use exchange::{operator, replace};
@@ -64,6 +64,8 @@ pub fn relax(n: Node) -> Node
 pub fn split(n: Node, count: u64, order: u64) -> Node
     ensures { result ≡ changed (split_operator (split_row count order)) n }
 {
-    let x: FactRow = [0, 0, count, 0, 0, 0, 0, 0, 0, 0, 0, 0, order];
+    let mut x = [0; WIDTH];
+    x[COUNT] = count;
+    x[ORDER] = order;
     operator::split_operator(x, settle(n))
 }

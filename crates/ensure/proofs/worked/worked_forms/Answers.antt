@@ -14,7 +14,7 @@ pub node_at-requires : goal.node_at-requires
 node_at-requires c = stood_in c.args.src.rows.now c.args.src.at _ c.requires.stood
 
 pub asked_children-requires : goal.asked_children-requires
-asked_children-requires c = record { stand_all = stood_below c.args.src.rows.now c.args.src.at _ c.requires.stood; asks_len = length-take-le _ _ c.args.f.few }
+asked_children-requires c = record { stand = stood_below c.args.src.rows.now c.args.src.at _ c.requires.stood; as_many = length-take-le _ _ c.args.f.few }
 
 pub invariant_of-child_forms : goal.invariant_of-child_forms
 invariant_of-child_forms c = let a = c.args in

@@ -1,34 +1,27 @@
--- `forms::step::ensure_child` meets its contract: the row of form 0 is found or not, the child is split or not, and all goes by the child's numbers (`same_numbers`).
-use mathlib.Core.Path.{sym, ap, ◌∙◌}
-use mathlib.Core.List.{[], map}
-use native.Mathlib.Omega.{arith}
-use lib.ListN.{get_or}
-use Rattle.exchange.specs.Forms.{plain_form}
-use Rattle.exchange.specs.Found.{found_of}
-use Rattle.exchange.specs.FactRows.{fact_row, child_for}
-use Rattle.exchange.specs.Standings.{worked_for, node_for}
-use Rattle.exchange.proofs.FactRows.{row_none, row_placed, row_some}
-use Rattle.forms.proofs.Steps.{ensure_none, ensure_whole, ensure_split, same_numbers}
+-- `forms::step::ensure_child` meets its contract: the row of form 0 is found or not, the child is split or not, and then the row of its split form is found or not.
+use mathlib.Core.Path.{refl, sym, ◌∙◌}
+use Rattle.exchange.specs.FactRows.{child_for}
+use Rattle.forms.proofs.Steps.{step_none, step_whole, step_cut_none, step_cut}
 use Rattle.forms.proofs.step.ensure_child.Goals as goal
 
-pub returns-in_default : goal.returns-in_default
-returns-in_default c = λ o b k n m. let a = c.args in ensure_none a.w.settings (worked_for a.w.worked) (node_for a.w.worked) (map fact_row a.w.xs.rows.now) a.w.aligned (child_for a.a) (row_none a.w.xs.rows.now a.a.number plain_form (ap found_of (sym c.in_default.is) ∙ c.fact_row.ensures))
-    ∙ same_numbers a.w.settings (map fact_row a.w.xs.rows.now) a.w.aligned a.w.worked a.a o b k n m
+pub returns-in_err-unsplit : goal.returns-in_err-unsplit
+returns-in_err-unsplit c = λ o b k n m. let a = c.args in
+    c.from_residual.ensures ∙ step_none a.w.settings a.w.xs.rows.now a.w.aligned a.w.worked a.a o b k n m (sym c.in_err-unsplit.was ∙ c.standing_in.ensures)
 
-pub returns-then-splits_at_source : goal.returns-then-splits_at_source
-returns-then-splits_at_source c = λ o b k n m. let a = c.args in let x = fact_row (get_or a.w.xs.rows.now c.in-Row.place []) in
-    let e = row_some a.w.xs.rows.now a.a.number plain_form _ (ap found_of (sym c.in-Row.is) ∙ c.fact_row.ensures) in
-    ensure_split a.w.settings (worked_for a.w.worked) (node_for a.w.worked) (map fact_row a.w.xs.rows.now) a.w.aligned (child_for a.a) x e _ (sym c.splits_at_source.ensures ∙ c.if-splits_at_source.true) (c.ensure_split.ensures x)
-    ∙ same_numbers a.w.settings (map fact_row a.w.xs.rows.now) a.w.aligned a.w.worked a.a o b k n m
+pub returns-then-not-splits_at_source : goal.returns-then-not-splits_at_source
+returns-then-not-splits_at_source c = λ o b k n m. let a = c.args in let t = c.get_repartition_requirement_status-t in
+    c.satisfy_distribution.ensures
+    ∙ step_whole a.w.settings a.w.xs.rows.now a.w.aligned a.w.worked a.a o b k n m c.in_ok-unsplit.unsplit (sym c.in_ok-unsplit.was ∙ c.standing_in.ensures)
+    t.result (t.ensures (child_for a.a) refl refl refl) (sym c.splits_at_source.ensures ∙ c.if-not-splits_at_source.true)
 
-pub offset_bounds-w-place : goal.offset_bounds-w-place
-offset_bounds-w-place c = let a = c.args in omega (arith, row_placed a.w.xs.rows.now a.a.number plain_form _ (ap found_of (sym c.in-Row.is) ∙ c.fact_row.ensures))
-
-pub bounds-w-place : goal.bounds-w-place
-bounds-w-place c = let a = c.args in row_placed a.w.xs.rows.now a.a.number plain_form _ (ap found_of (sym c.in-Row.is) ∙ c.fact_row.ensures)
+pub returns-in_err-standing : goal.returns-in_err-standing
+returns-in_err-standing c = λ o b k n m. let a = c.args in let t = c.get_repartition_requirement_status-t in
+    c.from_residual-in_err-standing.ensures
+    ∙ step_cut_none a.w.settings a.w.xs.rows.now a.w.aligned a.w.worked a.a o b k n m c.in_ok-unsplit.unsplit (sym c.in_ok-unsplit.was ∙ c.standing_in.ensures)
+    t.result (t.ensures (child_for a.a) refl refl refl) (sym c.splits_at_source.ensures ∙ c.if-not-splits_at_source.false) (sym c.in_err-standing.was ∙ c.standing_in-2.ensures)
 
 pub returns : goal.returns
-returns c = λ o b k n m. let a = c.args in let x = fact_row (get_or a.w.xs.rows.now c.in-Row.place []) in
-    let e = row_some a.w.xs.rows.now a.a.number plain_form _ (ap found_of (sym c.in-Row.is) ∙ c.fact_row.ensures) in
-    ensure_whole a.w.settings (worked_for a.w.worked) (node_for a.w.worked) (map fact_row a.w.xs.rows.now) a.w.aligned (child_for a.a) x e _ (sym c.splits_at_source.ensures ∙ c.if-splits_at_source.false) c.satisfy_distribution.ensures
-    ∙ same_numbers a.w.settings (map fact_row a.w.xs.rows.now) a.w.aligned a.w.worked a.a o b k n m
+returns c = λ o b k n m. let a = c.args in let t = c.get_repartition_requirement_status-t in
+    c.satisfy_distribution-2.ensures
+    ∙ step_cut a.w.settings a.w.xs.rows.now a.w.aligned a.w.worked a.a o b k n m c.in_ok-unsplit.unsplit (sym c.in_ok-unsplit.was ∙ c.standing_in.ensures)
+    t.result (t.ensures (child_for a.a) refl refl refl) (sym c.splits_at_source.ensures ∙ c.if-not-splits_at_source.false) c.in_ok-standing.standing (sym c.in_ok-standing.was ∙ c.standing_in-2.ensures)

@@ -1,9 +1,8 @@
 -- `forms::step::satisfy_distribution` meets its contract: by the need, each with its own tests.
 use mathlib.Core.Path.{refl, sym, ap}
-use mathlib.Core.Bool.{Bool, ◌&&◌, not}
+use mathlib.Core.Bool.{◌&&◌, not}
 use Rattle.exchange.specs.FactRows.{child_for}
-use Rattle.exchange.specs.Standings.{worked_for, state_for}
-use Rattle.exchange.specs.Status.{RepartitionRequirementStatus, status_of}
+use Rattle.exchange.specs.Standings.{worked_for, state_for, status_by}
 use Rattle.exchange.specs.Step.{needs_hash_repartition}
 use borrow.Author.Tests.{eq-eqb, ne_eqb}
 use Rattle.exchange.proofs.Tests.{stop, past, refused, held}
@@ -11,21 +10,18 @@ use Rattle.forms.proofs.Formed.{formed_kept, formed_taken, formed_left}
 use Rattle.forms.proofs.step.satisfy_distribution.Goals as goal
 use Rattle.forms.proofs.step.satisfy_distribution.Goals.{then-not-t-via-then-not-t, then-not-t-via-else-not-t+then-not-needs_hash_repartition}
 
-abbrev necessary : RepartitionRequirementStatus → Bool
-necessary t = t.hash_necessary
-
 pub returns-then-a-ne-KEYED : goal.returns-then-a-ne-KEYED
 returns-then-a-ne-KEYED c = formed_left _ _ _ _ (ne_eqb _ _ c.if-a-eq-SINGLE.false) (formed_left _ _ _ _ (ne_eqb _ _ c.if-a-ne-KEYED.true)
-    (c.satisfy_unspecified.ensures c.args.w.aligned))
+    c.satisfy_unspecified.ensures)
 
 pub returns-then-not-t : goal.returns-then-not-t
-returns-then-not-t c = let a = c.args in let t = status_of a.w.settings a.w.aligned (child_for a.c.asked) in let told = ap necessary (c.get_repartition_requirement_status-t.ensures (child_for c.args.c.asked) refl refl refl) in
+returns-then-not-t c = let a = c.args in let t = status_by (child_for a.c.asked) a.t in
     formed_left _ _ _ _ (ne_eqb _ _ c.if-a-eq-SINGLE.false) (formed_taken _ _ _ _ (eq-eqb _ _ c.if-a-ne-KEYED.false) (formed_left (t.hash_necessary && needs_hash_repartition a.w.settings (worked_for a.w.worked) t (state_for a.c.asked a.c.standing)) _ _ _
     (elim c.then-not-t.branch [
-      | then-not-t-via-then-not-t w ↦ sym (stop _ _ (refused _ _ told w.if-not-t.true))
-      | then-not-t-via-else-not-t+then-not-needs_hash_repartition w ↦ sym (past _ _ _ (held _ _ told w.if-not-t.false) (sym (refused _ _ (w.needs_hash_repartition.ensures c.args.w.aligned) (ap not w.if-not-needs_hash_repartition.true))))
+      | then-not-t-via-then-not-t w ↦ sym (stop _ _ (refused _ _ refl w.if-not-t.true))
+      | then-not-t-via-else-not-t+then-not-needs_hash_repartition w ↦ sym (past _ _ _ (held _ _ refl w.if-not-t.false) (sym (refused _ _ (w.needs_hash_repartition.ensures c.args.w.aligned) (ap not w.if-not-needs_hash_repartition.true))))
     ]) (formed_kept _ c.args.c.within.2)))
 
 pub returns : goal.returns
 returns c = formed_left _ _ _ _ (ne_eqb _ _ c.if-a-eq-SINGLE.false) (formed_taken _ _ _ _ (eq-eqb _ _ c.if-a-ne-KEYED.false)
-    (formed_taken _ _ _ _ (sym (past _ _ _ (held _ _ (ap necessary (c.get_repartition_requirement_status-t.ensures (child_for c.args.c.asked) refl refl refl)) c.if-not-t.false) (sym (held _ _ (c.needs_hash_repartition.ensures c.args.w.aligned) (ap not c.if-not-needs_hash_repartition.false))))) c.add_hash_on_top.ensures))
+    (formed_taken _ _ _ _ (sym (past _ _ _ (held _ _ refl c.if-not-t.false) (sym (held _ _ (c.needs_hash_repartition.ensures c.args.w.aligned) (ap not c.if-not-needs_hash_repartition.false))))) c.add_hash_on_top.ensures))

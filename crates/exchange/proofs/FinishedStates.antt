@@ -1,10 +1,10 @@
--- The children of the worked node after the relationship rounds, beside the children they were: each is what its form makes of it.
+-- The children of the worked node after the relationship rounds, beside the children they were (`Finished`): each is what its form makes of it.
 use Rattle.std.specs.Prelude.{◌≤◌, ◌≡◌, List, [], ◌∷◌}
 use Rattle.std.proofs.Math.Option.{some}
 use Rattle.exchange.specs.Forms.{form_number, form_of}
 use Rattle.exchange.specs.Facts.{Row, row_of}
 use Rattle.exchange.specs.States.{Child, ChildState, need_of}
-use Rattle.exchange.specs.Reached.{Reached}
+use Rattle.exchange.proofs.ReachedStates.{Reached}
 use Rattle.exchange.specs.Built.{built}
 
 module _ (rows : List Row) where

@@ -1,4 +1,4 @@
--- What a state of a child looks like on its way: its row is the row of its form, and its tree is made of the child's by the form's steps.
+-- What a state of a child looks like on its way (`Reached`): its row is the row of its form, and its tree is made of the child's by the form's steps.
 use Rattle.std.specs.Prelude.{ℕ, ◌≤◌, ◌≡◌, cond, List, eqb}
 use Rattle.std.proofs.Math.Option.{Option, some, none as nothing}
 use Rattle.exchange.specs.Trees.{Plan}
