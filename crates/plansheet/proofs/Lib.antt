@@ -16,4 +16,6 @@ pub mod Fitting
 pub mod FitTrees
 pub mod Crowded
 pub mod PlanFitted
+pub mod PlanJudged
+pub mod RoomsFilled
 pub mod PlanWhole
