@@ -1,6 +1,8 @@
 pub mod Examples
 pub mod Overs
+pub mod TreeNumbers
 pub mod Shaped
+pub mod PlainLines
 pub mod Turns
 pub mod Mapped
 pub mod PlainTrees

@@ -28,7 +28,8 @@ use Rattle.refusals.specs.declared.Refusal.{Refusal}
 use Rattle.plansheet.specs.Shapes.{over_any, is_none}
 use Rattle.plansheet.specs.PlanLines.{any, fact_shape, fact_line}
 use Rattle.plansheet.specs.PlainFacts.{FactAt, FactFound, FactLeft}
-use Rattle.plansheet.proofs.Shaped.{coming_number, plain_number}
+use Rattle.plansheet.proofs.Shaped.{coming_number}
+use Rattle.plansheet.proofs.PlainLines.{plain_number}
 use Rattle.plansheet.proofs.Turns.{turned}
 use Rattle.plansheet.proofs.FineLines.{fine_long, one_none, one_again}
 

@@ -1,4 +1,4 @@
--- `plansheet::line::plain_line` meets its contract. The line by `Opened`, then one law for each test (`Shaped`).
+-- `plansheet::line::plain_line` meets its contract. The line by `Opened`, then one law for each test (`PlainLines`).
 use mathlib.Core.Path.{◌≡◌, refl, sym, ap, subst, ◌∙◌}
 use mathlib.Core.List.{List, map}
 use Prim.Native.Nat.{ℕ, ◌≤◌}
@@ -16,7 +16,7 @@ use Rattle.linekinds.specs.KeyLines.{values}
 use Rattle.linekinds.specs.Reading.{row_values}
 use Rattle.linekinds.proofs.ReadLines.{row_values_lem}
 use Rattle.plansheet.specs.Shapes.{over_any}
-use Rattle.plansheet.proofs.Shaped.{masks_counted, plain_wrong, plain_turned, plain_coded, plain_read}
+use Rattle.plansheet.proofs.PlainLines.{masks_counted, plain_wrong, plain_turned, plain_coded, plain_read}
 use Rattle.plansheet.proofs.line.plain_line.Goals as goal
 
 pub returns-in_default-clause-answer : goal.returns-in_default-clause-answer

@@ -1,4 +1,4 @@
--- `tree::judge_tree` meets its contract. One law for each way out (`Shaped`).
+-- `tree::judge_tree` meets its contract. One law for each way out (`TreeNumbers`).
 use mathlib.Core.Path.{refl, sym, ap, ◌∙◌}
 use Prim.Native.Nat.{ℕ}
 use Rattle.std.proofs.lemmas.Result.{err_from_is_err_and}
@@ -6,7 +6,7 @@ use Rattle.linekinds.specs.Reading.{row_values}
 use Rattle.refusals.specs.Refusals.{judged_by}
 use Rattle.refusals.proofs.Judging.{judged_ok, judged_err}
 use Rattle.plansheet.specs.ReadRows.{shape_number}
-use Rattle.plansheet.proofs.Shaped.{tree_limited, tree_most, tree_wide, tree_shape, tree_kind, tree_fit, tree_unfit}
+use Rattle.plansheet.proofs.TreeNumbers.{tree_limited, tree_most, tree_wide, tree_shape, tree_kind, tree_fit, tree_unfit}
 use Rattle.plansheet.proofs.tree.judge_tree.Goals as goal
 use Rattle.plansheet.proofs.tree.judge_tree.Goals.{then-h-seen-via-then-h-seen, then-h-seen-via-else-h-seen+then-children-gt-MOST_CHILDREN}
 
