@@ -24,7 +24,7 @@ use Rattle.linekinds.specs.declared.line.Read.TheVariants.{Line, Refused}
 use Rattle.refusals.specs.Refusals.{refusal_of}
 use Rattle.refusals.specs.declared.Refusal.TheVariants.{WrongLine, UndefinedCode}
 use Rattle.plansheet.specs.Shapes.{plain_shape, over_any, fixed_line}
-use Rattle.plansheet.specs.ReadRows.{masks_number}
+use Rattle.plansheet.specs.ReadRows.{plain_number}
 use Rattle.plansheet.proofs.Shaped.{number_fixed}
 
 -- ---- masks
@@ -68,20 +68,20 @@ and_first : (a b : Bool) → a && b ≡ true → a ≡ true
 and_first true b e = refl
 and_first false b e = e
 
-pub masks_counted : (sets count worst largest next : ℕ) → masks_number sets count worst largest next ≡ 0 → count ≡ sets
-masks_counted sets count worst largest next e =
+pub plain_counted : (sets count worst largest next : ℕ) → plain_number sets count worst largest next ≡ 0 → count ≡ sets
+plain_counted sets count worst largest next e =
     eqb-true count sets (and_first (eqb count sets) (leb worst 0 && leb largest 65535) (count_of_at (eqb count sets && (leb worst 0 && leb largest 65535)) _ 0 e))
 
 module _ (letter width : ℕ) (codes : List ℕ) where
   abbrev P : Kind
   P = fixed_line (plain_shape letter width codes)
 
-  pub plain_number :
+  pub plain_line_number :
       (seen next : ℕ) (fs : List Field) →
       line_number P seen next (some fs)
       ≡ cond (eqb (length fs) width && (leb (greatest 0 (map state_of fs)) 0 && leb (greatest 0 (map value_of fs)) 65535)) (cond (ltb most_bytes next) 3 (cond (over_any codes (values fs)) 4 0)) 2
   unfolding over_any
-  plain_number seen next fs = number_fixed P refl fs seen next ∙ rw (plain_fits width fs, all_largest plain fs, or_none (ltb most_bytes next))
+  plain_line_number seen next fs = number_fixed P refl fs seen next ∙ rw (plain_fits width fs, all_largest plain fs, or_none (ltb most_bytes next))
 
   -- what `line_at` answered of such a line
   module _ (seen next : ℕ) (x : Option (List Field)) where
@@ -89,12 +89,12 @@ module _ (letter width : ℕ) (codes : List ℕ) where
     unfolding line_number
     plain_wrong e = rw (wrong_none next x e)
 
-    module _ (f : Fields) (o : Opened next x f) (m : ℕ) (is : m ≡ masks_number width f.count f.worst f.largest f.next) where
+    module _ (f : Fields) (o : Opened next x f) (m : ℕ) (is : m ≡ plain_number width f.count f.worst f.largest f.next) where
       plain_is : line_number P seen next x ≡ cond (eqb m 0) (cond (over_any codes (values o.fs)) 4 0) m
       plain_is =
-          ap (line_number P seen next) o.is ∙ plain_number seen next o.fs
+          ap (line_number P seen next) o.is ∙ plain_line_number seen next o.fs
           ∙ plain_at (eqb (length o.fs) width && (leb (greatest 0 (map state_of o.fs)) 0 && leb (greatest 0 (map value_of o.fs)) 65535)) (ltb most_bytes next) (over_any codes (values o.fs))
-          ∙ ap (λ (k : ℕ). cond (eqb k 0) (cond (over_any codes (values o.fs)) 4 0) k) (sym (is ∙ (λ i. masks_number width (o.counts i) (o.states i) (o.values i) (o.goes i))))
+          ∙ ap (λ (k : ℕ). cond (eqb k 0) (cond (over_any codes (values o.fs)) 4 0) k) (sym (is ∙ (λ i. plain_number width (o.counts i) (o.states i) (o.values i) (o.goes i))))
 
       pub plain_turned : (m ≡ 0 → ⊥) → Refused (refusal_of m) ≡ read_by (line_number P seen next x) next x
       plain_turned h =

@@ -19,7 +19,7 @@ room_for n h = length-take-le n eight h
 
 pub rows_fit-requires : goal.rows_fit-requires
 rows_fit-requires c =
-    let few = c.requires.worked_in_bounds.1 in
+    let few = c.requires.stands.1 in
     let t = c.requires.stand_all in
     let e : c.child_places.new.places ≡ places_of (c.args.worked + 1) t.below = c.child_places.ensures t.below t.rest (t.counted ∙ sym (room_for (length c.args.facts.now) few)) t.stands in
     let n = places_many (c.args.worked + 1) t.below (length c.args.facts.now) t.counted in
@@ -28,13 +28,13 @@ rows_fit-requires c =
 pub returns-then-rows_fit : goal.returns-then-rows_fit
 returns-then-rows_fit c = λ s o b ts rest e m h.
     let a = c.args in
-    let p : c.child_places.new.places ≡ places_of (a.worked + 1) ts = c.child_places.ensures ts rest (m ∙ sym (room_for (length a.facts.now) c.requires.worked_in_bounds.1)) h in
+    let p : c.child_places.new.places ≡ places_of (a.worked + 1) ts = c.child_places.ensures ts rest (m ∙ sym (room_for (length a.facts.now) c.requires.stands.1)) h in
     c.masks_fit.ensures ∙ ap (λ (t : Bool). t && all_within_bits (length a.facts.now) a.masks.now) (sym c.if-rows_fit.true)
     ∙ tests_say s o b ts a.rows.now a.facts.now (a.worked + 1) rest a.xs.rows.now a.masks.now a.target c.child_places.new.places c.rows_fit.result e m h p c.rows_fit.ensures
 
 pub returns-else-rows_fit : goal.returns-else-rows_fit
 returns-else-rows_fit c = λ s o b ts rest e m h.
     let a = c.args in
-    let p : c.child_places.new.places ≡ places_of (a.worked + 1) ts = c.child_places.ensures ts rest (m ∙ sym (room_for (length a.facts.now) c.requires.worked_in_bounds.1)) h in
+    let p : c.child_places.new.places ≡ places_of (a.worked + 1) ts = c.child_places.ensures ts rest (m ∙ sym (room_for (length a.facts.now) c.requires.stands.1)) h in
     c.if-rows_fit.false ∙ ap (λ (t : Bool). t && all_within_bits (length a.facts.now) a.masks.now) (sym c.if-rows_fit.false)
     ∙ tests_say s o b ts a.rows.now a.facts.now (a.worked + 1) rest a.xs.rows.now a.masks.now a.target c.child_places.new.places c.rows_fit.result e m h p c.rows_fit.ensures

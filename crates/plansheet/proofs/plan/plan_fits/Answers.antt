@@ -24,8 +24,8 @@ facts_fit-requires-clause-stand_all c =
     let part : length (take f.children f.facts.now) ≡ f.children = length-take-le f.children f.facts.now (omega (arith, r.few, f.eight)) in
     rw part (stand_all q.plan f.rows.now f.worked f.children (worked_rooms q.plan f.rows.now r.rest f.worked r.stands r.place) (sym r.many))
 
-pub facts_fit-requires-clause-worked_in_bounds : goal.facts_fit-requires-clause-worked_in_bounds
-facts_fit-requires-clause-worked_in_bounds c =
+pub facts_fit-requires-clause-stands : goal.facts_fit-requires-clause-stands
+facts_fit-requires-clause-stands c =
     let f = c.args.f in let q = c.requires.filled in let r = q.rooms in
     let part : length (take f.children f.facts.now) ≡ f.children = length-take-le f.children f.facts.now (omega (arith, r.few, f.eight)) in
     ((worked_rooms q.plan f.rows.now r.rest f.worked r.stands r.place).inside, rw part r.few)

@@ -26,17 +26,17 @@ returns-in_err-t-clause-held c =
 pub read_after_tree-requires-clause-tree_stands : goal.read_after_tree-requires-clause-tree_stands
 read_after_tree-requires-clause-tree_stands c =
     let a = c.args in let l = a.lent.now in let q = c.read_tree_lines in
-    let t = tree_read a.s.now l.head.now _ l.rows.now _ _ c.requires.2 c.requires.0 c.in_ok-t.ensures.answer c.in_ok-t.ensures.left in
+    let t = tree_read a.s.now l.head.now _ l.rows.now _ _ c.requires.whole.0 c.requires.tree_room c.in_ok-t.ensures.answer c.in_ok-t.ensures.left in
     record { tree = plan_of t.rs; rest = t.rest; stands = t.stands; few = t.few }
 
 pub returns-clause-answer : goal.returns-clause-answer
 returns-clause-answer c =
     let a = c.args in let l = a.lent.now in let q = c.read_tree_lines in
-    let t = tree_read a.s.now l.head.now _ l.rows.now _ _ c.requires.2 c.requires.0 c.in_ok-t.ensures.answer c.in_ok-t.ensures.left in
+    let t = tree_read a.s.now l.head.now _ l.rows.now _ _ c.requires.whole.0 c.requires.tree_room c.in_ok-t.ensures.answer c.in_ok-t.ensures.left in
     c.read_after_tree.ensures.answer (plan_of t.rs) t.rest t.stands t.whole ∙ ap plan_by (sym (plan_on a.s.now _ _ _ _ _ _ _ t))
 
 pub returns-clause-held : goal.returns-clause-held
 returns-clause-held c =
     let a = c.args in let l = a.lent.now in let q = c.read_tree_lines in
-    let t = tree_read a.s.now l.head.now _ l.rows.now _ _ c.requires.2 c.requires.0 c.in_ok-t.ensures.answer c.in_ok-t.ensures.left in
+    let t = tree_read a.s.now l.head.now _ l.rows.now _ _ c.requires.whole.0 c.requires.tree_room c.in_ok-t.ensures.answer c.in_ok-t.ensures.left in
     λ x f. c.read_after_tree.ensures.held (plan_of t.rs) t.rest x t.stands t.whole (sym (plan_on a.s.now _ _ _ _ _ _ _ t) ∙ f)
