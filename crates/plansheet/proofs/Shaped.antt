@@ -1,7 +1,8 @@
 -- The number of a line of fixed fields, by what `fixed_at` answered, is `line_number` of its kind.
 -- Assumes nothing.
-use mathlib.Core.Path.{◌≡◌, refl, sym, ap, ◌∙◌}
-use Prim.Native.Nat.{ℕ, zero, suc, ◌*◌}
+use Rattle.text.specs.Read.{stored_in}
+use mathlib.Core.Path.{◌≡◌, refl, sym, ap, ◌∙◌, subst}
+use Prim.Native.Nat.{ℕ, zero, suc, ◌*◌, ◌≤◌}
 use native.Mathlib.Omega.{arith}
 use mathlib.Core.List.{List, [], ◌∷◌, map}
 use mathlib.Core.Bool.{Bool, true, false, cond, ◌&&◌, ◌||◌}
@@ -12,13 +13,13 @@ use mathlib.Core.List.{◌++◌, append-nil}
 use borrow.Author.Tests.{eqb-true, eqb-false, eq-eqb, ne_eqb, le-ltb}
 use Rattle.text.specs.declared.field.Field.{Field}
 use Rattle.text.specs.declared.field.Field.TheVariants.{Number as number}
-use Rattle.text.specs.Text.{state_of, row}
+use Rattle.text.specs.Text.{state_of, row, line, line_fields, line_at, after}
 use Rattle.text.specs.Bounds.{fits, fits_rows, allows_all, judged}
-use Rattle.std.specs.Prelude.{Err}
+use Rattle.std.specs.Prelude.{Err, Ok}
 use Rattle.text.specs.declared.bounds.Judged.{Judged}
 use Rattle.text.specs.declared.bounds.Misfit.{Misfit}
 use Rattle.text.specs.declared.bounds.Misfit.TheVariants.{Unfit, Wrong}
-use Rattle.text.proofs.Answers.{Passed, failed, judged_none}
+use Rattle.text.proofs.Answers.{Passed, failed, judged_none, passed, rows_held}
 use Rattle.text.proofs.Limits.{fits_rows_lem, fits_length}
 use Rattle.linekinds.specs.Lines.{Kind, plain, most_bytes, most_entries, fields_fit, too_many_entries, line_number}
 use Rattle.linekinds.specs.KeyLines.{at}
@@ -92,12 +93,29 @@ refuses Unfit e = omega arith
 refuses Wrong e = omega arith
 
 -- a line has as many fields as bounds
-pub passed_long :
+passed_long :
     (bs : List (List ℕ)) → Bounded bs → (next : ℕ) (x : Option (List Field)) (j : Judged) (p : Passed bs next x j) →
     length p.fs ≡ length bs
 passed_long bs bounded next x j p =
     fits_length (map bound_of bs) p.fs (fits_rows_lem (map bound_of bs) p.fs ∙ ap (λ (cs : List (List ℕ)). fits_rows cs (map row p.fs)) bounded ∙ p.within)
     ∙ length-map bs bound_of
+
+-- and they stand in the room lent
+pub record WithinBounds (s : List ℕ) (at letter : ℕ) (bs fields' : List (List ℕ)) (j : Judged) : Type 0 where
+  pub read : Passed bs (after s at) (line_at letter s at) j
+  pub long : j.count ≡ length bs
+  pub rows : take j.count fields' ≡ map row read.fs
+  pub many : length (take j.count fields') ≡ length bs
+
+pub within_bounds :
+    (s : List ℕ) (at letter : ℕ) (bs fields fields' : List (List ℕ)) (j : Judged) → Ok j ≡ judged bs (after s at) (line_at letter s at) → fields' ≡ stored_in fields (line_fields letter (line (drop at s))) →
+    Bounded bs → length bs ≤ length fields → WithinBounds s at letter bs fields' j
+within_bounds s at letter bs fields fields' j so stored bounded room =
+    let read = passed _ (after s at) (line_at letter s at) j so in
+    let long : j.count ≡ length bs = read.counts ∙ passed_long bs bounded (after s at) (line_at letter s at) j read in
+    let rows : take j.count fields' ≡ map row read.fs =
+    subst (λ (n : ℕ). take n fields' ≡ map row read.fs) (sym read.counts) (rows_held letter s at read.fs read.is fields fields' stored (omega (arith, long, read.counts, room))) in
+    record { read = read; long = long; rows = rows; many = ap length rows ∙ length-map read.fs row ∙ sym read.counts ∙ long }
 
 module _ (bs : List (List ℕ)) (bounded : Bounded bs) (k : Kind) (w : k.width ≡ 0) (heads : k.heads ≡ map bound_of bs) where
   rows_fit : (fs : List Field) → fits k.heads fs ≡ fits_rows bs (map row fs)
