@@ -1,4 +1,5 @@
 -- A D sheet in the rooms that an entry point has for it.
+-- Renders document 01, "Exchange sheet": "256 T lines", "8 children a node".
 use Rattle.std.specs.Prelude.{ℕ, ◌≤◌, ◌<◌, ◌≡◌, List, [], ◌∷◌, length, get_or, take}
 use Rattle.exchange.specs.declared.settings.Settings.{Settings}
 use Rattle.exchange.specs.FactRows.{child_facts}

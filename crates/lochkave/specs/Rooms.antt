@@ -1,4 +1,5 @@
 -- The rooms that a decision is made in.
+-- Renders document 01, "Exchange sheet": "256 T lines", "8 children a node".
 use Rattle.std.specs.Prelude.{ℕ, ◌+◌, ◌*◌, ◌≤◌, ◌≡◌, Bool, true, List, length}
 use Rattle.sheet.specs.SheetLines.{Full}
 use Rattle.plansheet.specs.PlanRooms.{RoomFor}

@@ -64,8 +64,7 @@ pub(crate) fn rewrite_key_sheet(sheet: &[u8], out: &mut [u8]) -> Result<usize, R
     put_again(sheet.len(), SheetKind::Key, n, held, out)
 }
 
-// As `rewrite_key_sheet`, but for how many lines there are: eight, where a K sheet's head says it. One function of both would choose that
-// number, and what it promises, by the kind, and have nothing of its own beside.
+// The same of an I sheet, whose lines are eight.
 pub(crate) fn rewrite_join_sheet(sheet: &[u8], out: &mut [u8]) -> Result<usize, Refused>
     ensures { Writes (within (length out.old) (join_again (read_join_sheet sheet.now))) result out.old out.new }
 {

@@ -1,4 +1,6 @@
--- What the reading functions are given and answer: a line's description as rows of numbers, the number of a line, and rows that are left in the room lent.
+-- What the reading functions are given and answer: a line's description as rows of numbers, the number of a line,
+-- and rows that are left in the room lent.
+-- Renders document 01, "Where a sheet is turned back": the rows with place Line.
 use Rattle.std.specs.Prelude.{◌≡◌, ℕ, ◌+◌, ◌≤◌, List, [], ◌∷◌, map, cond, not, ◌&&◌, ◌||◌, eqb, leb, ltb, length, get_or, drop}
 use Rattle.std.proofs.lemmas.List.Edits.{sets}
 use Rattle.text.specs.declared.field.Field.{Field}
