@@ -50,19 +50,19 @@ uint64_t lochkave_decide(const uint8_t *sheet, size_t sheet_len, uint8_t *out, s
  * room is shorter than in `lochkave_room`, the result is the same, in rooms of the function's own. What the rooms hold before and after a
  * call is of no account. They must not overlap each other, the sheet or the output, and several threads need rooms of their own.
  */
-uint64_t lochkave_decide_in(const uint8_t *sheet, size_t sheet_len, uint64_t (*fields)[2], size_t fields_len, uint64_t (*rules)[2],
-                            size_t rules_len, uint64_t (*lists)[64], size_t lists_len, uint64_t (*rows)[11], size_t rows_len,
-                            uint64_t (*xs)[13], size_t xs_len, uint64_t (*mid)[11], size_t mid_len, uint64_t (*dst)[11], size_t dst_len,
-                            uint64_t *masks, size_t masks_len, uint64_t *index, size_t index_len, uint8_t *out, size_t out_len);
+uint64_t lochkave_decide_in(const uint8_t *sheet, size_t sheet_len, uint64_t (*fields)[2], size_t fields_len, uint64_t (*lists)[64],
+                            size_t lists_len, uint64_t (*rows)[11], size_t rows_len, uint64_t (*xs)[13], size_t xs_len,
+                            uint64_t (*mid)[11], size_t mid_len, uint64_t (*dst)[11], size_t dst_len, uint64_t *masks, size_t masks_len,
+                            uint64_t *index, size_t index_len, uint8_t *out, size_t out_len);
 
 /* Rooms that suffice for every sheet. */
 typedef struct lochkave_room {
-    uint64_t fields[256][2], rules[32][2], lists[17][64], rows[256][11], xs[128][13], mid[258][11], dst[536][11], masks[256], index[129];
+    uint64_t fields[256][2], lists[17][64], rows[256][11], xs[128][13], mid[258][11], dst[536][11], masks[256], index[129];
 } lochkave_room;
 
 static inline uint64_t lochkave_decide_lent(lochkave_room *room, const uint8_t *sheet, size_t sheet_len, uint8_t *out, size_t out_len) {
-    return lochkave_decide_in(sheet, sheet_len, room->fields, 256, room->rules, 32, room->lists, 17, room->rows, 256, room->xs, 128,
-                              room->mid, 258, room->dst, 536, room->masks, 256, room->index, 129, out, out_len);
+    return lochkave_decide_in(sheet, sheet_len, room->fields, 256, room->lists, 17, room->rows, 256, room->xs, 128, room->mid, 258,
+                              room->dst, 536, room->masks, 256, room->index, 129, out, out_len);
 }
 
 /* Decides a K sheet: `adjust_input_keys_ordering`. Any other first line is refusal 1 on line 1. */

@@ -1,14 +1,15 @@
 // What the programs share: how they read their input, the rooms that they lend, and what an entry point's answer says.
 #![tactic(auto)]
 
-ghost use Rattle.std.specs.Prelude.{◌≡◌, ◌≤◌, ◌<◌, ◌/◌, ◌%◌, IfOk, length, take};
+ghost use Rattle.std.specs.Prelude.{◌≡◌, ◌≤◌, ◌<◌, ◌/◌, ◌%◌, IfOk, length, replicate, take};
 ghost use Rattle.std.specs.Io.KnownBytes.{Consumes, IsAtEnd};
 
 use std::io::Read;
 use std::{fmt, io};
 
+// A room of zeros.
 pub fn buffer<const N: usize>() -> [u8; N]
-    ensures { N ≡ length result }
+    ensures { result ≡ replicate N 0 }
 {
     [0; N]
 }
@@ -20,7 +21,7 @@ pub fn read_full<R: Read>(input: &mut R, room: &mut [u8]) -> io::Result<usize>
     ensures whole { IfOk result (λ n. n < length room.new → IsAtEnd (R.remaining input.new)) }
 {
     let mut done: usize = 0;
-    // No `for`: a read takes as many bytes as it gets.
+    // A read takes as many bytes as it gets.
     while done < room.len() {
         let n = input.read(&mut room[done..])?;
         if n == 0 {

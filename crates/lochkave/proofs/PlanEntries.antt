@@ -1,7 +1,7 @@
 -- What an entry point returns and leaves of a D sheet, by what was read of it.
 -- Assumes nothing.
-use Prim.Native.Nat.{ℕ, ◌≤◌}
-use mathlib.Core.Path.{◌≡◌, refl, sym, ap, ◌∙◌}
+use Prim.Native.Nat.{ℕ}
+use mathlib.Core.Path.{◌≡◌, refl}
 use mathlib.Core.List.{List}
 use native.Mathlib.Omega.{arith}
 use lib.ListN.{length}
@@ -16,29 +16,27 @@ use Rattle.std.specs.Prelude.{Result, Ok, Err}
 use Rattle.plansheet.specs.PlanSheets.{PlanSheet, child_count, read_plan}
 use Rattle.plansheet.specs.PlanTexts.{plan_text}
 use Rattle.plansheet.specs.PlanRooms.{plan_by, PlanHeld}
-use Rattle.plantheorems.proofs.PlanRoundTrip.{plan_written_again}
 use Rattle.plantheorems.proofs.PlanSizes.{read_sizes}
 use Rattle.plananswer.specs.PlanTexts.{distributed}
 use Rattle.plananswer.specs.PlanDecision.{plan_decision}
 use Rattle.lochkave.specs.Entry.{plan_again}
-use Rattle.lochkave.specs.PlanHeld.{Holds, Held, HeldLong, four}
+use Rattle.lochkave.specs.PlanHeld.{Holds, four}
 use Rattle.lochkave.proofs.Entries.{WasTurned}
-use Rattle.lochkave.proofs.PlanLent.{lent_text}
 
 pub plan_was_turned : (r : Reading PlanSheet) (p : Result P.Plan Refused) (f : Refused) → p ≡ plan_by r → p ≡ Err f → WasTurned r f
 plan_was_turned (sheet x) p f e g = let z : ◌≡◌ {A = ℕ} 0 1 = cc in absurd (omega arith)
 plan_was_turned (turned n l) p f e g = record { number = n; line = l; is = refl; same = cc }
 
 -- the sheet that was read, with the numbers told of it
-pub record WasHeld (r : Reading PlanSheet) (s : Settings) (k c n : ℕ) : Type 0 where
-  pub x : PlanSheet
-  pub is : r ≡ sheet x
-  pub settings : s ≡ x.settings
-  pub lines : k ≡ length (flatten x.plan)
-  pub children : c ≡ child_count x.plan
-  pub rows : n ≡ length x.facts.rows
+record WasHeld (r : Reading PlanSheet) (s : Settings) (k c n : ℕ) : Type 0 where
+  x : PlanSheet
+  is : r ≡ sheet x
+  settings : s ≡ x.settings
+  lines : k ≡ length (flatten x.plan)
+  children : c ≡ child_count x.plan
+  rows : n ≡ length x.facts.rows
 
-pub plan_was_held : (r : Reading PlanSheet) (p : Result P.Plan Refused) (d : P.Plan) → p ≡ plan_by r → p ≡ Ok d → WasHeld r d.settings d.lines d.children d.rows
+plan_was_held : (r : Reading PlanSheet) (p : Result P.Plan Refused) (d : P.Plan) → p ≡ plan_by r → p ≡ Ok d → WasHeld r d.settings d.lines d.children d.rows
 plan_was_held (turned n l) p d e f = let z : ◌≡◌ {A = ℕ} 0 1 = cc in absurd (omega arith)
 plan_was_held (sheet y) p d e f = record { x = y; is = refl; settings = cc; lines = cc; children = cc; rows = cc }
 
@@ -57,30 +55,9 @@ module _ (bytes : List ℕ) where
   pub again_held : (x : PlanSheet) → read_plan bytes ≡ sheet x → plan_again (read_plan bytes) ≡ wrote (plan_text x)
   again_held x e = rw e
 
-  -- ---- in the rooms
+-- ---- in the rooms
 
-  module _ (s : Settings) (k c n : ℕ) (w : WasHeld (read_plan bytes) s k c n) (tree : List (List ℕ)) (node : List ℕ) (facts xs : List (List ℕ)) (masks index : List ℕ)
-      (held : (x : PlanSheet) → read_plan bytes ≡ sheet x → PlanHeld x tree node facts xs masks index) where
-    pub room_holds : Holds w.x s k c n tree node facts xs masks index
-    room_holds =
-        record {
-          held = held w.x w.is;
-          sized = read_sizes bytes w.x w.is;
-          settings = w.settings;
-          lines = w.lines;
-          children = w.children;
-          rows = w.rows;
-        }
-
-    pub room_held : 8 ≤ length facts → 256 ≤ length masks → Held s k c n tree node facts xs masks index
-    room_held r m = record { sheet = w.x; is = room_holds; roomy = r; masked = m }
-
-    pub room_long : 8 ≤ length facts → 256 ≤ length masks → HeldLong s k c n tree node facts xs masks index (length bytes)
-    unfolding room_held
-    room_long r m = record { held = room_held r m; long = sym (ap length (plan_written_again bytes w.x w.is)) }
-
--- only the front of that room counts
-pub held_four :
+held_four :
     (x : PlanSheet) (tree : List (List ℕ)) (node : List ℕ) (facts xs : List (List ℕ)) (masks index : List ℕ) →
     PlanHeld x tree node facts xs masks index → PlanHeld x tree (four node) facts xs masks index
 held_four x tree node facts xs masks index h = record {
@@ -95,8 +72,27 @@ held_four x tree node facts xs masks index h = record {
   bits = h.bits;
 }
 
--- the rooms have one text
-pub one_text : (x y : PlanSheet) (s : Settings) (k c n : ℕ) (tree : List (List ℕ)) (node : List ℕ) (facts xs : List (List ℕ)) (masks index : List ℕ)
-    → Holds x s k c n tree node facts xs masks index → Holds y s k c n tree node facts xs masks index → plan_text x ≡ plan_text y
-one_text x y s k c n tree node facts xs masks index h g =
-    sym (lent_text x s k c n tree node facts xs masks index h) ∙ lent_text y s k c n tree node facts xs masks index g
+-- the sheet that was read stands there; of the room for the B line the front counts
+pub record InRooms (bytes : List ℕ) (p : P.Plan) (tree : List (List ℕ)) (node : List ℕ) (facts xs : List (List ℕ)) (masks index : List ℕ) : Type 0 where
+  pub x : PlanSheet
+  pub is : read_plan bytes ≡ sheet x
+  pub holds : Holds x p.settings p.lines p.children p.rows tree (four node) facts xs masks index
+
+pub in_rooms :
+    (bytes : List ℕ) (q : Result P.Plan Refused) (p : P.Plan) → q ≡ plan_by (read_plan bytes) → q ≡ Ok p →
+    (tree : List (List ℕ)) (node : List ℕ) (facts xs : List (List ℕ)) (masks index : List ℕ) →
+    ((x : PlanSheet) → read_plan bytes ≡ sheet x → PlanHeld x tree node facts xs masks index) → InRooms bytes p tree node facts xs masks index
+in_rooms bytes q p e g tree node facts xs masks index held =
+    let w = plan_was_held (read_plan bytes) q p e g in
+    record {
+      x = w.x;
+      is = w.is;
+      holds = record {
+        held = held_four w.x tree node facts xs masks index (held w.x w.is);
+        sized = read_sizes bytes w.x w.is;
+        settings = w.settings;
+        lines = w.lines;
+        children = w.children;
+        rows = w.rows;
+      };
+    }

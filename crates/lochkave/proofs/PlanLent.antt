@@ -19,6 +19,7 @@ use Rattle.ensure.specs.Lent.{Sheet}
 use Rattle.plansheet.specs.PlanLines.{two_to}
 use Rattle.plansheet.specs.PlanSheets.{PlanSheet}
 use Rattle.plansheet.specs.PlanTexts.{plan_text}
+use Rattle.plansheet.proofs.FineLines.{two_small}
 use Rattle.plananswer.specs.SheetTexts.{sheet_rows_text}
 use Rattle.plananswer.proofs.SheetRows.{rows_sheet}
 use Rattle.plantheorems.proofs.TreeLaw.{worked_same}
@@ -29,27 +30,13 @@ few_entries [] h i l = absurd (omega arith)
 few_entries (f ∷ fs) h zero l = h.0
 few_entries (f ∷ fs) h (suc i) l = few_entries fs h.1 i (omega arith)
 
--- how many sets eight children have, at most
-sets_most : (k : ℕ) → k ≤ 8 → two_to k ≤ 256
-unfolding two_to
-sets_most zero h = omega arith
-sets_most (suc zero) h = omega arith
-sets_most (suc (suc zero)) h = omega arith
-sets_most (suc (suc (suc zero))) h = omega arith
-sets_most (suc (suc (suc (suc zero)))) h = omega arith
-sets_most (suc (suc (suc (suc (suc zero))))) h = omega arith
-sets_most (suc (suc (suc (suc (suc (suc zero)))))) h = omega arith
-sets_most (suc (suc (suc (suc (suc (suc (suc zero))))))) h = omega arith
-sets_most (suc (suc (suc (suc (suc (suc (suc (suc zero)))))))) h = omega arith
-sets_most (suc (suc (suc (suc (suc (suc (suc (suc (suc k))))))))) h = absurd (omega arith)
-
-module _ (x : PlanSheet) (s : Settings) (k c n : ℕ) (rows : List (List ℕ)) (node : List ℕ) (facts xs : List (List ℕ)) (masks index : List ℕ)
+module _ {x : PlanSheet} {s : Settings} {k c n : ℕ} {rows : List (List ℕ)} {node : List ℕ} {facts xs : List (List ℕ)} {masks index : List ℕ}
     (h : Holds x s k c n rows node facts xs masks index) where
   pub lent_few : c ≤ 8
   lent_few = omega (arith, h.children, h.held.few)
 
   pub lent_sets : 256 ≤ length masks → two_to c ≤ length masks
-  lent_sets m = omega (arith, sets_most c lent_few)
+  lent_sets m = omega (arith, two_small c lent_few)
 
   front : take k rows ≡ flatten x.plan
   front = ap (take k) h.held.stands ∙ take_at (flatten x.plan) h.held.rest k (sym h.lines)

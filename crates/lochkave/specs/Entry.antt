@@ -1,5 +1,6 @@
 -- What the entry points decide on a sheet's bytes, and with so much room for the output.
--- Renders document 01, "The Rust harness calls the decisions on byte slices", refusal 12, and demand 2, "Sheets written from a read sheet have the same bytes".
+-- Renders document 01, "The Rust harness calls the decisions on byte slices", refusal 12, and demand 2,
+-- "Sheets written from a read sheet have the same bytes".
 use Rattle.std.specs.Prelude.{ℕ, List, cond, eqb, get_or}
 use Rattle.keys.specs.Adjust.{KeySheet}
 use Rattle.linekinds.specs.declared.lists.SheetKind.{SheetKind}

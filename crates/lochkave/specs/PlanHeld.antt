@@ -1,4 +1,5 @@
 -- A D sheet in the rooms that an entry point has for it.
+-- Renders document 01, "Exchange sheet": "256 T lines", "8 children a node".
 use Rattle.std.specs.Prelude.{ℕ, ◌≤◌, ◌<◌, ◌≡◌, List, [], ◌∷◌, length, get_or, take}
 use Rattle.exchange.specs.declared.settings.Settings.{Settings}
 use Rattle.exchange.specs.FactRows.{child_facts}
@@ -6,7 +7,6 @@ use Rattle.exchange.specs.Found.{index_of}
 use Rattle.exchange.specs.Rows.{flatten}
 use Rattle.plansheet.specs.PlanLines.{two_to}
 use Rattle.plansheet.specs.PlanSheets.{PlanSheet, child_count}
-use Rattle.plansheet.specs.PlanTexts.{plan_text}
 use Rattle.plansheet.specs.PlanRooms.{PlanHeld}
 use Rattle.plantheorems.specs.PlanSizes.{SizedPlan}
 
@@ -27,18 +27,6 @@ pub record FactsIn (c n : ℕ) (facts xs : List (List ℕ)) (masks index : List 
   pub masked : two_to c ≤ length masks
   pub ordered : (k : ℕ) → k < c → (child_facts (get_or facts k [])).entries ≤ 8
   pub indexed : index ≡ index_of (take n xs)
-
--- some sheet does, in rooms for eight children and the masks of their sets
-pub record Held (s : Settings) (k c n : ℕ) (tree : List (List ℕ)) (node : List ℕ) (facts xs : List (List ℕ)) (masks index : List ℕ) : Type 0 where
-  pub sheet : PlanSheet
-  pub is : Holds sheet s k c n tree node facts xs masks index
-  pub roomy : 8 ≤ length facts
-  pub masked : 256 ≤ length masks
-
--- and its text has so many bytes
-pub record HeldLong (s : Settings) (k c n : ℕ) (tree : List (List ℕ)) (node : List ℕ) (facts xs : List (List ℕ)) (masks index : List ℕ) (bytes : ℕ) : Type 0 where
-  pub held : Held s k c n tree node facts xs masks index
-  pub long : bytes ≡ length (plan_text held.sheet)
 
 -- the numbers of the B line, from the front of the room for them
 abbrev pub four : List ℕ → List ℕ

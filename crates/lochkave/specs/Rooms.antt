@@ -1,4 +1,5 @@
 -- The rooms that a decision is made in.
+-- Renders document 01, "Exchange sheet": "256 T lines", "8 children a node".
 use Rattle.std.specs.Prelude.{ℕ, ◌+◌, ◌*◌, ◌≤◌, ◌≡◌, Bool, true, List, length}
 use Rattle.sheet.specs.SheetLines.{Full}
 use Rattle.plansheet.specs.PlanRooms.{RoomFor}
@@ -20,10 +21,9 @@ pub record PlanRooms (bytes fields rows xs mid dst masks index : ℕ) : Type 0 w
 abbrev pub Decides : Bool → Type 0 → Type 0
 Decides b p = (b ≡ true → p) × (p → b ≡ true)
 
--- the fields of a line, and the rules and lists of K and I sheets
-pub record KeyRooms (fields rules : ℕ) (lists : List (List ℕ)) : Type 0 where
+-- the fields of a line, and the lists of K and I sheets
+pub record KeyRooms (fields : ℕ) (lists : List (List ℕ)) : Type 0 where
   pub wide : 256 ≤ fields
-  pub ruled : 32 ≤ rules
   pub many : 17 ≤ length lists
   pub full : Full lists
 

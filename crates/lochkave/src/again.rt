@@ -9,6 +9,10 @@ ghost use Rattle.plananswer.specs.SheetTexts.{sheet_rows_text};
 ghost use Rattle.lochkave.specs.Entry.{key_again, join_again, plan_again};
 
 use crate::plan::{Held, held_sheet};
+use crate::rooms::{
+    CHILDREN, FIELDS, HEAD, INDEX, JOIN_LISTS, KEY_FIELDS, LISTS, MASKS, NODE, ROWS, XS,
+};
+use exchange::{fact, row, status};
 use linekinds::lists::SheetKind;
 use lines::sheet_text::put_sheet;
 use plananswer::sheet_text::{SheetRows, put_plan_sheet};
@@ -17,6 +21,13 @@ use plansheet::rooms::SheetRooms;
 use refusals::{Refusal, Refused};
 use sheet::held::Lists;
 use sheet::sheets::read_sheet;
+
+// The lines of a K sheet before its children's, and where its head counts these.
+const KEY_LINES: usize = 9;
+
+const HEAD_LINE: usize = 0;
+
+const CHILD_COUNT: usize = 6;
 
 // The sheet that is held, at the front of the output, where there is room for its bytes.
 fn put_again(
@@ -40,13 +51,12 @@ fn put_again(
 pub(crate) fn rewrite_key_sheet(sheet: &[u8], out: &mut [u8]) -> Result<usize, Refused>
     ensures { Writes (within (length out.old) (key_again (read_key_sheet sheet.now))) result out.old out.new }
 {
-    let mut rows = [[0u64; 2]; 192];
-    let mut lists = [[0u64; 64]; 17];
-    // Beside rooms of 64 numbers, how many of each are the line's: see `Lists`.
-    let mut counts = [0usize; 17];
+    let mut rows = [[0u64; 2]; KEY_FIELDS];
+    let mut lists = [[0u64; 64]; LISTS];
+    let mut counts = [0usize; LISTS];
     read_sheet(sheet, SheetKind::Key, &mut rows, &mut lists, &mut counts)?;
-    // Nine lines, and one for each child, which the head counts. No From goes from u64 to usize.
-    let n = 9 + lists[0][6] as usize;
+    // No From goes from u64 to usize.
+    let n = KEY_LINES + lists[HEAD_LINE][CHILD_COUNT] as usize;
     let held = Lists {
         lists: &lists,
         counts: &counts,
@@ -54,21 +64,19 @@ pub(crate) fn rewrite_key_sheet(sheet: &[u8], out: &mut [u8]) -> Result<usize, R
     put_again(sheet.len(), SheetKind::Key, n, held, out)
 }
 
-// As `rewrite_key_sheet`, but for how many lines there are: eight, where a K sheet's head says it. One function of both would choose that
-// number, and what it promises, by the kind, and have nothing of its own beside.
+// The same of an I sheet, whose lines are eight.
 pub(crate) fn rewrite_join_sheet(sheet: &[u8], out: &mut [u8]) -> Result<usize, Refused>
     ensures { Writes (within (length out.old) (join_again (read_join_sheet sheet.now))) result out.old out.new }
 {
-    let mut rows = [[0u64; 2]; 192];
-    let mut lists = [[0u64; 64]; 8];
-    // As in `rewrite_key_sheet`.
-    let mut counts = [0usize; 8];
+    let mut rows = [[0u64; 2]; KEY_FIELDS];
+    let mut lists = [[0u64; 64]; JOIN_LISTS];
+    let mut counts = [0usize; JOIN_LISTS];
     read_sheet(sheet, SheetKind::Join, &mut rows, &mut lists, &mut counts)?;
     let held = Lists {
         lists: &lists,
         counts: &counts,
     };
-    put_again(sheet.len(), SheetKind::Join, 8, held, out)
+    put_again(sheet.len(), SheetKind::Join, JOIN_LISTS, held, out)
 }
 
 // The same of a D sheet. `put_again`, this one and `write_plan` each put other lines:
@@ -86,14 +94,14 @@ fn put_plan_again(bytes: usize, held: SheetRows, out: &mut [u8]) -> Result<usize
 pub(crate) fn rewrite_plan_sheet(sheet: &[u8], out: &mut [u8]) -> Result<usize, Refused>
     ensures { Writes (within (length out.old) (plan_again (read_plan sheet.now))) result out.old out.new }
 {
-    let mut fields = [[0u64; 2]; 256];
-    let mut head = [0u64; 9];
-    let mut rows = [[0u64; 11]; 256];
-    let mut node = [0u64; 4];
-    let mut facts = [[0u64; 7]; 8];
-    let mut xs = [[0u64; 13]; 128];
-    let mut masks = [0u64; 256];
-    let mut index = [0u64; 129];
+    let mut fields = [[0u64; 2]; FIELDS];
+    let mut head = [0u64; HEAD];
+    let mut rows = [[0u64; row::WIDTH]; ROWS];
+    let mut node = [0u64; NODE];
+    let mut facts = [[0u64; status::WIDTH]; CHILDREN];
+    let mut xs = [[0u64; fact::WIDTH]; XS];
+    let mut masks = [0u64; MASKS];
+    let mut index = [0u64; INDEX];
     let mut lent = SheetRooms {
         fields: &mut fields,
         head: &mut head,

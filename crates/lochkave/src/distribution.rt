@@ -5,8 +5,10 @@ ghost use Rattle.lochkave.specs.Entry.{distribution_outcome};
 ghost use Rattle.lochkave.specs.Rooms.{PlanRooms};
 
 use crate::plan::{Held, answer_plan, held_sheet};
+use crate::rooms::{CHILDREN, DST, FIELDS, HEAD, INDEX, MASKS, MID, NODE, ROWS, XS};
 use exchange::fact::FactRow;
 use exchange::row::Row;
+use exchange::{fact, row, status};
 use plansheet::plan::read_plan;
 use plansheet::rooms::SheetRooms;
 use refusals::Refused;
@@ -42,9 +44,9 @@ pub(crate) fn distribute_in(sheet: &[u8], lent: TreeRooms, out: &mut [u8]) -> Re
         masks,
         index,
     } = lent;
-    let mut head = [0u64; 9];
-    let mut node = [0u64; 4];
-    let mut facts = [[0u64; 7]; 8];
+    let mut head = [0u64; HEAD];
+    let mut node = [0u64; NODE];
+    let mut facts = [[0u64; status::WIDTH]; CHILDREN];
     let mut lent = SheetRooms {
         fields,
         head: &mut head,
@@ -56,8 +58,7 @@ pub(crate) fn distribute_in(sheet: &[u8], lent: TreeRooms, out: &mut [u8]) -> Re
         index,
     };
     match read_plan(sheet, &mut lent) {
-        // Not by `?`: tried with the rooms moved out of `lent` (the checker says that they have to come back) and with them reborrowed (it
-        // does not cover the function then).
+        // Not by `?`: the rooms are moved out of `lent` afterwards.
         Err(refused) => return Err(refused),
         Ok(p) => {
             let Held { tree, facts } = held_sheet(p, lent);
@@ -67,21 +68,21 @@ pub(crate) fn distribute_in(sheet: &[u8], lent: TreeRooms, out: &mut [u8]) -> Re
 }
 
 // The same in rooms for so many rows of the tree, X rows, and rows between and of the answer.
-fn distribute_sized<const ROWS: usize, const XS: usize, const MID: usize, const DST: usize>(
+fn distribute_sized<const R: usize, const X: usize, const M: usize, const D: usize>(
     sheet: &[u8],
     out: &mut [u8],
 ) -> Result<usize, Refused>
-    requires rooms { PlanRooms (length sheet.now) 256 ROWS XS MID DST 256 129 }
-    requires few { (XS ≤ 128) × (MID ≤ 258) }
+    requires rooms { PlanRooms (length sheet.now) 256 R X M D 256 129 }
+    requires few { (X ≤ 128) × (M ≤ 258) }
     ensures { Writes (distribution_outcome sheet.now (length out.old)) result out.old out.new }
 {
-    let mut fields = [[0u64; 2]; 256];
-    let mut rows = [[0u64; 11]; ROWS];
-    let mut xs = [[0u64; 13]; XS];
-    let mut mid = [[0u64; 11]; MID];
-    let mut dst = [[0u64; 11]; DST];
-    let mut masks = [0u64; 256];
-    let mut index = [0u64; 129];
+    let mut fields = [[0u64; 2]; FIELDS];
+    let mut rows = [[0u64; row::WIDTH]; R];
+    let mut xs = [[0u64; fact::WIDTH]; X];
+    let mut mid = [[0u64; row::WIDTH]; M];
+    let mut dst = [[0u64; row::WIDTH]; D];
+    let mut masks = [0u64; MASKS];
+    let mut index = [0u64; INDEX];
     let lent = TreeRooms {
         fields: &mut fields,
         rows: &mut rows,
@@ -104,5 +105,5 @@ pub(crate) fn distribute(sheet: &[u8], out: &mut [u8]) -> Result<usize, Refused>
     if sheet.len() < MIDDLE {
         return distribute_sized::<128, 78, 130, 280>(sheet, out);
     }
-    distribute_sized::<256, 128, 258, 536>(sheet, out)
+    distribute_sized::<ROWS, XS, MID, DST>(sheet, out)
 }

@@ -14,7 +14,7 @@ use sheet::sheets::read_sheet;
 // So many bytes of output suffice for every answer.
 const ANSWER_MOST: usize = 65536;
 
-// A sheet of that kind, of at most N lists. C lends the rooms, of any length, so that conditions say how long they are.
+// A sheet of that kind, of at most N lists.
 pub(crate) fn decide_lists<const N: usize>(
     sheet: &[u8],
     kind: SheetKind,
@@ -26,7 +26,6 @@ pub(crate) fn decide_lists<const N: usize>(
     requires lists { (most_lists kind ≤ length lists.old) × (most_lists kind ≤ N) × (N ≤ 17) }
     ensures { Writes (within (length out.old) (lists_decision kind sheet.now)) result out.old out.new }
 {
-    // Beside rooms of 64 numbers, how many of each are the line's: see `Lists`.
     let mut counts = [0usize; N];
     read_sheet(sheet, kind, fields, &mut *lists, &mut counts)?;
     let roomy = out.len() >= ANSWER_MOST;

@@ -6,7 +6,7 @@ mod again;
 mod distribution;
 mod kinds;
 mod plan;
-mod rooms;
+pub mod rooms;
 
 ghost use Rattle.std.specs.Prelude.{◌≡◌, length, get_or};
 ghost use Rattle.sheet.specs.Outcomes.{answer, after};
@@ -15,7 +15,7 @@ ghost use Rattle.lochkave.specs.Entry.{outcome, adjust_outcome, inputs_outcome, 
 use crate::again::{rewrite_join_sheet, rewrite_key_sheet, rewrite_plan_sheet};
 use crate::distribution::{TreeRooms, distribute, distribute_in};
 use crate::kinds::decide_lists;
-use crate::rooms::{keys_fit, trees_fit};
+use crate::rooms::{DST, INDEX, JOIN_LISTS, KEY_FIELDS, LISTS, ROWS, keys_fit, trees_fit};
 use linekinds::lists::SheetKind;
 use refusals::word;
 
@@ -25,20 +25,20 @@ pub extern "C" fn lochkave_adjust_input_keys_ordering(sheet: &[u8], out: &mut [u
     ensures result { result ≡ answer (adjust_outcome sheet.now (length out.old)) }
     ensures bytes { out.new ≡ after (adjust_outcome sheet.now (length out.old)) out.old }
 {
-    let mut fields = [[0u64; 2]; 192];
-    let mut lists = [[0u64; 64]; 17];
-    word(decide_lists::<17>(sheet, SheetKind::Key, &mut fields, &mut lists, out))
+    let mut fields = [[0u64; 2]; KEY_FIELDS];
+    let mut lists = [[0u64; 64]; LISTS];
+    word(decide_lists::<LISTS>(sheet, SheetKind::Key, &mut fields, &mut lists, out))
 }
 
-// Decides an I sheet. As the one above, in the rooms of an I sheet: both are exported for C.
+// Decides an I sheet.
 #[unsafe(no_mangle)]
 pub extern "C" fn lochkave_reorder_join_keys_to_inputs(sheet: &[u8], out: &mut [u8]) -> u64
     ensures result { result ≡ answer (inputs_outcome sheet.now (length out.old)) }
     ensures bytes { out.new ≡ after (inputs_outcome sheet.now (length out.old)) out.old }
 {
-    let mut fields = [[0u64; 2]; 192];
-    let mut lists = [[0u64; 64]; 8];
-    word(decide_lists::<8>(sheet, SheetKind::Join, &mut fields, &mut lists, out))
+    let mut fields = [[0u64; 2]; KEY_FIELDS];
+    let mut lists = [[0u64; 64]; JOIN_LISTS];
+    word(decide_lists::<JOIN_LISTS>(sheet, SheetKind::Join, &mut fields, &mut lists, out))
 }
 
 // Decides a D sheet.
@@ -64,7 +64,6 @@ pub extern "C" fn lochkave_decide(sheet: &[u8], out: &mut [u8]) -> u64
     ensures result { result ≡ answer (outcome sheet.now (length out.old)) }
     ensures bytes { out.new ≡ after (outcome sheet.now (length out.old)) out.old }
 {
-    // As in `lochkave_rewrite`, on other functions: both are exported for C, and each names its own three.
     match first_byte(sheet) {
         b'K' => lochkave_adjust_input_keys_ordering(sheet, out),
         b'I' => lochkave_reorder_join_keys_to_inputs(sheet, out),
@@ -73,13 +72,11 @@ pub extern "C" fn lochkave_decide(sheet: &[u8], out: &mut [u8]) -> u64
 }
 
 // The same in rooms that are lent and never cleared; in its own where one of them is too short. What they hold afterwards is of no account.
-// C lends `rules` too, and its length is asked as ever: a rewriting's rows are read where they stand, so nothing is put there.
 #[unsafe(no_mangle)]
 #[tactic(auto, unfolding(crate::specs::Decision::decision))]
 pub extern "C" fn lochkave_decide_in(
     sheet: &[u8],
     fields: &mut [[u64; 2]],
-    rules: &mut [[u64; 2]],
     lists: &mut [[u64; 64]],
     rows: &mut [[u64; 11]],
     xs: &mut [[u64; 13]],
@@ -92,7 +89,7 @@ pub extern "C" fn lochkave_decide_in(
     ensures result { result ≡ answer (outcome sheet.now (length out.old)) }
     ensures bytes { out.new ≡ after (outcome sheet.now (length out.old)) out.old }
 {
-    if !keys_fit(fields.len(), rules.len(), lists) {
+    if !keys_fit(fields.len(), lists) {
         return lochkave_decide(sheet, out);
     }
     if !trees_fit(
@@ -106,17 +103,17 @@ pub extern "C" fn lochkave_decide_in(
         return lochkave_decide(sheet, out);
     }
     word(match first_byte(sheet) {
-        b'K' => decide_lists::<17>(sheet, SheetKind::Key, fields, lists, out),
-        b'I' => decide_lists::<8>(sheet, SheetKind::Join, fields, lists, out),
+        b'K' => decide_lists::<LISTS>(sheet, SheetKind::Key, fields, lists, out),
+        b'I' => decide_lists::<JOIN_LISTS>(sheet, SheetKind::Join, fields, lists, out),
         _ => {
             let lent = TreeRooms {
                 fields,
-                rows: &mut rows[..256],
+                rows: &mut rows[..ROWS],
                 xs,
                 mid,
-                dst: &mut dst[..536],
+                dst: &mut dst[..DST],
                 masks,
-                index: &mut index[..129],
+                index: &mut index[..INDEX],
             };
             distribute_in(sheet, lent, out)
         }

@@ -47,7 +47,6 @@ pub extern "C" fn lochkave_decide(sheet: &[u8], out: &mut [u8]) -> u64
 pub extern "C" fn lochkave_decide_in(
     sheet: &[u8],
     fields: &mut [[u64; 2]],
-    rules: &mut [[u64; 2]],
     lists: &mut [[u64; 64]],
     rows: &mut [[u64; 11]],
     xs: &mut [[u64; 13]],
@@ -60,9 +59,7 @@ pub extern "C" fn lochkave_decide_in(
     ensures result { result ≡ answer (outcome sheet.now (length out.old)) }
     ensures bytes { out.new ≡ after (outcome sheet.now (length out.old)) out.old }
 {
-    lochkave::lochkave_decide_in(
-        sheet, fields, rules, lists, rows, xs, mid, dst, masks, index, out,
-    )
+    lochkave::lochkave_decide_in(sheet, fields, lists, rows, xs, mid, dst, masks, index, out)
 }
 
 // Reads a sheet and writes it again from what was read.

@@ -2,7 +2,7 @@
 -- Assumes nothing.
 use mathlib.Core.Path.{◌≡◌, refl, sym, ap, ap₂, ◌∙◌}
 use mathlib.Core.List.{List, [], ◌∷◌, ◌++◌, map, append-nil}
-use Prim.Native.Nat.{ℕ, zero, suc, ◌+◌}
+use Prim.Native.Nat.{ℕ, zero, suc, ◌+◌, ◌≤◌}
 use native.Mathlib.Omega.{arith}
 use lib.ListN.{length, get_or, drop}
 use lib.Seq.{drop-cons}
@@ -16,24 +16,27 @@ use Rattle.exchange.specs.Trees.{Plan}
 use Rattle.exchange.specs.Rows.{flatten}
 use Rattle.exchange.specs.Facts.{ChildFacts, Row}
 use Rattle.exchange.specs.FactRows.{node_facts, child_facts, fact_row}
-use Rattle.lines.proofs.Pieces.{joined}
+use Rattle.lines.proofs.Pieces.{Due, due_all}
 use Rattle.plananswer.specs.RowTexts.{lines_of}
 use Rattle.plansheet.specs.PlanTexts.{lines_text, number_fields, settings_numbers, row_fields, node_numbers, child_numbers, row_numbers, child_fields, fact_fields, facts_text, plan_text}
 use Rattle.plananswer.specs.SheetTexts.{tree_row_line, child_row_line, fact_row_line, sheet_rows_text}
 
--- what the text is made of
-pub sheet_parts :
-    (s : Settings) (tree : List (List ℕ)) (b : List ℕ) (children facts : List (List ℕ)) (masks : List ℕ) →
-    sheet_rows_text s tree b children facts masks
-    ≡ joined (numbers_line 68 (settings_numbers s)
-    ∷ lines_of tree_row_line tree
-    ∷ numbers_line 66 (node_numbers (node_facts b))
-    ∷ lines_of child_row_line children
-    ∷ lines_of fact_row_line facts
-    ∷ numbers_line 89 masks
-    ∷ [])
-unfolding sheet_rows_text
-sheet_parts s tree b children facts masks = rw (append-nil (numbers_line 89 masks))
+-- what the text is made of: its lines D, T, B, F, X and Y, one after another
+module _ (s : Settings) (tree : List (List ℕ)) (b : List ℕ) (children facts : List (List ℕ)) (masks : List ℕ) where
+  abbrev pub sheet_parts : List (List ℕ)
+  sheet_parts =
+      numbers_line 68 (settings_numbers s)
+      ∷ lines_of tree_row_line tree
+      ∷ numbers_line 66 (node_numbers (node_facts b))
+      ∷ lines_of child_row_line children
+      ∷ lines_of fact_row_line facts
+      ∷ numbers_line 89 masks
+      ∷ []
+
+  -- where there is room for the text, all of them are to be written
+  pub sheet_due : (out : List ℕ) (at : ℕ) → at + length (sheet_rows_text s tree b children facts masks) ≤ length out → Due out at (sheet_rows_text s tree b children facts masks) out at sheet_parts
+  unfolding sheet_rows_text
+  sheet_due out at room = due_all out at (rw (append-nil (numbers_line 89 masks))) room
 
 -- ---- rows of numbers as the lines of their numbers
 

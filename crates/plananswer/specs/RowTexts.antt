@@ -1,5 +1,6 @@
 -- Cited by the contracts: lines from rows, and the answer's text from the numbers of its d line and the rows of its tree.
 -- That the rows of a tree give its lines is proved in proofs/RowLines.antt.
+-- Renders document 01, "then `t,id,kind,count,keeps,limit,order,mask,tracked,children`".
 use Rattle.std.specs.Prelude.{ℕ, List, [], ◌∷◌, ◌++◌}
 use Rattle.text.specs.declared.field.Field.{Field}
 use Rattle.sheet.specs.KeyAnswers.{numbers_line}

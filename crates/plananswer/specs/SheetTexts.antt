@@ -1,5 +1,6 @@
--- Cited by the contracts: a D sheet's text from the rows that are held of it. That it is the text of the sheet's value (`plan_text` of crate `plansheet`) is
--- proved in proofs/SheetRows.antt.
+-- Cited by the contracts: a D sheet's text from the rows that are held of it. That it is the text of the sheet's value
+-- (`plan_text` of crate `plansheet`) is proved in proofs/SheetRows.antt.
+-- Renders document 01, "Exchange sheet", and demand 2, "Sheets written from a read sheet have the same bytes".
 use Rattle.std.specs.Prelude.{ℕ, List, ◌++◌}
 use Rattle.text.specs.Write.{line_text}
 use Rattle.sheet.specs.KeyAnswers.{numbers_line}

@@ -1,8 +1,8 @@
 // The answers of D sheets as text, and the sheets written again, from the rows of their trees.
 #![tactic(auto)]
 
-pub mod line;
+mod line;
 pub mod plan;
 mod rows;
-pub mod sheet_line;
+mod sheet_line;
 pub mod sheet_text;

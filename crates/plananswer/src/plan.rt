@@ -11,7 +11,7 @@ use exchange::row::Row;
 use refusals::{Refusal, Refused};
 use text::write::{number_length, put_line};
 
-// The numbers of the d line, as `ensure::Answered` has them beside a count of rows: this crate doesn't see `ensure`.
+// The numbers of the d line.
 #[derive(Clone, Copy, Debug, PartialEq, Eq)]
 pub struct Head {
     pub changed: u64,
@@ -50,7 +50,7 @@ fn lines_length(answer: AnswerRows) -> usize
 
 // The length of the answer.
 #[tactic(auto, unfolding(crate::specs::RowTexts::rows_text))]
-pub fn plan_text_length(head: Head, answer: AnswerRows) -> usize
+fn plan_text_length(head: Head, answer: AnswerRows) -> usize
     ensures { result ≡ length (rows_text head.changed head.window head.interleave head.tracked answer.entry.rows.now) }
 {
     head_length(head) + lines_length(answer)
@@ -71,8 +71,8 @@ fn put_head(out: &mut [u8], at: usize, head: Head) -> usize
     put_line(out, at, b'd', &fields)
 }
 
-// The answer.
-pub fn put_plan(out: &mut [u8], at: usize, head: Head, rows: &[Row]) -> usize
+// Writes the d line and the t lines, and gives the place past them.
+fn put_plan(out: &mut [u8], at: usize, head: Head, rows: &[Row]) -> usize
     requires { at + length (rows_text head.changed head.window head.interleave head.tracked rows.now) ≤ length out.old }
     ensures { Wrote out.old at (rows_text head.changed head.window head.interleave head.tracked rows.now) out.new result }
 {

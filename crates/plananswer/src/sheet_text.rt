@@ -35,7 +35,7 @@ pub struct SheetRows<'a> {
     pub masks: &'a [u64],
 }
 
-// The sheet.
+// Writes the sheet's lines, and gives the place past them.
 pub fn put_plan_sheet(out: &mut [u8], at: usize, sheet: SheetRows) -> usize
     requires { at + length (sheet_rows_text sheet.settings sheet.tree.now sheet.node sheet.children.now sheet.facts.now sheet.masks.now) ≤ length out.old }
     ensures { Wrote out.old at (sheet_rows_text sheet.entry.settings sheet.entry.tree.now sheet.entry.node sheet.entry.children.now sheet.entry.facts.now sheet.entry.masks.now) out.new result }

@@ -23,6 +23,7 @@ use Rattle.std.proofs.lemmas.Bool.{or_parts as either_false}
 use Rattle.std.proofs.Math.Nat.{pow-succ'}
 use Rattle.std.proofs.Math.Pow.{pow_mono}
 use Rattle.sheet.proofs.RowsAgain.{number_at_lem}
+use Rattle.sheet.proofs.Bounded.{number_few}
 use Rattle.plansheet.specs.Shapes.{Shape, over_any, is_none, tree_line, children_at, most_children}
 use Rattle.plansheet.specs.PlanLines.{two_to}
 use Rattle.plansheet.specs.PlanSheets.{operator_row, operator_rows}
@@ -127,21 +128,8 @@ two_power (suc n) = rw (two_power n, pow-succ' 2 n)
 pub two_small : (n : ℕ) → n ≤ 8 → two_to n ≤ 256
 two_small n h = rw (two_power n) (pow_mono {i = n} {j = 8} h)
 
-few_at : (a b c d e : Bool) → cond a (cond b 2 (cond c 3 (cond d 4 (cond e 6 0)))) 2 ≤ 6
-few_at true true c d e = omega arith
-few_at true false true d e = omega arith
-few_at true false false true e = omega arith
-few_at true false false false true = omega arith
-few_at true false false false false = omega arith
-few_at false b c d e = omega arith
-
-pub line_few : (k : Kind) (seen next : ℕ) (x : Option (List Field)) → line_number k seen next x ≤ 6
-unfolding line_number
-line_few k seen next none = omega arith
-line_few k seen next (some fs) = few_at (fields_fit k fs) (k.malformed fs) (ltb most_bytes next || (too_many_entries k fs || k.large seen fs)) (k.undefined fs) (k.unfit fs)
-
 -- a line is turned back as wrong only by its number 1
 pub one_again : (k : Kind) (seen next : ℕ) (x : Option (List Field)) → (line_number k seen next x ≡ 0 → ⊥) → refusal_of (line_number k seen next x) ≡ WrongLine → line_number k seen next x ≡ 1
 one_again k seen next x h e =
     let n : ℕ = line_number k seen next x in
-    sym (number_again n h (omega (arith, line_few k seen next x))) ∙ ap refusal_number e
+    sym (number_again n h (omega (arith, number_few k seen next x))) ∙ ap refusal_number e

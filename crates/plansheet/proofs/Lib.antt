@@ -1,6 +1,8 @@
 pub mod Examples
 pub mod Overs
+pub mod TreeNumbers
 pub mod Shaped
+pub mod PlainLines
 pub mod Turns
 pub mod Mapped
 pub mod PlainTrees
@@ -16,4 +18,6 @@ pub mod Fitting
 pub mod FitTrees
 pub mod Crowded
 pub mod PlanFitted
+pub mod PlanJudged
+pub mod RoomsFilled
 pub mod PlanWhole

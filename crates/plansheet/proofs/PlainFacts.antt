@@ -28,7 +28,8 @@ use Rattle.refusals.specs.declared.Refusal.{Refusal}
 use Rattle.plansheet.specs.Shapes.{over_any, is_none}
 use Rattle.plansheet.specs.PlanLines.{any, fact_shape, fact_line}
 use Rattle.plansheet.specs.PlainFacts.{FactAt, FactFound, FactLeft}
-use Rattle.plansheet.proofs.Shaped.{coming_number, plain_number}
+use Rattle.plansheet.proofs.Shaped.{coming_number}
+use Rattle.plansheet.proofs.PlainLines.{plain_line_number}
 use Rattle.plansheet.proofs.Turns.{turned}
 use Rattle.plansheet.proofs.FineLines.{fine_long, one_none, one_again}
 
@@ -65,7 +66,7 @@ fact_zero :
     (ns : List ℕ) (seen next : ℕ) → length ns ≡ 13 → Small ns → over_any fact_shape.codes ns ≡ false → next ≤ most_bytes →
     line_number fact_line seen next (some (map number ns)) ≡ 0
 fact_zero ns seen next long small coded early =
-    coming_number fact_shape seen next (some (map number ns)) ∙ plain_number 88 13 fact_shape.codes seen next (map number ns)
+    coming_number fact_shape seen next (some (map number ns)) ∙ plain_line_number 88 13 fact_shape.codes seen next (map number ns)
     ∙ rw (length-map ns number, eq-eqb (length ns) 13 long, ← all_largest plain (map number ns), small_plain ns small, le-ltb most_bytes next early, number_values ns, coded)
 
 is_none_lem : (x : Option (List Field)) → is_none x ≡ true → x ≡ none

@@ -25,7 +25,8 @@ use Rattle.plansheet.specs.PlanSheets.{operator_row}
 use Rattle.plansheet.specs.ReadRows.{Bounded, shape_of, tree_number}
 use Rattle.plansheet.specs.PlainTrees.{Wide, PlainCodes, PlainShape, OperatorFits, OperatorHeld, OperatorRead, number_at, tree_row_by}
 use Rattle.plansheet.specs.declared.tree.TreeRow.{TreeRow}
-use Rattle.plansheet.proofs.Shaped.{shape_fine, tree_fit, tree_codes, line_read_lem}
+use Rattle.plansheet.proofs.TreeNumbers.{shape_fine, tree_fit}
+use Rattle.plansheet.proofs.Shaped.{tree_codes, line_read_lem}
 
 -- ---- a line as a row
 

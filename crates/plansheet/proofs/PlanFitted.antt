@@ -7,6 +7,7 @@ use Prim.Native.Nat.{ℕ, ◌+◌, ◌≤◌, ◌<◌}
 use native.Mathlib.Omega.{arith}
 use lib.ListN.{length, take, drop, length-map, length-drop}
 use lib.Seq.{length-take-le}
+use Rattle.exchange.specs.Skeleton.{below}
 use Rattle.exchange.specs.Trees.{node, trees, Operator, Plan, Plans}
 use Rattle.exchange.specs.declared.settings.Settings.{Settings}
 use Rattle.exchange.specs.Facts.{Facts, ChildFacts, Row}
@@ -23,7 +24,7 @@ use Rattle.exchange.proofs.WorkedNode.{worked_at}
 use Rattle.text.specs.declared.field.Field.{Field}
 use Rattle.linekinds.specs.KeyLines.{values}
 use Rattle.plansheet.specs.PlanLines.{two_to}
-use Rattle.plansheet.specs.PlanSheets.{FactLines, children_rows, fact_rows, facts_of, child_count, beneath}
+use Rattle.plansheet.specs.PlanSheets.{FactLines, children_rows, fact_rows, facts_of, child_count}
 use Rattle.plansheet.specs.ReadRows.{number_rows}
 use Rattle.plansheet.specs.PlanRooms.{PlanRooms}
 use Rattle.plansheet.proofs.FitTrees.{worked_fits_lem, fit_all, places_many}
@@ -45,7 +46,7 @@ worked_at_lem : (t u : Plan) (rows : List (List ℕ)) (worked : ℕ) (rest : Lis
 unfolding child_count
 worked_at_lem t (node o ts) rows worked rest e h =
     let q : drop worked rows ≡ row_of o (trees ts) ∷ (flattens ts ++ rest) = h ∙ ap (λ (l : List (List ℕ)). l ++ rest) (flatten_node o ts) in
-    let n : child_count t ≡ trees ts = ap (λ (u : Plan). trees (beneath u)) e in
+    let n : child_count t ≡ trees ts = ap (λ (u : Plan). trees (below u)) e in
     record {
       operator = o;
       below = ts;

@@ -1,4 +1,4 @@
--- A D sheet by its parts: how the tree, the facts and the judgement make what is read, and what stands in the rooms.
+-- A D sheet by its parts: how the tree and the facts make what is read, and what `read_tree_lines` leaves.
 -- Assumes nothing.
 use mathlib.Core.Path.{◌≡◌, refl, sym, ap, ◌∙◌}
 use mathlib.Core.List.{List, [], ◌∷◌, ◌++◌, append-nil}
@@ -6,160 +6,33 @@ use mathlib.Core.Bool.{Bool, true, false, cond}
 use Prim.Native.Nat.{ℕ, suc, ◌+◌, ◌-◌, ◌*◌, ◌≤◌, ◌<◌}
 use native.Mathlib.Omega.{arith}
 use lib.Dec.{eqb}
-use lib.ListN.{length, get_or, take, drop, length-map, get_or-append}
-use lib.Seq.{sets, sets-eq, take_at, length-sets}
+use lib.ListN.{length, get_or, drop, length-map, get_or-append}
+use lib.Seq.{sets}
 use Rattle.text.specs.declared.field.Field.{Field}
 use Rattle.text.specs.Text.{parts, value_of}
 use Rattle.text.specs.Lines.{first_of, next_of}
 use Rattle.exchange.specs.Trees.{Plan}
 use Rattle.exchange.specs.declared.settings.Settings.{Settings}
-use Rattle.std.specs.Prelude.{Some, None}
-use Rattle.exchange.specs.Settings.{settings_fit, checked}
-use Rattle.exchange.specs.Facts.{Facts}
-use Rattle.exchange.specs.FactRows.{node_facts, fact_row}
-use Rattle.exchange.specs.Fit.{facts_fit}
 use Rattle.exchange.specs.Rows.{children_of, flatten}
 use Rattle.exchange.specs.Worked.{removed}
-use Rattle.exchange.specs.Found.{index_of}
 use Rattle.linekinds.specs.Lines.{Run, read, refused, before, line_number, fields_of, rows_of}
 use Rattle.linekinds.specs.KeyLines.{values}
 use Rattle.sheet.specs.KeySheets.{Reading, sheet, turned, head_of}
 use Rattle.plansheet.specs.Shapes.{Shape, fixed_line}
-use Rattle.plansheet.specs.PlanLines.{settings_shape, settings_line, tree_shape, child_rules, most_lines, plan_line, two_to}
-use Rattle.plansheet.specs.PlanSheets.{PlanSheet, FactLines, settings_of, operator_rows, plan_of, child_count, fact_rows, facts_of, plan_sheet, judged_plan, with_facts, with_rows, read_facts, read_plan}
-use Rattle.plansheet.specs.ReadRows.{number_rows, rows_by}
-use Rattle.plansheet.specs.ReadPlans.{then_run, tree_run, head_line, facts_by, FactsHeld, TreeHeld, TreeLeft}
-use Rattle.plansheet.specs.PlanRooms.{RoomFor, PlanRooms, plan_by, PlanHeld}
+use Rattle.plansheet.specs.PlanLines.{settings_shape, settings_line, tree_shape, child_rules, most_lines, plan_line}
+use Rattle.plansheet.specs.PlanSheets.{PlanSheet, FactLines, settings_of, operator_rows, plan_of, child_count, with_facts, with_rows, read_facts, read_plan}
+use Rattle.plansheet.specs.ReadRows.{rows_by}
+use Rattle.plansheet.specs.ReadPlans.{then_run, tree_run, head_line, TreeHeld, TreeLeft}
+use Rattle.plansheet.specs.PlanRooms.{RoomFor}
 use Rattle.plansheet.specs.declared.tree.RowsRead.{RowsRead}
 use Rattle.std.specs.Prelude.{Ok, Err}
 use Rattle.refusals.specs.declared.Refused.{Refused}
-use Rattle.sheet.specs.SheetLines.{refused_on}
-use Rattle.plansheet.specs.declared.plan.Plan as P
-use Rattle.plansheet.proofs.FineLines.{operators_made, two_small}
+use Rattle.plansheet.proofs.FineLines.{operators_made}
 use Rattle.plansheet.proofs.Singles.{TurnedBack, turned_run}
 use Rattle.plansheet.proofs.OneTree.{one_tree, few_children, few_lines}
-use Rattle.plansheet.proofs.PlanFitted.{worked_rooms, facts_by_lem}
+use Rattle.plansheet.proofs.RoomsFilled.{sets_front}
+use Rattle.plansheet.proofs.PlanFitted.{worked_rooms}
 use Rattle.plansheet.proofs.RunBytes.{size_parts, run_left, tree_bytes, tree_room}
-
--- ---- the judgement
-
-abbrev held_of : Settings → ℕ → ℕ → ℕ → ℕ → P.Plan
-held_of s lines worked children n = record { settings = s; lines = lines; worked = worked; children = children; rows = n }
-
-checked_at : (t : Bool) (s : Settings) (x : Settings) → Some x ≡ cond t (Some s) None → (t ≡ true) × (x ≡ s)
-checked_at true s x e = (refl, cc)
-checked_at false s x e = let z : ◌≡◌ {A = ℕ} 0 1 = cc in absurd (omega arith)
-
-pub settings_fine : (s x : Settings) → Some x ≡ checked s → (settings_fit s ≡ true) × (x ≡ s)
-unfolding checked
-settings_fine s x e = checked_at (settings_fit s) s x e
-
-out_at : (t : Bool) (s : Settings) → None ≡ cond t (Some s) None → t ≡ false
-out_at true s e = let z : ◌≡◌ {A = ℕ} 0 1 = cc in absurd (omega arith)
-out_at false s e = refl
-
-pub settings_out : (s : Settings) → None ≡ checked s → settings_fit s ≡ false
-unfolding checked
-settings_out s e = out_at (settings_fit s) s e
-
-module _ (s : Settings) (t : Plan) (g : FactLines) where
-  pub judge_seven : settings_fit s ≡ false → Err (refused_on 7 0) ≡ plan_by (judged_plan (plan_sheet s t g))
-  judge_seven e = rw e
-
-  module _ (e : settings_fit s ≡ true) where
-    pub judge_eight : facts_fit s (facts_of g) t ≡ false → Err (refused_on 8 0) ≡ plan_by (judged_plan (plan_sheet s t g))
-    judge_eight f = rw (e, f)
-
-    pub judge_held :
-        facts_fit s (facts_of g) t ≡ true → (x : Settings) (lines worked children n : ℕ) → x ≡ s → lines ≡ length (flatten t) → worked ≡ length (removed t) → children ≡ child_count t →
-        n ≡ length g.rows → Ok (held_of x lines worked children n) ≡ plan_by (judged_plan (plan_sheet s t g))
-    judge_held f x lines worked children n a b c d h =
-        rw (e, f) (λ i. Ok (held_of (a i) (b i) (c i) (d i) ((h ∙ sym (length-map g.rows (λ fs. fact_row (values fs)))) i)))
-
-  judged_at : (a b : Bool) (x : PlanSheet) → cond a (cond b (sheet (plan_sheet s t g)) (turned 8 0)) (turned 7 0) ≡ sheet x → plan_sheet s t g ≡ x
-  judged_at true true x e = cc
-  judged_at true false x e = let z : ◌≡◌ {A = ℕ} 0 1 = cc in absurd (omega arith)
-  judged_at false b x e = let z : ◌≡◌ {A = ℕ} 0 1 = cc in absurd (omega arith)
-
-  pub judged_is : (x : PlanSheet) → judged_plan (plan_sheet s t g) ≡ sheet x → plan_sheet s t g ≡ x
-  judged_is x e = judged_at (settings_fit s) (facts_fit s (facts_of g) t) x e
-
--- a refusal holds no sheet
-pub not_held : (w : Refused) (x : PlanSheet) → Err w ≡ plan_by (sheet x) → ⊥
-not_held w x e = let z : ◌≡◌ {A = ℕ} 0 1 = cc in omega arith
-
--- ---- the facts that were read
-
-pub record FactsRead (r : Reading FactLines) (n : ℕ) : Type 0 where
-  pub lines : FactLines
-  pub is : r ≡ sheet lines
-  pub counted : n ≡ length lines.rows
-
-pub facts_read : (r : Reading FactLines) (n : ℕ) → Ok n ≡ facts_by r → FactsRead r n
-facts_read (turned m l) n e = let z : ◌≡◌ {A = ℕ} 0 1 = cc in absurd (omega arith)
-facts_read (sheet g) n e = record { lines = g; is = refl; counted = cc }
-
--- a reading that was turned back
-pub record FactsTurned (r : Reading FactLines) (w : Refused) : Type 0 where
-  pub number : ℕ
-  pub line : ℕ
-  pub is : r ≡ turned number line
-  pub on : w ≡ refused_on number line
-
-pub facts_turned : (r : Reading FactLines) (w : Refused) → Err w ≡ facts_by r → FactsTurned r w
-facts_turned (turned m k) w e = record { number = m; line = k; is = refl; on = cc }
-facts_turned (sheet g) w e = let z : ◌≡◌ {A = ℕ} 0 1 = cc in absurd (omega arith)
-
-sets_front : {A : Type 0} (d xs : List A) → length xs ≤ length d → sets d 0 xs ≡ xs ++ drop (length xs) d
-sets_front d xs h = let z : 0 + length xs ≡ length xs = omega arith in sets-eq xs d 0 (omega arith) ∙ rw z
-
--- what was stored in front
-pub front : {A : Type 0} (d d' xs : List A) (n : ℕ) → d' ≡ sets d 0 xs → length xs ≡ n → n ≤ length d → take n d' ≡ xs
-front d d' xs n e l h = rw (e, sets-eq xs d 0 (omega arith)) (take_at xs _ n l)
-
-module _ (t : Plan) (g : FactLines) (rows rest : List (List ℕ)) (worked children n : ℕ) (node node' : List ℕ) (facts facts' xs xs' : List (List ℕ)) (masks masks' : List ℕ)
-    (stands : rows ≡ flatten t ++ rest) (place : worked ≡ length (removed t)) (many : children ≡ child_count t) (few : children ≤ 8) (counted : n ≡ length g.rows)
-    (a : 8 ≤ length facts) (b : 256 ≤ length masks) (h : FactsHeld children g node node' facts facts' xs xs' masks masks') where
-  pub rooms_filled : PlanRooms t g rows facts' xs' masks' worked children n
-  rooms_filled = record {
-    rest = rest;
-    stands = stands;
-    place = place;
-    many = many;
-    few = few;
-    each = front facts facts' (number_rows g.children) children h.after.stored (length-map g.children values ∙ h.after.many) (omega arith);
-    counted = counted;
-    held = λ l. front xs xs' (number_rows g.rows) n h.after.rows (length-map g.rows values ∙ sym counted) (omega (arith, ap length h.after.rows, length-sets xs 0 (number_rows g.rows)));
-    bits = front masks masks' (values g.masks) (two_to children) h.after.after.stored (length-map g.masks value_of ∙ h.after.after.many) (omega (arith, two_small children few));
-  }
-
-  node_front : 4 ≤ length node → node_facts node' ≡ node_facts (values g.node)
-  node_front k =
-      let l : length (values g.node) ≡ 4 = length-map g.node value_of ∙ h.four in
-      let e : node' ≡ values g.node ++ drop (length (values g.node)) node = h.stored ∙ sets_front node (values g.node) (omega arith) in
-      let at : (i : ℕ) → i < 4 → get_or node' i 0 ≡ get_or (values g.node) i 0 = λ i j. ap (λ (ys : List ℕ). get_or ys i 0) e ∙ get_or-append (values g.node) _ 0 i (omega arith) in
-      λ i. record { friendly = at 0 (omega arith) i; window = at 1 (omega arith) i; aggexact = at 2 (omega arith) i; aggsubset = at 3 (omega arith) i }
-
-  pub plan_held :
-      4 ≤ length node → (s : Settings) (x : PlanSheet) → plan_sheet s t g ≡ x → n ≤ length xs' → (index : List ℕ) → index ≡ index_of (take n xs') →
-      PlanHeld x rows node' facts' xs' masks' index
-  plan_held k s x e l index i =
-      let r = rooms_filled in
-      let f = facts_by_lem g in
-      let m : length (fact_rows g.rows) ≡ n = length-map g.rows (λ fs. fact_row (values fs)) ∙ sym counted in
-      rw (← e) (record {
-        rest = rest;
-        stands = stands;
-        few = rw (← many) few;
-        above = node_front k;
-        each = rw (← many, r.each) (sym (ap (λ (y : Facts). y.children) f));
-        room = rw m l;
-        held = rw (m, r.held l) (sym (ap (λ (y : Facts). y.rows) f));
-        found = rw m i;
-        bits = rw (← many) r.bits;
-      })
-
--- ---- the tree that was read
 
 record ThenRead (r : Run) (k : ℕ → ℕ → List (List ℕ) → Run) (rs : List (List Field)) (ls : List (List ℕ)) (l p : ℕ) : Type 0 where
   front : List (List Field)

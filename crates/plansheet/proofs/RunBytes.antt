@@ -16,7 +16,7 @@ use Rattle.text.specs.Lines.{first_of}
 use Rattle.std.proofs.lemmas.Bool.{and_parts as both}
 use Rattle.linekinds.specs.Lines.{Kind, Run, read, refused, line_number, rows_of}
 use Rattle.sheet.specs.KeySheets.{sheet, head_of}
-use Rattle.plansheet.specs.PlanLines.{plan_line, node_line, child_line, fact_line, tree_shape, fact_shape}
+use Rattle.plansheet.specs.PlanLines.{plan_line, node_line, child_line, fact_line}
 use Rattle.plansheet.specs.PlanSheets.{FactLines, with_rows, read_masks, read_children, read_facts}
 use Rattle.plansheet.specs.PlanRooms.{RoomFor}
 use Rattle.plansheet.proofs.RunCases.{by_lines}
@@ -99,21 +99,24 @@ run_left k owed seen line at ls rs rest l p e =
 fine_fits : (k : Kind) → k.width ≡ 0 → (seen next : ℕ) (fs : List Field) → line_number k seen next (some fs) ≡ 0 → fits k.heads fs ≡ true
 fine_fits k w seen next fs z = sym (fit_fixed k w fs) ∙ (fine_at k seen next fs z).fit
 
+-- each line takes its letter, its fields and its LF
+line_run_bytes :
+    (k : Kind) (n : ℕ) → k.width ≡ 0 → weight k.heads + 2 ≡ n → (owed seen line at : ℕ) (ls : List (List ℕ)) (rs : List (List Field)) (rest : List (List ℕ)) (l p : ℕ) →
+    rows_of k owed seen line at ls ≡ read rs rest l p → n * length rs ≤ size ls
+line_run_bytes k n w m owed seen line at ls rs rest l p e =
+    by_lines k (λ owed seen line at ls rs. n * length rs ≤ size ls) rest l p (λ owed seen z. omega arith)
+    (λ owed seen line at l₀ ls ss fs ne x fine g. omega (arith, m, g, first_bytes k.letter l₀ ls fs k.heads x (fine_fits k w seen _ fs fine)))
+    owed seen line at ls rs e
+
 pub tree_bytes :
     (owed seen line at : ℕ) (ls : List (List ℕ)) (rs : List (List Field)) (rest : List (List ℕ)) (l p : ℕ) → rows_of plan_line owed seen line at ls ≡ read rs rest l p →
     17 * length rs ≤ size ls
-tree_bytes owed seen line at ls rs rest l p e =
-    by_lines plan_line (λ owed seen line at ls rs. 17 * length rs ≤ size ls) rest l p (λ owed seen z. omega arith)
-    (λ owed seen line at l₀ ls ss fs ne x fine g. let m : weight plan_line.heads ≡ 15 = refl in omega (arith, first_bytes tree_shape.letter l₀ ls fs plan_line.heads x (fine_fits plan_line refl seen _ fs fine)))
-    owed seen line at ls rs e
+tree_bytes = line_run_bytes plan_line 17 refl refl
 
 fact_bytes :
     (owed seen line at : ℕ) (ls : List (List ℕ)) (rs : List (List Field)) (rest : List (List ℕ)) (l p : ℕ) → rows_of fact_line owed seen line at ls ≡ read rs rest l p →
     28 * length rs ≤ size ls
-fact_bytes owed seen line at ls rs rest l p e =
-    by_lines fact_line (λ owed seen line at ls rs. 28 * length rs ≤ size ls) rest l p (λ owed seen z. omega arith)
-    (λ owed seen line at l₀ ls ss fs ne x fine g. let m : weight fact_line.heads ≡ 26 = refl in omega (arith, first_bytes fact_shape.letter l₀ ls fs fact_line.heads x (fine_fits fact_line refl seen _ fs fine)))
-    owed seen line at ls rs e
+fact_bytes = line_run_bytes fact_line 28 refl refl
 
 -- ---- the X rows of what was read
 

@@ -1,4 +1,5 @@
 -- What a line's description says, as the shape that lines are judged by.
+-- Renders document 01, "Where a sheet is turned back": the rows with place Line.
 use Rattle.linekinds.specs.Lines.{Kind}
 use Rattle.plansheet.specs.Shapes.{Shape, tree_line}
 use Rattle.plansheet.specs.ReadRows.{shape_of}

@@ -11,11 +11,11 @@ use Rattle.exchange.specs.Fit.{within_bits, none_repeated}
 
 -- the count by what is topmost: an exchange or round robin, a merge, the split source, the child itself
 abbrev pub count_fits_by : ℕ → ℕ → ℕ → ℕ → ℕ → ℕ → Bool
-count_fits_by target form count order child_count childOrder =
+count_fits_by target form count order child_count child_order =
     cond (is_set (form_of form).relationship || leb 2 (form_of form).top) (eqb count target)
     (cond (eqb (form_of form).top 1) (eqb count 1)
     (cond (is_set (form_of form).split) true
-    (eqb count child_count && eqb order childOrder)))
+    (eqb count child_count && eqb order child_order)))
 
 -- a row of a child by the child's place in the tree and its F row
 abbrev pub child_fits_by : ℕ → List (List ℕ) → List ℕ → ℕ → List ℕ → Bool

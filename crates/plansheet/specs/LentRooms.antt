@@ -1,4 +1,5 @@
 -- The rooms lent for a sheet, before a call and after it.
+-- Apart from `PlanRooms`, which the struct of the rooms imports.
 use Rattle.std.specs.Prelude.{◌≡◌, length}
 use Rattle.plansheet.specs.declared.rooms.SheetRooms.{SheetRooms}
 

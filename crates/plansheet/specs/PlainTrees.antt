@@ -1,4 +1,6 @@
--- Tree lines that are read straight into their rows: the descriptions for which a line of plain numbers without a limit is so read, and what is left.
+-- Tree lines that are read straight into their rows: the descriptions for which a line of plain numbers without a limit is so read,
+-- and what is left.
+-- Renders document 01, "Exchange sheet": `T,kind,..`; and "Where a sheet is turned back": the rows with place Line.
 use Rattle.std.specs.Prelude.{ℕ, ◌+◌, ◌≤◌, ◌<◌, ◌≡◌, true, cond, List, [], eqb, length, get_or, set, Result, Ok, Err}
 use Rattle.std.proofs.Math.Option.{Option}
 use Rattle.text.specs.declared.field.Field.{Field}

@@ -1,4 +1,5 @@
 -- A D sheet as it is held in the rooms lent, and what reading one answers.
+-- Renders document 01, "Exchange sheet": "256 T lines", "8 children a node".
 use Rattle.std.specs.Prelude.{◌≡◌, ℕ, ◌*◌, ◌≤◌, ◌<◌, List, ◌++◌, map, length, take, ◌⊎◌, Result, Ok, Err}
 use Rattle.exchange.specs.Trees.{Plan}
 use Rattle.exchange.specs.Rows.{flatten}

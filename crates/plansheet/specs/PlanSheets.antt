@@ -4,6 +4,7 @@ use Rattle.std.specs.Prelude.{ℕ, suc, List, [], ◌∷◌, map, cond, eqb, get
 use Rattle.std.proofs.Math.Option.{none as nothing}
 use Rattle.text.specs.declared.field.Field.{Field}
 use Rattle.text.specs.Text.{parts, state_of, value_of}
+use Rattle.exchange.specs.Skeleton.{below}
 use Rattle.exchange.specs.Trees.{node, none, ◌∷ᶠ◌, trees, Plan, Plans}
 use Rattle.exchange.specs.Rows.{grow}
 use Rattle.exchange.specs.declared.settings.Settings.{Settings}
@@ -62,12 +63,9 @@ first_plan (t ∷ᶠ ts) = t
 unfoldable pub plan_of : List (List Field) → Plan
 plan_of rs = first_plan (grow (operator_rows 1 rs))
 
-abbrev pub beneath : Plan → Plans
-beneath (node o ts) = ts
-
 -- "per child of the worked node": how many there are
 unfoldable pub child_count : Plan → ℕ
-child_count t = trees (beneath (remove_dist_changing_operators t))
+child_count t = trees (below (remove_dist_changing_operators t))
 
 abbrev pub children_rows : List (List Field) → List ChildFacts
 children_rows rs = map (λ fs. child_facts (values fs)) rs

@@ -1,4 +1,5 @@
 -- What the functions that read a D sheet's lines answer and leave in the rooms lent.
+-- Renders document 01, "Exchange sheet": the order of its lines.
 use Rattle.std.specs.Prelude.{◌≡◌, ℕ, List, length, Result, Ok, Err}
 use Rattle.std.proofs.lemmas.List.Edits.{sets}
 use Rattle.text.specs.declared.field.Field.{Field}

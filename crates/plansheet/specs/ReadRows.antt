@@ -1,4 +1,6 @@
--- What the reading functions are given and answer: a line's description as rows of numbers, the number of a line, and rows that are left in the room lent.
+-- What the reading functions are given and answer: a line's description as rows of numbers, the number of a line,
+-- and rows that are left in the room lent.
+-- Renders document 01, "Where a sheet is turned back": the rows with place Line.
 use Rattle.std.specs.Prelude.{◌≡◌, ℕ, ◌+◌, ◌≤◌, List, [], ◌∷◌, map, cond, not, ◌&&◌, ◌||◌, eqb, leb, ltb, length, get_or, drop}
 use Rattle.std.proofs.lemmas.List.Edits.{sets}
 use Rattle.text.specs.declared.field.Field.{Field}
@@ -54,9 +56,9 @@ tree_number sizes codes rules most seen next rs =
     (cond (leb (length rules) (value_at rs 0) || over_any codes (row_values rs)) 4
     (cond (not (rule_fits rules (value_at rs 0) (value_at rs 7))) 6 0)))
 
--- a Y line's, of so many masks, by its count of fields and their largest state and value: 2, 3 or 0
-abbrev pub masks_number : ℕ → ℕ → ℕ → ℕ → ℕ → ℕ
-masks_number sets count worst largest next = cond (eqb count sets && (leb worst 0 && leb largest 65535)) (cond (ltb most_bytes next) 3 0) 2
+-- of a line of so many plain fields, by their count and their largest state and value: 2, 3 or 0
+abbrev pub plain_number : ℕ → ℕ → ℕ → ℕ → ℕ → ℕ
+plain_number width count worst largest next = cond (eqb count width && (leb worst 0 && leb largest 65535)) (cond (ltb most_bytes next) 3 0) 2
 
 -- ---- rows
 

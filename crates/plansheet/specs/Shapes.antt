@@ -1,4 +1,5 @@
--- Lines of fixed fields by a table: each field has a bound, and may have a most (number 3) and a last code (number 4); tree lines, and lines while they come.
+-- Lines of fixed fields by a table: each field has a bound, and may have a most (number 3) and a last code (number 4);
+-- tree lines, and lines while they come.
 -- Renders document 01, "Where a sheet is turned back": the rows with place Line; and "T lines in preorder".
 use Rattle.std.specs.Prelude.{ℕ, ◌+◌, ◌-◌, List, [], ◌∷◌, Bool, true, false, not, ◌&&◌, ◌||◌, eqb, leb, ltb, length, get_or, replicate}
 use Rattle.std.proofs.Math.Option.{Option, none, some}

@@ -22,3 +22,24 @@ pub struct TreeShape<'a> {
     pub ghost eight: { 8 ≤ length line.bounds.now },
     pub ghost few: { most ≤ 65536 },
 }
+
+impl TreeShape<'_> {
+    // The fields of an operator's line, by their places.
+    pub(crate) const KIND: usize = 0;
+
+    pub(crate) const COUNT: usize = 1;
+
+    pub(crate) const KEEPS: usize = 2;
+
+    pub(crate) const LIMIT: usize = 3;
+
+    pub(crate) const ORDER: usize = 4;
+
+    pub(crate) const TRACKED: usize = 5;
+
+    pub(crate) const NEED: usize = 6;
+
+    pub(crate) const CHILDREN: usize = 7;
+
+    pub(crate) const WIDTH: usize = 8;
+}

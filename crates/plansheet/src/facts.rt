@@ -20,6 +20,16 @@ use linekinds::plain::MARK;
 use numberlines::row::{Unread, row_at};
 use refusals::{Refusal, Refused};
 
+// The numbers of a line, from the start of the room on.
+pub(crate) fn copy_values(fields: &[[u64; 2]], out: &mut [u64])
+    requires { length fields.now ≤ length out.old }
+    ensures { out.new ≡ sets out.old 0 (row_values fields.now) }
+{
+    for (i, field) in fields.iter().enumerate() {
+        out[i] = field[1];
+    }
+}
+
 // A line's numbers.
 fn numbers_of<const N: usize>(fields: &[[u64; 2]]) -> [u64; N]
     requires { length fields.now ≡ N }
@@ -55,8 +65,7 @@ fn fact_at(s: &[u8], at: usize, row: &mut FactRow) -> Result<usize, Unread>
     Ok(end)
 }
 
-// The X line at a place by its fields, each judged, as row n where there is room for it. Text and place stay two where one line is read:
-// a `Place` has the number of the line too.
+// The X line at a place by its fields, each judged, as row n where there is room for it.
 fn judged_fact(s: &[u8], at: usize, n: usize, fields: &mut [[u64; 2]], rows: &mut [FactRow]) -> Read
     requires { 256 ≤ length fields.old }
     ensures answer { (seen : ℕ) → result ≡ read_by (line_number fact_line seen (after s.now at) (line_at 88 s.now at)) (after s.now at) (line_at 88 s.now at) }
@@ -88,18 +97,8 @@ fn read_fact(s: &[u8], at: usize, n: usize, fields: &mut [[u64; 2]], rows: &mut 
     }
 }
 
-// The numbers of a line, from the start of the room on.
-pub fn copy_values(fields: &[[u64; 2]], out: &mut [u64])
-    requires { length fields.now ≤ length out.old }
-    ensures { out.new ≡ sets out.old 0 (row_values fields.now) }
-{
-    for (i, field) in fields.iter().enumerate() {
-        out[i] = field[1];
-    }
-}
-
 // So many F lines from a place on.
-pub fn read_children(
+pub(crate) fn read_children(
     place: Place,
     children: usize,
     fields: &mut [[u64; 2]],
@@ -112,7 +111,6 @@ pub fn read_children(
     let mut p = place.at;
     let mut l = place.line;
     for row in &mut rows[..children] {
-        // A `match`: `Read` is no `Result` (document 01 names it), and its refusal goes on with the number of the line.
         match child_line(place.s, p, &mut *fields) {
             Read::Line { count, next } => {
                 *row = numbers_of(&fields[..count]);
@@ -130,7 +128,7 @@ pub fn read_children(
 }
 
 // The X lines from a place on, as many as there are: those for which there is room are stored.
-pub fn read_facts(
+pub(crate) fn read_facts(
     place: Place,
     fields: &mut [[u64; 2]],
     rows: &mut [FactRow],
@@ -142,8 +140,7 @@ pub fn read_facts(
     let mut p = place.at;
     let mut l = place.line;
     let mut n: usize = 0;
-    // Ends at the line that is no X line: nothing says beforehand how many there are. The line's number goes up beside the count of rows: made
-    // from the count at each refusal, it would be a cast and a sum.
+    // Ends at the line that is no X line: nothing says beforehand how many there are.
     loop {
         match read_fact(place.s, p, n, &mut *fields, &mut *rows) {
             Read::Line { next, .. } => p = next,

@@ -27,7 +27,7 @@ fn within_bits(n: u64, mask: u64) -> bool
 }
 
 // The same of every mask.
-pub fn masks_fit(n: u64, masks: &[u64]) -> bool
+fn masks_fit(n: u64, masks: &[u64]) -> bool
     ensures { result ≡ all_within_bits n masks.now }
 {
     masks.iter().all(|mask| within_bits(n, *mask))
@@ -87,13 +87,7 @@ fn found_at(f: Fact, i: usize) -> bool
 }
 
 // Every row fits, and is the first of its child and form.
-pub fn rows_fit(
-    target: u64,
-    rows: &[Row],
-    places: &[usize],
-    facts: &[ChildRow],
-    xs: FactRows,
-) -> bool
+fn rows_fit(target: u64, rows: &[Row], places: &[usize], facts: &[ChildRow], xs: FactRows) -> bool
     requires { (length facts.now ≡ length places.now) × (length places.now ≤ 8) × Placed rows.now places.now }
     ensures { result ≡ fact_rows_fit target rows.now places.now facts.now xs.entry.rows.now }
 {
@@ -113,7 +107,7 @@ pub fn rows_fit(
 }
 
 // Whether the X rows and the masks fit the tree whose worked node stands at `worked`; each of its children has an F row.
-pub fn facts_fit(
+pub(crate) fn facts_fit(
     target: u64,
     rows: &[Row],
     worked: usize,
@@ -122,7 +116,7 @@ pub fn facts_fit(
     masks: &[u64],
 ) -> bool
     requires stand_all { StandAll rows.now (worked + 1) (length facts.now) }
-    requires worked_in_bounds { (worked < length rows.now) × (length facts.now ≤ 8) }
+    requires stands { (worked < length rows.now) × (length facts.now ≤ 8) }
     ensures { (s : Settings) (o : Operator) (b : NodeFacts) (ts : Plans) (rest : List (List ℕ)) → s.target ≡ target → trees ts ≡ length facts.now → drop (worked + 1) rows.now ≡ flattens ts ++ rest → result ≡ worked_fits s (record { node = b; children = map child_facts facts.now; rows = map fact_row xs.entry.rows.now; masks = masks.now }) (node o ts) }
 {
     let mut room = [0usize; 8];

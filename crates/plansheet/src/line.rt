@@ -1,6 +1,4 @@
 // The lines of a D sheet, each by its description; their fields go into the rows lent.
-// The room for fields is a slice with its condition at each reader: a slice lent by `&mut` stays as long as it is, and of a struct that
-// holds it each reader here, in `facts` and in `lines` would have to promise that, as `SameSizes` does where all rooms are lent together.
 ghost use Rattle.std.specs.Prelude.{◌≡◌, ℕ, ◌≤◌, length, drop};
 ghost use Rattle.refusals.specs.Refusals.{judged_by};
 ghost use Rattle.text.specs.Text.{line, line_fields, line_at, after};
@@ -9,7 +7,7 @@ ghost use Rattle.linekinds.specs.Lines.{line_number};
 ghost use Rattle.linekinds.specs.Reading.{read_by};
 ghost use Rattle.plansheet.specs.Shapes.{fixed_line, plain_shape};
 ghost use Rattle.plansheet.specs.PlanLines.{settings_line, node_line, child_line, fact_line, mask_line, two_to};
-ghost use Rattle.plansheet.specs.ReadRows.{masks_number};
+ghost use Rattle.plansheet.specs.ReadRows.{plain_number};
 
 use crate::description::LineShape;
 use crate::shape::{over_any, shaped_line};
@@ -22,10 +20,9 @@ use refusals::Refusal;
 use text::line::{Fields, line_at};
 
 // No code and no size is asked: no number is larger.
-pub const ANY: u64 = LONG;
+pub(crate) const ANY: u64 = LONG;
 
-// How many sets n children have. That there are at most eight stays a condition, here and in `lines`: the number comes out of a tree's row,
-// counts lines and cuts rooms, and stands in `Plan` as a number, so that a struct would be opened by each of its readers.
+// How many sets n children have.
 pub fn sets_of(n: usize) -> usize
     requires { n ≤ 8 }
     ensures { result ≡ two_to n }
@@ -33,11 +30,11 @@ pub fn sets_of(n: usize) -> usize
     1 << n
 }
 
-// By the count of fields of a line of so many plain fields, as a Y line is, their largest state and value, and the place after it.
-fn judge_masks(sets: usize, f: Fields) -> Result<(), Refusal>
-    ensures { result ≡ judged_by (masks_number sets f.count f.worst f.largest f.next) }
+// A line of so many plain fields, by their count, their largest state and value, and the place after it.
+fn judge_plain(width: usize, f: Fields) -> Result<(), Refusal>
+    ensures { result ≡ judged_by (plain_number width f.count f.worst f.largest f.next) }
 {
-    if f.count != sets || f.worst > 0 || f.largest > PLAIN {
+    if f.count != width || f.worst > 0 || f.largest > PLAIN {
         return Err(Refusal::MalformedField);
     }
     if f.next > MOST_BYTES {
@@ -62,7 +59,7 @@ fn plain_line(
     let Some(f) = line_at(s, at, letter, fields) else {
         return Read::Refused(Refusal::WrongLine);
     };
-    if let Err(refusal) = judge_masks(width, f) {
+    if let Err(refusal) = judge_plain(width, f) {
         return Read::Refused(refusal);
     }
     if over_any(codes, &fields[..f.count]) {
@@ -75,7 +72,7 @@ fn plain_line(
 }
 
 // The D line.
-pub fn settings_line(s: &[u8], at: usize, fields: &mut [[u64; 2]]) -> Read
+pub(crate) fn settings_line(s: &[u8], at: usize, fields: &mut [[u64; 2]]) -> Read
     requires { 256 ≤ length fields.old }
     ensures answer { (seen : ℕ) → result ≡ read_by (line_number settings_line seen (after s.now at) (line_at 68 s.now at)) (after s.now at) (line_at 68 s.now at) }
     ensures stored { fields.new ≡ stored_in fields.old (line_fields 68 (line (drop at s.now))) }
@@ -85,7 +82,7 @@ pub fn settings_line(s: &[u8], at: usize, fields: &mut [[u64; 2]]) -> Read
 }
 
 // The B line.
-pub fn node_line(s: &[u8], at: usize, fields: &mut [[u64; 2]]) -> Read
+pub(crate) fn node_line(s: &[u8], at: usize, fields: &mut [[u64; 2]]) -> Read
     requires { 256 ≤ length fields.old }
     ensures answer { (seen : ℕ) → result ≡ read_by (line_number node_line seen (after s.now at) (line_at 66 s.now at)) (after s.now at) (line_at 66 s.now at) }
     ensures stored { fields.new ≡ stored_in fields.old (line_fields 66 (line (drop at s.now))) }
@@ -94,7 +91,7 @@ pub fn node_line(s: &[u8], at: usize, fields: &mut [[u64; 2]]) -> Read
 }
 
 // An F line.
-pub fn child_line(s: &[u8], at: usize, fields: &mut [[u64; 2]]) -> Read
+pub(crate) fn child_line(s: &[u8], at: usize, fields: &mut [[u64; 2]]) -> Read
     requires { 256 ≤ length fields.old }
     ensures answer { (seen : ℕ) → result ≡ read_by (line_number child_line seen (after s.now at) (line_at 70 s.now at)) (after s.now at) (line_at 70 s.now at) }
     ensures stored { fields.new ≡ stored_in fields.old (line_fields 70 (line (drop at s.now))) }
@@ -113,7 +110,7 @@ pub fn child_line(s: &[u8], at: usize, fields: &mut [[u64; 2]]) -> Read
 }
 
 // An X line.
-pub fn fact_line(s: &[u8], at: usize, fields: &mut [[u64; 2]]) -> Read
+pub(crate) fn fact_line(s: &[u8], at: usize, fields: &mut [[u64; 2]]) -> Read
     requires { 256 ≤ length fields.old }
     ensures answer { (seen : ℕ) → result ≡ read_by (line_number fact_line seen (after s.now at) (line_at 88 s.now at)) (after s.now at) (line_at 88 s.now at) }
     ensures stored { fields.new ≡ stored_in fields.old (line_fields 88 (line (drop at s.now))) }
@@ -123,7 +120,7 @@ pub fn fact_line(s: &[u8], at: usize, fields: &mut [[u64; 2]]) -> Read
 }
 
 // The Y line of a worked node with n children.
-pub fn mask_line(s: &[u8], at: usize, n: usize, fields: &mut [[u64; 2]]) -> Read
+pub(crate) fn mask_line(s: &[u8], at: usize, n: usize, fields: &mut [[u64; 2]]) -> Read
     requires { (n ≤ 8) × (256 ≤ length fields.old) }
     ensures answer { (seen : ℕ) → result ≡ read_by (line_number (mask_line n) seen (after s.now at) (line_at 89 s.now at)) (after s.now at) (line_at 89 s.now at) }
     ensures stored { fields.new ≡ stored_in fields.old (line_fields 89 (line (drop at s.now))) }

@@ -12,26 +12,23 @@ ghost use Rattle.plansheet.specs.ReadPlans.{tree_run, TreeLeft, facts_by, whole_
 use crate::description::{LineShape, TreeShape};
 use crate::facts::{copy_values, read_children, read_facts};
 use crate::line::{ANY, mask_line, node_line, settings_line};
-use crate::operator::MOST_CHILDREN;
 use crate::place::Place;
 use crate::rooms::SheetRooms;
 use crate::tree::{RowsRead, read_tree};
 use exchange::fact::FactRow;
 use exchange::row::Row;
 use exchange::status::ChildRow;
+use linekinds::kind::MOST_CHILDREN;
 use linekinds::line::Read;
 use linekinds::plain::PLAIN;
 use numberlines::child::LONG;
 use refusals::{Refusal, Refused};
 
-// The place of the limit on a T line.
-const LIMIT: usize = 3;
-
 // The most T lines.
 const MOST_LINES: usize = 256;
 
 // The T lines from a place on.
-pub fn read_plan_tree(
+fn read_plan_tree(
     place: Place,
     fields: &mut [[u64; 2]],
     rows: &mut [Row],
@@ -40,8 +37,8 @@ pub fn read_plan_tree(
     ensures answer { result ≡ rows_by (run_from plan_line 1 place.entry.s.now place.entry.line place.entry.at) }
     ensures left { Left (operator_rows 1) place.entry.s.now (run_from plan_line 1 place.entry.s.now place.entry.line place.entry.at) rows.old rows.new }
 {
-    let mut bounds = [[0, PLAIN]; 8];
-    bounds[LIMIT] = [1, LONG];
+    let mut bounds = [[0, PLAIN]; TreeShape::WIDTH];
+    bounds[TreeShape::LIMIT] = [1, LONG];
     let codes = [ANY, ANY, 1, ANY, ANY, 1, 2];
     let rules = [
         [0, MOST_CHILDREN],
@@ -70,8 +67,8 @@ pub fn read_plan_tree(
     read_tree(place, shape, fields, rows)
 }
 
-// The D line, and the T lines after it. The head's nine places stay a condition: see `read_plan`.
-pub fn read_tree_lines(
+// The D line, and the T lines after it.
+pub(crate) fn read_tree_lines(
     s: &[u8],
     fields: &mut [[u64; 2]],
     head: &mut [u64],
@@ -95,7 +92,7 @@ pub fn read_tree_lines(
     }
 }
 
-// The Y line at a place, and nothing after it. That there are at most eight children stays a condition, here and below, as in `line`.
+// The Y line at a place, and nothing after it.
 fn read_masks(
     place: Place,
     children: usize,
@@ -149,7 +146,7 @@ fn read_child_lines(
 }
 
 // The B line at a place, and what follows it: F lines, X rows, the Y line, and nothing more.
-pub fn read_fact_lines(
+pub(crate) fn read_fact_lines(
     place: Place,
     children: usize,
     lent: &mut SheetRooms,

@@ -3,13 +3,12 @@ ghost use Rattle.std.specs.Prelude.{◌≡◌, true, ◌≤◌, ◌<◌, length}
 ghost use Rattle.plansheet.specs.Shapes.{rule_fits};
 ghost use Rattle.plansheet.specs.PlainTrees.{Wide, PlainCodes, PlainShape, OperatorFits, OperatorRead};
 
-use crate::description::LineShape;
+use crate::description::{LineShape, TreeShape};
 use exchange::row::{CHILDREN, ID, KEEPS, KIND, NEED, Row, TRACKED};
+use linekinds::kind::MOST_CHILDREN;
 use linekinds::plain::PLAIN;
 use numberlines::operator::operator_at;
 use numberlines::row::Unread;
-
-pub const MOST_CHILDREN: u64 = linekinds::kind::MOST_CHILDREN;
 
 // Whether no bound is below a plain field's largest number.
 fn wide_bounds(bounds: &[[u64; 2]]) -> bool
@@ -22,7 +21,10 @@ fn wide_bounds(bounds: &[[u64; 2]]) -> bool
 fn plain_codes(codes: &[u64]) -> bool
     ensures { result ≡ true → PlainCodes codes.now }
 {
-    codes.len() == 7 && PLAIN <= codes[0] && PLAIN <= codes[1] && PLAIN <= codes[4]
+    codes.len() == TreeShape::CHILDREN
+        && PLAIN <= codes[TreeShape::KIND]
+        && PLAIN <= codes[TreeShape::COUNT]
+        && PLAIN <= codes[TreeShape::ORDER]
 }
 
 // Whether such a line is within the bounds, and has no most and no code but at those three.
@@ -30,15 +32,15 @@ fn plain_shape(h: LineShape) -> bool
     ensures { result ≡ true → PlainShape h.entry.letter h.entry.bounds.now h.entry.sizes.now h.entry.codes.now }
 {
     h.letter != b'\n'
-        && h.bounds.len() == 8
-        && h.bounds[3][0] == 1
+        && h.bounds.len() == TreeShape::WIDTH
+        && h.bounds[TreeShape::LIMIT][0] == 1
         && h.sizes.is_empty()
         && wide_bounds(h.bounds)
         && plain_codes(h.codes)
 }
 
 // How many rows may be read quickly: none, or those for which there is room.
-pub fn quick_rows(h: LineShape, most: usize, room: usize) -> usize
+pub(crate) fn quick_rows(h: LineShape, most: usize, room: usize) -> usize
     ensures { (0 < result → PlainShape h.entry.letter h.entry.bounds.now h.entry.sizes.now h.entry.codes.now) × (result ≤ most) × (result ≤ room) }
 {
     if !plain_shape(h) {
@@ -48,7 +50,7 @@ pub fn quick_rows(h: LineShape, most: usize, room: usize) -> usize
 }
 
 // Whether an operator of the kind may have so many children.
-pub fn rule_fits(rules: &[[u64; 2]], kind: u64, children: u64) -> bool
+pub(crate) fn rule_fits(rules: &[[u64; 2]], kind: u64, children: u64) -> bool
     requires { kind < length rules.now }
     ensures { result ≡ rule_fits rules.now kind children }
 {
@@ -64,16 +66,16 @@ fn operator_fits(codes: &[u64], rules: &[[u64; 2]], row: &Row) -> bool
 {
     // No From goes from usize to u64.
     let kinds = rules.len() as u64;
-    row[KEEPS] <= codes[2]
-        && row[TRACKED] <= codes[5]
-        && row[NEED] <= codes[6]
+    row[KEEPS] <= codes[TreeShape::KEEPS]
+        && row[TRACKED] <= codes[TreeShape::TRACKED]
+        && row[NEED] <= codes[TreeShape::NEED]
         && row[CHILDREN] <= MOST_CHILDREN
         && row[KIND] < kinds
         && rule_fits(rules, row[KIND], row[CHILDREN])
 }
 
 // The line at a place as row `seen`, where nothing in it is unusual: the place of its LF.
-pub fn operator_read(
+pub(crate) fn operator_read(
     s: &[u8],
     at: usize,
     seen: usize,

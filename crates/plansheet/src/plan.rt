@@ -33,7 +33,7 @@ pub struct Plan {
     pub rows: usize,
 }
 
-// The D line's numbers as settings, within their bounds. That they are nine stays a condition, here and below: see `read_plan`.
+// The D line's numbers as settings, within their bounds.
 fn checked_settings(head: &[u64]) -> Option<Settings>
     requires { 9 ≤ length head.now }
     ensures { result ≡ checked (settings_of head.now) }
@@ -45,7 +45,7 @@ fn checked_settings(head: &[u64]) -> Option<Settings>
 
 // Whether the X rows and masks that were read fit the tree; the index of the rows is made on the way.
 fn plan_fits(target: u64, f: LinesRead, index: &mut [u64]) -> bool
-    requires places { length index.old ≡ 129 }
+    requires room { length index.old ≡ 129 }
     requires filled { Filled f.rows.now f.facts.now f.xs.now f.masks.now f.worked f.children f.count }
     ensures answer { (s : Settings) (t : PlanTree) (g : FactLines) → s.target ≡ target → PlanRooms t g f.entry.rows.now f.entry.facts.now f.entry.xs.now f.entry.masks.now f.entry.worked f.entry.children f.entry.count → result ≡ facts_fit s (facts_of g) t }
     ensures indexed { result ≡ true → (f.entry.count ≤ length f.entry.xs.now) × (index.new ≡ index_of (take f.entry.count f.entry.xs.now)) }
@@ -66,7 +66,7 @@ fn plan_fits(target: u64, f: LinesRead, index: &mut [u64]) -> bool
 
 // The lines that were read, judged as a sheet: target and batch first, then X rows and masks.
 fn judge_plan(head: &[u64], f: LinesRead, index: &mut [u64]) -> Result<Plan, Refused>
-    requires in_bounds { (9 ≤ length head.now) × (length index.old ≡ 129) }
+    requires room { (9 ≤ length head.now) × (length index.old ≡ 129) }
     requires filled { Filled f.rows.now f.facts.now f.xs.now f.masks.now f.worked f.children f.count }
     ensures answer { (t : PlanTree) (g : FactLines) → f.entry.lines ≡ length (flatten t) → PlanRooms t g f.entry.rows.now f.entry.facts.now f.entry.xs.now f.entry.masks.now f.entry.worked f.entry.children f.entry.count → result ≡ plan_by (judged_plan (plan_sheet (settings_of head.now) t g)) }
     ensures indexed { (x : PlanSheet) → result ≡ plan_by (sheet x) → (f.entry.count ≤ length f.entry.xs.now) × (index.new ≡ index_of (take f.entry.count f.entry.xs.now)) }
@@ -95,7 +95,7 @@ fn read_after_tree(place: Place, lines: usize, lent: &mut SheetRooms) -> Result<
     ensures held { (t : PlanTree) (rest : List (List ℕ)) (x : PlanSheet) → lent.old.rows.now ≡ flatten t ++ rest → lines ≡ length (flatten t) → with_facts (settings_of lent.old.head.now) t (read_facts (child_count t) place.entry.line place.entry.at (parts 10 (drop place.entry.at place.entry.s.now))) ≡ sheet x → PlanHeld x lent.new.rows.now lent.new.node.now lent.new.facts.now lent.new.xs.now lent.new.masks.now lent.new.index.now }
     ensures sizes { SameSizes lent.old lent.new }
 {
-    // Behind `lent` the rooms are read by `&mut`: of one that is read by `&` there, the checker knows the length alone.
+    // Read by `&mut` first: of a room behind `lent` that is read by `&`, the checker knows the length alone.
     let tree = &mut *lent.rows;
     let worked = remove_dist_changing_operators(&*tree, 0);
     // No From goes from u64 to usize.
@@ -119,10 +119,11 @@ fn read_after_tree(place: Place, lines: usize, lent: &mut SheetRooms) -> Result<
     judge_plan(&*head, read, &mut *lent.index)
 }
 
-// A D sheet, in the rooms lent. How many places head and index have stays a condition: `SheetRooms` would ask it of `read_fact_lines` too,
-// which needs neither.
+// A D sheet, in the rooms lent.
 pub fn read_plan(s: &[u8], lent: &mut SheetRooms) -> Result<Plan, Refused>
-    requires { RoomFor 256 17 (length s.now) (length lent.old.rows.now) × RoomFor 128 28 (length s.now) (length lent.old.xs.now) × (9 ≤ length lent.old.head.now) × (length lent.old.index.now ≡ 129) }
+    requires tree_room { RoomFor 256 17 (length s.now) (length lent.old.rows.now) }
+    requires room { RoomFor 128 28 (length s.now) (length lent.old.xs.now) }
+    requires whole { (9 ≤ length lent.old.head.now) × (length lent.old.index.now ≡ 129) }
     ensures answer { result ≡ plan_by (read_plan s.now) }
     ensures held { (x : PlanSheet) → read_plan s.now ≡ sheet x → PlanHeld x lent.new.rows.now lent.new.node.now lent.new.facts.now lent.new.xs.now lent.new.masks.now lent.new.index.now }
     ensures sizes { SameSizes lent.old lent.new }

@@ -16,10 +16,10 @@ use refusals::Refusal;
 use text::bounds::{Misfit, fixed_at};
 
 // Whether one of the first fields is over its largest number.
-pub fn over_any(largest: &[u64], fields: &[[u64; 2]]) -> bool
+pub(crate) fn over_any(largest: &[u64], fields: &[[u64; 2]]) -> bool
     ensures { result ≡ over_any largest.now (row_values fields.now) }
 {
-    // A loop, as in `text::bounds`: no law of std says what `any` finds over two slices side by side.
+    // As many pairs as the shorter list has.
     for (most, field) in largest.iter().zip(fields) {
         if *most < field[1] {
             return true;
@@ -29,7 +29,7 @@ pub fn over_any(largest: &[u64], fields: &[[u64; 2]]) -> bool
 }
 
 // By a line's fields and the place after it.
-pub fn judge_shape(
+pub(crate) fn judge_shape(
     sizes: &[u64],
     codes: &[u64],
     next: usize,
@@ -47,7 +47,7 @@ pub fn judge_shape(
 }
 
 // Why a line is turned back whose fields are not within their bounds, or that is none of the letter. No From: both types are of other crates.
-pub fn misfit_refusal(m: Misfit) -> Refusal
+pub(crate) fn misfit_refusal(m: Misfit) -> Refusal
     ensures { result ≡ refusal_of (misfit_number m) }
 {
     match m {
@@ -57,7 +57,7 @@ pub fn misfit_refusal(m: Misfit) -> Refusal
 }
 
 // The line of a letter at a place; its fields go into the rows lent.
-pub fn shaped_line(s: &[u8], at: usize, h: LineShape, fields: &mut [[u64; 2]]) -> Read
+pub(crate) fn shaped_line(s: &[u8], at: usize, h: LineShape, fields: &mut [[u64; 2]]) -> Read
     requires { (length h.bounds.now ≤ length fields.old) × Bounded h.bounds.now }
     ensures answer { (seen : ℕ) → result ≡ read_by (line_number (fixed_line (shape_by h.entry)) seen (after s.now at) (line_at h.entry.letter s.now at)) (after s.now at) (line_at h.entry.letter s.now at) }
     ensures stored { fields.new ≡ stored_in fields.old (line_fields h.entry.letter (line (drop at s.now))) }

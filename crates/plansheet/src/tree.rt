@@ -12,12 +12,13 @@ ghost use Rattle.plansheet.specs.Described.{tree_by};
 ghost use Rattle.plansheet.specs.ReadRows.{tree_number, fields_row, rows_by, Left, run_from};
 
 use crate::description::TreeShape;
-use crate::operator::{MOST_CHILDREN, operator_read, quick_rows, rule_fits};
+use crate::operator::{operator_read, quick_rows, rule_fits};
 use crate::place::Place;
 use crate::rooms::put;
 use crate::shape::{judge_shape, misfit_refusal};
 use exchange::kind::{REPARTITION, REPARTITION_UNKNOWN};
 use exchange::row::{CHILDREN, Row};
+use linekinds::kind::MOST_CHILDREN;
 use linekinds::line::Read;
 use refusals::{Refusal, Refused};
 use text::bounds::fixed_at;
@@ -35,9 +36,9 @@ fn judge_tree(h: TreeShape, seen: usize, next: usize, fields: &[[u64; 2]]) -> Re
     requires { 8 ≤ length fields.now }
     ensures { result ≡ judged_by (tree_number h.entry.line.sizes.now h.entry.line.codes.now h.entry.rules.now h.entry.most seen next fields.now) }
 {
-    let kind = fields[0][1];
-    let children = fields[7][1];
-    if exchange_limited(kind, fields[3][0]) {
+    let kind = fields[TreeShape::KIND][1];
+    let children = fields[TreeShape::CHILDREN][1];
+    if exchange_limited(kind, fields[TreeShape::LIMIT][0]) {
         return Err(Refusal::MalformedField);
     }
     if h.most <= seen || MOST_CHILDREN < children {
@@ -55,7 +56,6 @@ fn judge_tree(h: TreeShape, seen: usize, next: usize, fields: &[[u64; 2]]) -> Re
 }
 
 // The tree line at a place, before which there are `seen`; its fields go into the rows lent.
-// That there is room for its fields stays a condition, here and below: a struct of description and room would be taken apart in each function.
 fn tree_line(s: &[u8], at: usize, seen: usize, h: TreeShape, fields: &mut [[u64; 2]]) -> Read
     requires { length h.line.bounds.now ≤ length fields.old }
     ensures answer { result ≡ read_by (line_number (tree_by h.entry) seen (after s.now at) (line_at h.entry.line.letter s.now at)) (after s.now at) (line_at h.entry.line.letter s.now at) }
@@ -79,25 +79,25 @@ fn operator_row(fields: &[[u64; 2]], id: u64) -> Row
     requires { 8 ≤ length fields.now }
     ensures { result ≡ fields_row id fields.now }
 {
-    let limited = u64::from(fields[3][0] == 0);
+    let limited = u64::from(fields[TreeShape::LIMIT][0] == 0);
     [
         id,
-        fields[0][1],
-        fields[1][1],
-        fields[2][1],
+        fields[TreeShape::KIND][1],
+        fields[TreeShape::COUNT][1],
+        fields[TreeShape::KEEPS][1],
         limited,
-        fields[3][1],
-        fields[4][1],
+        fields[TreeShape::LIMIT][1],
+        fields[TreeShape::ORDER][1],
         0,
-        fields[5][1],
-        fields[6][1],
-        fields[7][1],
+        fields[TreeShape::TRACKED][1],
+        fields[TreeShape::NEED][1],
+        fields[TreeShape::CHILDREN][1],
     ]
 }
 
 // How many children a row has, and the place after its line.
 #[derive(Clone, Copy)]
-pub struct TreeRow {
+pub(crate) struct TreeRow {
     pub children: u64,
     pub next: usize,
 }
@@ -138,7 +138,7 @@ fn tree_row(
     fields: &mut [[u64; 2]],
     rows: &mut [Row],
 ) -> Result<TreeRow, Refusal>
-    requires in_bounds { length h.line.bounds.now ≤ length fields.old }
+    requires wide { length h.line.bounds.now ≤ length fields.old }
     requires plain_shape { (0 < quick → PlainShape h.line.letter h.line.bounds.now h.line.sizes.now h.line.codes.now) × (quick ≤ h.most) × (quick ≤ length rows.old) }
     ensures answer { result ≡ tree_row_by (number_at (tree_by h.entry) seen place.entry.s.now place.entry.at) (after place.entry.s.now place.entry.at) (line_at h.entry.line.letter place.entry.s.now place.entry.at) }
     ensures stored { RowStored (tree_by h.entry) seen place.entry.s.now place.entry.at rows.old rows.new }
@@ -163,7 +163,7 @@ pub struct RowsRead {
 }
 
 // The lines of one tree from a place on, as operators' rows, of which those are stored for which there is room; what follows the tree is left alone.
-pub fn read_tree(
+pub(crate) fn read_tree(
     place: Place,
     h: TreeShape,
     fields: &mut [[u64; 2]],
@@ -178,7 +178,7 @@ pub fn read_tree(
     let mut l = place.line;
     let mut n: usize = 0;
     let mut owed: u64 = 1;
-    // No `for`: the lines say themselves how many are still to come. Rows and lines are both counted, as in `facts`.
+    // Ends where no line is still to come, as the lines themselves say.
     while owed != 0 {
         let here = Place {
             s: place.s,

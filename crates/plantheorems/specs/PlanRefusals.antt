@@ -1,5 +1,7 @@
--- What is wrong with a D sheet: for each line the number that turns it back, for the sheet whether settings and facts fit; and which of these is the refusal.
--- Renders document 01, "Lowest line first, then lowest number; then Sheet, Work, Write in table order", and "a missing line counts as the line after the last".
+-- What is wrong with a D sheet: for each line the number that turns it back, for the sheet whether settings and facts fit;
+-- and which of these is the refusal.
+-- Renders document 01, "Lowest line first, then lowest number; then Sheet, Work, Write in table order",
+-- and "a missing line counts as the line after the last".
 use Rattle.std.specs.Prelude.{◌≡◌, ◌⊎◌, ℕ, List, [], ◌∷◌, ◌++◌, Bool, true, false, length, drop}
 use Rattle.text.specs.Text.{parts}
 use Rattle.text.specs.Lines.{first_of}

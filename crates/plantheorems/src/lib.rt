@@ -1,3 +1,2 @@
 // Theorems about the definitions of D sheets; there is no function here.
-
 #![tactic(auto)]

@@ -1,12 +1,11 @@
-// Replays the cases on standard input. A case is a line with its name, a line `entry,room,length` and a sheet of that many bytes. For each
-// it writes the name, then the answer or `e,number,line`, and `touched` where a byte of the room beyond the answer was changed, and `lent`
-// where the decision in lent rooms, which are not clear, is another.
-// Where no case follows, it writes `?` and ends.
+// Replays the cases on standard input: for each its name, and the answer or `e,number,line`.
+// A case is a line with its name, a line `entry,room,length` and a sheet of that many bytes. Where none follows, it writes `?` and ends.
 #![tactic(auto)]
 
 ghost use Rattle.std.specs.Prelude.{◌+◌, ◌<◌, ◌≤◌, IfSome, length};
 
 use input::{answered, buffer, front, read_full};
+use lochkave::rooms::{DST, FIELDS, INDEX, LISTS, MASKS, MID, ROWS, XS};
 use std::io;
 
 // What the room is filled with before a call; no answer has it.
@@ -80,19 +79,17 @@ fn ask(case: Case<'_>, room: &mut [u8]) -> u64 {
 
 // Decides in lent rooms, which hold sevens.
 fn decide_lent(sheet: &[u8], out: &mut [u8]) -> u64 {
-    let mut fields = [[7u64; 2]; 256];
-    let mut rules = [[7u64; 2]; 32];
-    let mut lists = [[7u64; 64]; 17];
-    let mut rows = [[7u64; 11]; 256];
-    let mut xs = [[7u64; 13]; 128];
-    let mut mid = [[7u64; 11]; 258];
-    let mut dst = [[7u64; 11]; 536];
-    let mut masks = [7u64; 256];
-    let mut index = [7u64; 129];
+    let mut fields = [[7u64; 2]; FIELDS];
+    let mut lists = [[7u64; 64]; LISTS];
+    let mut rows = [[7u64; 11]; ROWS];
+    let mut xs = [[7u64; 13]; XS];
+    let mut mid = [[7u64; 11]; MID];
+    let mut dst = [[7u64; 11]; DST];
+    let mut masks = [7u64; MASKS];
+    let mut index = [7u64; INDEX];
     lochkave::lochkave_decide_in(
         sheet,
         &mut fields,
-        &mut rules,
         &mut lists,
         &mut rows,
         &mut xs,
@@ -114,6 +111,7 @@ fn lent_alike(sheet: &[u8], room: &[u8], word: u64) -> bool {
     decide_lent(sheet, &mut *other) == word && *room == *other
 }
 
+// The answer; `touched` where a byte of the room beyond it was changed, and `lent` where it is another in lent rooms, which are not clear.
 fn replay(rt: &impl Print, case: Case<'_>, room: &mut [u8]) -> io::Result<()> {
     room.fill(FILLED);
     let word = ask(case, room);
@@ -135,7 +133,7 @@ fn replay(rt: &impl Print, case: Case<'_>, room: &mut [u8]) -> io::Result<()> {
 // Every case of the text.
 fn run(rt: &impl Print, text: &[u8], room: &mut [u8]) -> io::Result<()> {
     let mut rest = text;
-    // No `for`: a case takes as many bytes as it says.
+    // A case takes as many bytes as it says.
     while !rest.is_empty() {
         let (head, after_head) = rest.split_at(line_length(rest));
         rt.write_all(head)?;

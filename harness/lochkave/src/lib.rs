@@ -93,8 +93,6 @@ unsafe extern "C" {
         sheet_len: usize,
         fields: *mut [u64; 2],
         fields_len: usize,
-        rules: *mut [u64; 2],
-        rules_len: usize,
         lists: *mut [u64; 64],
         lists_len: usize,
         rows: *mut [u64; 11],
@@ -185,48 +183,45 @@ pub fn decide(sheet: &[u8]) -> Result<Vec<u8>, Refusal> {
 }
 
 /// The rooms' lengths, in the order in which the library takes them.
-const LENGTHS: [usize; 9] = [256, 32, 17, 256, 128, 258, 536, 256, 129];
+const LENGTHS: [usize; 8] = [256, 17, 256, 128, 258, 536, 256, 129];
 
 /// The rooms of a decision.
 struct Rooms {
     fields: [[u64; 2]; LENGTHS[0]],
-    rules: [[u64; 2]; LENGTHS[1]],
-    lists: [[u64; 64]; LENGTHS[2]],
-    rows: [[u64; 11]; LENGTHS[3]],
-    xs: [[u64; 13]; LENGTHS[4]],
-    mid: [[u64; 11]; LENGTHS[5]],
-    dst: [[u64; 11]; LENGTHS[6]],
-    masks: [u64; LENGTHS[7]],
-    index: [u64; LENGTHS[8]],
+    lists: [[u64; 64]; LENGTHS[1]],
+    rows: [[u64; 11]; LENGTHS[2]],
+    xs: [[u64; 13]; LENGTHS[3]],
+    mid: [[u64; 11]; LENGTHS[4]],
+    dst: [[u64; 11]; LENGTHS[5]],
+    masks: [u64; LENGTHS[6]],
+    index: [u64; LENGTHS[7]],
 }
 
 impl Rooms {
     /// The library's result, with so much lent of each room. Sound for any slices where no length is above its array's, as in `ask_into`:
     /// the rooms are arrays of their own, and any numbers may stand in them.
     #[inline]
-    unsafe fn lend(&mut self, lengths: [usize; 9], sheet: &[u8], out: &mut [u8]) -> u64 {
+    unsafe fn lend(&mut self, lengths: [usize; 8], sheet: &[u8], out: &mut [u8]) -> u64 {
         unsafe {
             lochkave_decide_in(
                 sheet.as_ptr(),
                 sheet.len(),
                 self.fields.as_mut_ptr(),
                 lengths[0],
-                self.rules.as_mut_ptr(),
-                lengths[1],
                 self.lists.as_mut_ptr(),
-                lengths[2],
+                lengths[1],
                 self.rows.as_mut_ptr(),
-                lengths[3],
+                lengths[2],
                 self.xs.as_mut_ptr(),
-                lengths[4],
+                lengths[3],
                 self.mid.as_mut_ptr(),
-                lengths[5],
+                lengths[4],
                 self.dst.as_mut_ptr(),
-                lengths[6],
+                lengths[5],
                 self.masks.as_mut_ptr(),
-                lengths[7],
+                lengths[6],
                 self.index.as_mut_ptr(),
-                lengths[8],
+                lengths[7],
                 out.as_mut_ptr(),
                 out.len(),
             )
@@ -256,14 +251,13 @@ impl Room {
     fn filled(number: u64) -> Room {
         Room(Box::new(Rooms {
             fields: [[number; 2]; LENGTHS[0]],
-            rules: [[number; 2]; LENGTHS[1]],
-            lists: [[number; 64]; LENGTHS[2]],
-            rows: [[number; 11]; LENGTHS[3]],
-            xs: [[number; 13]; LENGTHS[4]],
-            mid: [[number; 11]; LENGTHS[5]],
-            dst: [[number; 11]; LENGTHS[6]],
-            masks: [number; LENGTHS[7]],
-            index: [number; LENGTHS[8]],
+            lists: [[number; 64]; LENGTHS[1]],
+            rows: [[number; 11]; LENGTHS[2]],
+            xs: [[number; 13]; LENGTHS[3]],
+            mid: [[number; 11]; LENGTHS[4]],
+            dst: [[number; 11]; LENGTHS[5]],
+            masks: [number; LENGTHS[6]],
+            index: [number; LENGTHS[7]],
         }))
     }
 
@@ -330,7 +324,7 @@ mod tests {
             lengths[short] -= 1;
             lengths
         };
-        let cases: Vec<_> = (0..9).map(one_less).chain([[0; 9]]).collect();
+        let cases: Vec<_> = (0..LENGTHS.len()).map(one_less).chain([[0; LENGTHS.len()]]).collect();
         let mut room = Room::filled(7);
         for sheet in sheets() {
             let mut own = vec![126; ANSWER_MOST];

@@ -8,28 +8,20 @@ use Rattle.ensure.proofs.Distributed.{sheet_fits}
 use Rattle.plansheet.proofs.Mapped.{mapped_ok, mapped_err}
 use Rattle.lochkave.proofs.PlanAnswered.{answered_lines, gives_refused, gives_answered}
 use Rattle.lochkave.proofs.plan.answer_plan.Goals as goal
+use Rattle.lochkave.proofs.plan.answer_plan.Goals.{In_ok-done}
+
+-- the answer's lines are in the room
+fits : (c : In_ok-done) → c.in_ok-done.done.lines ≤ length c.args.dst.now
+fits c =
+    let a = c.args in let q = c.requires in let p = q.sheet in let d = c.ensure_distribution in
+    answered_lines d.result _ (mapped_ok _ _ _ c.map_err.ensures.cases _ c.in_ok-done.was) (ensured a.s (facts_of a.f) p.tree) a.dst.now _ (length a.dst.now) (d.ensures.ends p.tree p.rest p.stands)
+    (sheet_fits a.s (facts_of a.f) a.src.now (length a.f.children.now) (length a.dst.now) p a.f.few q.roomy.1)
 
 pub slice_bounds-rows-end : goal.slice_bounds-rows-end
-slice_bounds-rows-end c =
-    let a = c.args in
-    let q = c.requires in
-    let p = q.sheet in
-    let d = c.ensure_distribution in
-    let fits : c.in_ok-done.done.lines ≤ length a.dst.now =
-    answered_lines d.result _ (mapped_ok _ _ _ c.map_err.ensures.cases _ c.in_ok-done.was) (ensured a.s (facts_of a.f) p.tree) a.dst.now _ (length a.dst.now) (d.ensures.ends p.tree p.rest p.stands)
-    (sheet_fits a.s (facts_of a.f) a.src.now (length a.f.children.now) (length a.dst.now) p a.f.few q.roomy.1) in
-    omega (arith, fits, d.auto.dst)
+slice_bounds-rows-end c = omega (arith, fits (goal.at.slice_bounds-rows-end c).In_ok-done, c.ensure_distribution.auto.dst)
 
 pub slice_bounds-rows-end-2 : goal.slice_bounds-rows-end-2
-slice_bounds-rows-end-2 c =
-    let a = c.args in
-    let q = c.requires in
-    let p = q.sheet in
-    let d = c.ensure_distribution in
-    let fits : c.in_ok-done.done.lines ≤ length a.dst.now =
-    answered_lines d.result _ (mapped_ok _ _ _ c.map_err.ensures.cases _ c.in_ok-done.was) (ensured a.s (facts_of a.f) p.tree) a.dst.now _ (length a.dst.now) (d.ensures.ends p.tree p.rest p.stands)
-    (sheet_fits a.s (facts_of a.f) a.src.now (length a.f.children.now) (length a.dst.now) p a.f.few q.roomy.1) in
-    sym (length-take-le c.in_ok-done.done.lines d.new.dst (omega (arith, fits, d.auto.dst)))
+slice_bounds-rows-end-2 c = let d = c.ensure_distribution in sym (length-take-le c.in_ok-done.done.lines d.new.dst (omega (arith, fits (goal.at.slice_bounds-rows-end-2 c).In_ok-done, d.auto.dst)))
 
 pub returns-in_err-done : goal.returns-in_err-done
 returns-in_err-done c =
@@ -41,13 +33,6 @@ returns-in_err-done c =
 
 pub returns : goal.returns
 returns c =
-    let a = c.args in
-    let q = c.requires in
-    let p = q.sheet in
-    let d = c.ensure_distribution in
-    let n = c.in_ok-done.done in
-    let was = mapped_ok _ _ _ c.map_err.ensures.cases _ c.in_ok-done.was in
-    let fits : n.lines ≤ length a.dst.now =
-    answered_lines d.result _ was (ensured a.s (facts_of a.f) p.tree) a.dst.now _ (length a.dst.now) (d.ensures.ends p.tree p.rest p.stands)
-    (sheet_fits a.s (facts_of a.f) a.src.now (length a.f.children.now) (length a.dst.now) p a.f.few q.roomy.1) in
-    λ t rest h. gives_answered d.result _ was (ensured a.s (facts_of a.f) t) a.dst.now _ (length a.out.now) _ a.out.now _ (d.ensures.ends t rest h) fits c.write_plan.ensures
+    let a = c.args in let d = c.ensure_distribution in
+    λ t rest h. gives_answered d.result _ (mapped_ok _ _ _ c.map_err.ensures.cases _ c.in_ok-done.was) (ensured a.s (facts_of a.f) t) a.dst.now _ (length a.out.now) _ a.out.now _
+    (d.ensures.ends t rest h) (fits (goal.at.returns c).In_ok-done) c.write_plan.ensures

@@ -14,8 +14,9 @@ use Rattle.plansheet.specs.PlanLines.{child_line}
 use Rattle.plansheet.specs.ReadRows.{number_rows}
 use Rattle.plansheet.proofs.Turns.{head_first, head_long, head_done, head_refused, head_more}
 use Rattle.plansheet.proofs.FineLines.{numbers_made}
-use Rattle.plansheet.proofs.Singles.{single}
+use Rattle.plansheet.proofs.Singles.{Single, single}
 use Rattle.plansheet.proofs.facts.read_children.Goals as goal
+use Rattle.plansheet.proofs.facts.read_children.Goals.{In-Line}
 
 abbrev read_on : ℕ → ℕ → ℕ → Result RowsRead Refused
 read_on n p l = Ok (record { count = n; next = p; line = l })
@@ -47,28 +48,25 @@ returns-in-Refused c =
     full (head_long number_rows _ numbers_made child_line _ _ _ _ _ _ _ _ l.invariant.0) in
     record { answer = ap back c.on_line.ensures ∙ both.0; left = rw (set-get_or l.row-items l.row-index []) both.1 }
 
+-- the F line that was read
+line_read : (c : In-Line) → Single child_line c.loop-row.row-index c.args.place.s.now c.loop-row.p c.in-Line.count c.in-Line.next c.child_line.new.fields
+line_read c =
+    let l = c.loop-row in let r = c.child_line in
+    single child_line refl l.row-index c.args.place.s.now l.p _ _ l.fields _ (sym c.in-Line.is ∙ r.ensures.answer l.row-index) r.ensures.stored (omega (arith, l.invariant.2, c.requires.0))
+
 pub slice_bounds-numbers_of-end : goal.slice_bounds-numbers_of-end
-slice_bounds-numbers_of-end c =
-    let l = c.loop-row in let a = c.args in
-    let t = single child_line refl l.row-index a.place.s.now l.p _ _ l.fields _ (sym c.in-Line.is ∙ c.child_line.ensures.answer l.row-index) c.child_line.ensures.stored (omega (arith, l.invariant.2, c.requires.0)) in
-    t.fits
+slice_bounds-numbers_of-end c = (line_read (goal.at.slice_bounds-numbers_of-end c).In-Line).fits
 
 pub slice_bounds-numbers_of-end-in-Line : goal.slice_bounds-numbers_of-end-in-Line
-slice_bounds-numbers_of-end-in-Line c =
-    let l = c.loop-row in let a = c.args in
-    let t = single child_line refl l.row-index a.place.s.now l.p _ _ l.fields _ (sym c.in-Line.is ∙ c.child_line.ensures.answer l.row-index) c.child_line.ensures.stored (omega (arith, l.invariant.2, c.requires.0)) in
-    sym (length-take-le _ _ t.fits)
+slice_bounds-numbers_of-end-in-Line c = sym (length-take-le _ _ (line_read (goal.at.slice_bounds-numbers_of-end-in-Line c).In-Line).fits)
 
 pub numbers_of-requires : goal.numbers_of-requires
-numbers_of-requires c =
-    let l = c.loop-row in let a = c.args in
-    let t = single child_line refl l.row-index a.place.s.now l.p _ _ l.fields _ (sym c.in-Line.is ∙ c.child_line.ensures.answer l.row-index) c.child_line.ensures.stored (omega (arith, l.invariant.2, c.requires.0)) in
-    (omega arith, t.part)
+numbers_of-requires c = (omega arith, (line_read (goal.at.numbers_of-requires c).In-Line).part)
 
 pub loop-row-preserved : goal.loop-row-preserved
 loop-row-preserved c =
     let l = c.loop-row in let a = c.args in
-    let t = single child_line refl l.row-index a.place.s.now l.p _ _ l.fields _ (sym c.in-Line.is ∙ c.child_line.ensures.answer l.row-index) c.child_line.ensures.stored (omega (arith, l.invariant.2, c.requires.0)) in
+    let t = line_read (goal.at.loop-row-preserved c).In-Line in
     let many = part_long a.children a.rows.now c.requires.1 in
     let g : a.children - l.row-index ≡ 0 → ⊥ = λ z. omega (arith, many, c.loop-row-test.true) in
     let f : a.children - (l.row-index + 1) ≡ a.children - l.row-index - 1 = omega arith in

@@ -1,8 +1,8 @@
--- `plansheet::plan::judge_plan` meets its contract. One law for each way out (`PlanWhole`).
+-- `plansheet::plan::judge_plan` meets its contract. One law for each way out (`PlanJudged`).
 use mathlib.Core.Path.{sym, ap, ◌∙◌}
 use Rattle.exchange.specs.declared.settings.Settings.{Settings}
 use Rattle.plansheet.specs.PlanSheets.{settings_of}
-use Rattle.plansheet.proofs.PlanWhole.{settings_fine, settings_out, judge_seven, judge_eight, judge_held}
+use Rattle.plansheet.proofs.PlanJudged.{settings_fine, settings_out, judge_seven, judge_eight, judge_held}
 use Rattle.std.specs.Prelude.{Result, Err}
 use Rattle.refusals.specs.declared.Refused.{Refused}
 use Rattle.plansheet.specs.declared.plan.Plan as P

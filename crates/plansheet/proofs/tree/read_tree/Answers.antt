@@ -12,6 +12,7 @@ use Rattle.linekinds.specs.Lines.{line_number, fields_of}
 use Rattle.plansheet.specs.Shapes.{children_at}
 use Rattle.plansheet.specs.PlanSheets.{operator_row, operator_rows}
 use Rattle.plansheet.specs.Described.{shape_by, tree_by}
+use Rattle.plansheet.specs.ReadRows.{rows_by, run_from, Left}
 use Rattle.plansheet.proofs.Turns.{Head, on, Taken, taken, head_first, head_long, head_done, head_refused, head_next, head_more}
 use Rattle.plansheet.proofs.FineLines.{tree_small, operators_made}
 use Rattle.plansheet.proofs.PlainTrees.{line_again, refused_again}
@@ -24,12 +25,8 @@ use Rattle.plansheet.specs.declared.tree.TreeRow.{TreeRow}
 use Rattle.plansheet.specs.PlainTrees.{tree_row_by, number_at}
 use Rattle.plansheet.proofs.Mapped.{mapped_ok, mapped_err}
 use Rattle.std.proofs.Common.{rules}
-use Rattle.refusals.specs.declared.Refused.{Refused}
-use Rattle.plansheet.specs.declared.tree.RowsRead.{RowsRead}
 use Rattle.plansheet.proofs.tree.read_tree.Goals as goal
-
-abbrev back : Refused → Result RowsRead Refused
-back w = Err w
+use Rattle.plansheet.proofs.tree.read_tree.Goals.{In_ok-row, In_err-row}
 
 -- ---- a turn
 
@@ -60,39 +57,41 @@ module _ (h : TreeShape) (s : List ℕ) (p n : ℕ) where
 pub loop-owed-init : goal.loop-owed-init
 loop-owed-init c = (head_first (operator_rows 1) _ operators_made (tree_by c.args.h) _ _ _ _ _ c.args.place.within c.args.place.numbered, omega arith, omega arith, refl)
 
+-- a line that was turned back ends the run
+refused :
+    (c : In_err-row) →
+    (Err (on (mapped_err _ _ _ c.map_err.ensures.cases _ c.in_err-row.was).0 c.loop-owed.l) ≡ rows_by (run_from (tree_by c.args.h) 1 c.args.place.s.now c.args.place.line c.args.place.at))
+    × Left (operator_rows 1) c.args.place.s.now (run_from (tree_by c.args.h) 1 c.args.place.s.now c.args.place.line c.args.place.at) c.args.rows.now c.tree_row.new.rows
+refused c =
+    let l = c.loop-owed in let h = c.args.h in let s = c.args.place.s.now in let was = mapped_err _ _ _ c.map_err.ensures.cases _ c.in_err-row.was in
+    head_refused (operator_rows 1) _ operators_made (tree_by h) _ _ _ _ _ _ _ _ l.invariant.0 (ne_eqb _ _ c.loop-owed-test.true) was.0
+    (refused_again (line_number (tree_by h) l.n (after s l.p) (line_at h.line.letter s l.p)) (after s l.p) (line_at h.line.letter s l.p) _ (sym was.1 ∙ c.tree_row.ensures.answer))
+    c.tree_row.new.rows (c.tree_row.auto.rows ∙ head_long (operator_rows 1) _ operators_made (tree_by h) _ _ _ _ _ _ _ _ l.invariant.0)
+
+-- a line that was read
+turned : (c : In_ok-row) → Turn c.args.h c.args.place.s.now c.loop-owed.p c.loop-owed.n c.in_ok-row.row
+turned c =
+    let l = c.loop-owed in
+    turn c.args.h c.args.place.s.now l.p l.n _ _ _ _ _ l.invariant.0 c.tree_row.result c.tree_row.ensures.answer c.in_ok-row.row (mapped_ok _ _ _ c.map_err.ensures.cases _ c.in_ok-row.was)
+
 pub returns-in_err-row-clause-answer : goal.returns-in_err-row-clause-answer
 returns-in_err-row-clause-answer c =
-    let l = c.loop-owed in let a = c.args in
-    let was = mapped_err _ _ _ c.map_err.ensures.cases _ c.in_err-row.was in
-    let both = head_refused (operator_rows 1) _ operators_made (tree_by a.h) _ _ _ _ _ _ _ _ l.invariant.0 (ne_eqb _ _ c.loop-owed-test.true) was.0
-    (refused_again (line_number (tree_by a.h) l.n (after a.place.s.now l.p) (line_at a.h.line.letter a.place.s.now l.p)) (after a.place.s.now l.p) (line_at a.h.line.letter a.place.s.now l.p) _ (sym was.1 ∙ c.tree_row.ensures.answer))
-    c.tree_row.new.rows (c.tree_row.auto.rows ∙ head_long (operator_rows 1) _ operators_made (tree_by a.h) _ _ _ _ _ _ _ _ l.invariant.0) in
-    let p = err_from_is_err_and c.from_residual.result c.from_residual.ensures.1 in
-    let is : c.in_err-row.field-0.0 ≡ on was.0 l.l = search (rules, was.2) in
-    rw (p.1, p.2, is) both.0
+    let was = mapped_err _ _ _ c.map_err.ensures.cases _ c.in_err-row.was in let p = err_from_is_err_and c.from_residual.result c.from_residual.ensures.1 in
+    let is : c.in_err-row.field-0.0 ≡ on was.0 c.loop-owed.l = search (rules, was.2) in
+    rw (p.1, p.2, is) (refused (goal.at.returns-in_err-row-clause-answer c).In_err-row).0
 
 pub returns-in_err-row-clause-left : goal.returns-in_err-row-clause-left
-returns-in_err-row-clause-left c =
-    let l = c.loop-owed in let a = c.args in
-    let was = mapped_err _ _ _ c.map_err.ensures.cases _ c.in_err-row.was in
-    let both = head_refused (operator_rows 1) _ operators_made (tree_by a.h) _ _ _ _ _ _ _ _ l.invariant.0 (ne_eqb _ _ c.loop-owed-test.true) was.0
-    (refused_again (line_number (tree_by a.h) l.n (after a.place.s.now l.p) (line_at a.h.line.letter a.place.s.now l.p)) (after a.place.s.now l.p) (line_at a.h.line.letter a.place.s.now l.p) _ (sym was.1 ∙ c.tree_row.ensures.answer))
-    c.tree_row.new.rows (c.tree_row.auto.rows ∙ head_long (operator_rows 1) _ operators_made (tree_by a.h) _ _ _ _ _ _ _ _ l.invariant.0) in
-    both.1
+returns-in_err-row-clause-left c = (refused (goal.at.returns-in_err-row-clause-left c).In_err-row).1
 
 pub overflow_add-owed : goal.overflow_add-owed
-overflow_add-owed c =
-    let l = c.loop-owed in let t = turn c.args.h c.args.place.s.now l.p l.n _ _ _ _ _ l.invariant.0 c.tree_row.result c.tree_row.ensures.answer c.in_ok-row.row (mapped_ok _ _ _ c.map_err.ensures.cases _ c.in_ok-row.was) in
-    omega (arith, t, c.args.h.few, c.args.place, l.invariant.2)
+overflow_add-owed c = omega (arith, turned (goal.at.overflow_add-owed c).In_ok-row, c.args.h.few, c.args.place, c.loop-owed.invariant.2)
 
 pub loop-owed-smaller : goal.loop-owed-smaller
-loop-owed-smaller c =
-    let l = c.loop-owed in let t = turn c.args.h c.args.place.s.now l.p l.n _ _ _ _ _ l.invariant.0 c.tree_row.result c.tree_row.ensures.answer c.in_ok-row.row (mapped_ok _ _ _ c.map_err.ensures.cases _ c.in_ok-row.was) in
-    omega (arith, t)
+loop-owed-smaller c = omega (arith, turned (goal.at.loop-owed-smaller c).In_ok-row)
 
 pub loop-owed-preserved : goal.loop-owed-preserved
 loop-owed-preserved c =
-    let l = c.loop-owed in let t = turn c.args.h c.args.place.s.now l.p l.n _ _ _ _ _ l.invariant.0 c.tree_row.result c.tree_row.ensures.answer c.in_ok-row.row (mapped_ok _ _ _ c.map_err.ensures.cases _ c.in_ok-row.was) in
+    let l = c.loop-owed in let t = turned (goal.at.loop-owed-preserved c).In_ok-row in
     let took = t.took in
     let stored : c.tree_row.new.rows ≡ set l.rows l.n (operator_row (l.n + 1) took.fs) =
     c.tree_row.ensures.stored (ap (line_number (tree_by c.args.h) l.n (after c.args.place.s.now l.p)) took.is ∙ took.zero)

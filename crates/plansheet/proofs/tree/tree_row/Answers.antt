@@ -3,29 +3,36 @@ use mathlib.Core.Path.{◌≡◌, ap, subst, ◌∙◌}
 use mathlib.Core.List.{List, []}
 use Prim.Native.Nat.{ℕ, ◌<◌}
 use native.Mathlib.Omega.{arith}
-use lib.ListN.{get_or, set}
+use lib.ListN.{length, get_or, set}
 use lib.Seq.{get_or-set_same, set-set}
 use Rattle.numberlines.specs.declared.row.Unread.{Unread}
 use Rattle.std.specs.Prelude.{Result}
 use Rattle.plansheet.specs.PlainTrees.{PlainShape, OperatorHeld, OperatorRead}
 use Rattle.plansheet.proofs.PlainTrees.{quick_held, quick_row}
 use Rattle.plansheet.proofs.tree.tree_row.Goals as goal
-use Rattle.plansheet.proofs.tree.tree_row.Goals.{then-seen-quick+in_default, else-seen-quick}
+use Rattle.plansheet.proofs.tree.tree_row.Goals.{In-Ok, then-seen-quick+in_default, else-seen-quick}
+
+-- the row that was read quickly
+held : (c : In-Ok) → let a = c.args in OperatorHeld a.h.line.letter a.place.s.now a.place.at a.seen a.h.line.codes.now a.h.rules.now c.in-Ok.end c.operator_read.new.row
+held c = let a = c.args in subst (λ (x : Result ℕ Unread). OperatorRead a.h.line.letter a.place.s.now a.place.at a.seen a.h.line.codes.now a.h.rules.now x c.operator_read.new.row) c.in-Ok.is c.operator_read.ensures
+
+-- the description that allows it, and that it is one of the rows for which there is room
+plain : (c : In-Ok) → let h = c.args.h in PlainShape h.line.letter h.line.bounds.now h.line.sizes.now h.line.codes.now
+plain c = c.requires.plain_shape.0 (omega (arith, c.if-seen-quick.true))
+
+few : (c : In-Ok) → (c.args.seen < c.args.h.most) × (c.args.seen < length c.args.rows.now)
+few c = (omega (arith, c.if-seen-quick.true, c.requires.plain_shape), omega (arith, c.if-seen-quick.true, c.requires.plain_shape))
 
 pub returns-in-Ok-clause-answer : goal.returns-in-Ok-clause-answer
 returns-in-Ok-clause-answer c =
-    let held : let a = c.args in OperatorHeld a.h.line.letter a.place.s.now a.place.at a.seen a.h.line.codes.now a.h.rules.now c.in-Ok.end c.operator_read.new.row = let a = c.args in subst (λ (x : Result ℕ Unread). OperatorRead a.h.line.letter a.place.s.now a.place.at a.seen a.h.line.codes.now a.h.rules.now x c.operator_read.new.row) c.in-Ok.is c.operator_read.ensures in
-    let shape : let a = c.args in PlainShape a.h.line.letter a.h.line.bounds.now a.h.line.sizes.now a.h.line.codes.now = c.requires.plain_shape.0 (omega (arith, c.if-seen-quick.true)) in
-    let a = c.args in let d = held in
-    let f : a.seen < a.h.most = omega (arith, c.if-seen-quick.true, c.requires.plain_shape) in quick_row a.h.line.letter a.h.line.bounds.now a.h.line.sizes.now a.h.line.codes.now a.h.rules.now a.h.most a.seen a.place.s.now a.place.at (shape) c.args.h.bounded f _ _ d _
-    (ap (λ (r : List ℕ). get_or r 10 0) (get_or-set_same a.rows.now a.seen c.operator_read.new.row [] (omega (arith, c.if-seen-quick.true, c.requires.plain_shape))))
+    let a = c.args in let h = a.h in let l = h.line in let x = (goal.at.returns-in-Ok-clause-answer c).In-Ok in
+    quick_row l.letter l.bounds.now l.sizes.now l.codes.now h.rules.now h.most a.seen a.place.s.now a.place.at (plain x) h.bounded (few x).0 _ _ (held x) _
+    (ap (λ (r : List ℕ). get_or r 10 0) (get_or-set_same a.rows.now a.seen c.operator_read.new.row [] (few x).1))
 
 pub returns-in-Ok-clause-stored : goal.returns-in-Ok-clause-stored
 returns-in-Ok-clause-stored c =
-    let held : let a = c.args in OperatorHeld a.h.line.letter a.place.s.now a.place.at a.seen a.h.line.codes.now a.h.rules.now c.in-Ok.end c.operator_read.new.row = let a = c.args in subst (λ (x : Result ℕ Unread). OperatorRead a.h.line.letter a.place.s.now a.place.at a.seen a.h.line.codes.now a.h.rules.now x c.operator_read.new.row) c.in-Ok.is c.operator_read.ensures in
-    let shape : let a = c.args in PlainShape a.h.line.letter a.h.line.bounds.now a.h.line.sizes.now a.h.line.codes.now = c.requires.plain_shape.0 (omega (arith, c.if-seen-quick.true)) in
-    let a = c.args in let d = held in
-    let f : a.seen < a.h.most = omega (arith, c.if-seen-quick.true, c.requires.plain_shape) in λ z. ap (set a.rows.now a.seen) (quick_held a.h.line.letter a.h.line.bounds.now a.h.line.sizes.now a.h.line.codes.now a.h.rules.now a.h.most a.seen a.place.s.now a.place.at (shape) c.args.h.bounded f _ _ d)
+    let a = c.args in let h = a.h in let l = h.line in let x = (goal.at.returns-in-Ok-clause-stored c).In-Ok in
+    λ z. ap (set a.rows.now a.seen) (quick_held l.letter l.bounds.now l.sizes.now l.codes.now h.rules.now h.most a.seen a.place.s.now a.place.at (plain x) h.bounded (few x).0 _ _ (held x))
 
 -- what a later row covers is the same, whichever branch was taken
 pub returns-clause-stored : goal.returns-clause-stored
