@@ -1,4 +1,4 @@
--- The sheet that lent lists make, and what is decided of it.
+-- The sheet that lent lists make, and what is decided of it. Renders document 01, "Key sheet".
 use Rattle.std.specs.Prelude.{ℕ, ◌≡◌, List, Option}
 use Rattle.keys.specs.Expressions.{Expression}
 use Rattle.keys.specs.Adjust.{KeySheet, Adjustment}

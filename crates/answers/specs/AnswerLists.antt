@@ -1,4 +1,5 @@
 -- The text of an answer's lists, and how long they are.
+-- Renders document 01, "Answer: `k,changed,report` .., then P positions, R, L, G, S, J, C".
 use Rattle.std.specs.Prelude.{ℕ, ◌≤◌, ◌≡◌, List, ◌++◌, length, IfSome, option_copied}
 use Rattle.sheet.specs.Held.{held_at, child_count}
 use Rattle.sheet.specs.declared.held.Lists.{Lists}

@@ -1,4 +1,4 @@
--- What the benchmark's functions answer.
+-- What the benchmark's functions answer; it renders nothing of document 01.
 use Rattle.std.specs.Prelude.{ℕ, ◌+◌, List, map, cond, leb, length}
 use Rattle.std.proofs.Math.Option.{Option, none, some}
 use Rattle.std.proofs.lemmas.List.Edits.{sets}

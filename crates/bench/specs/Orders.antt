@@ -1,4 +1,4 @@
--- What the benchmark's `try_reorder` answers: the report, and the moved keys in the room lent.
+-- What the benchmark's `try_reorder` answers: the report, and the moved keys in the room lent; it renders nothing of document 01.
 use Rattle.std.specs.Prelude.{ℕ, Bool, cond, ◌&&◌, List, eqb, leb, length}
 use Rattle.std.proofs.lemmas.List.Edits.{sets}
 use Rattle.keys.specs.Reorder.{Tried, try_reorder}

@@ -1,4 +1,4 @@
--- The sheet that lent inputs make.
+-- The sheet that lent inputs make. Renders document 01, "`I,op,mode` then L, G, S, H, N, W, V".
 use Rattle.std.specs.Prelude.{ℕ, List}
 use Rattle.keys.specs.Inputs.{JoinSheet}
 use Rattle.keys.specs.InputValues.{join_sheet}

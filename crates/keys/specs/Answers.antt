@@ -1,4 +1,5 @@
 -- What the answers of `adjust_input_keys_ordering` and `reorder_join_keys_to_inputs` stand for: document 01's numbers and lists for each case.
+-- Renders document 01, "Answer: `k,changed,report`".
 use Rattle.std.specs.Prelude.{ℕ, Bool, cond, List, [], ◌++◌, length, Option, Some, None}
 use Rattle.keys.specs.Lists.{permute}
 use Rattle.keys.specs.Expressions.{Expression, placeholder, expressions, rules}

@@ -1,4 +1,5 @@
 -- What the lent lists and the answers of `inputs` stand for: document 01's numbers and lists for each case.
+-- Renders document 01, "`I,op,mode` then L, G, S, H, N, W, V", and "Answer `i,report,followed`".
 use Rattle.std.specs.Prelude.{ℕ, ◌≤◌, ◌+◌, ◌*◌, ◌-◌, ◌≡◌, cond, List, [], ◌∷◌, eqb, length, take, drop, Option, Some, None}
 use Rattle.std.proofs.Math.Option as maybe
 use Rattle.std.proofs.Math.Option.{none, some}

@@ -1,4 +1,4 @@
--- The second half of `try_reorder`, for the contracts of private functions: the keys as they stand do not meet the requirement.
+-- The second half of `try_reorder` of 000, for the contracts of private functions: the keys as they stand do not meet the requirement.
 use Rattle.std.specs.Prelude.{Bool, cond, List}
 use Rattle.keys.specs.Lists.{or_else}
 use Rattle.keys.specs.Reorder.{Rule, Tried, met, moved_by, rewrite, meets, either_side}

@@ -1,4 +1,5 @@
 -- What the structs and enums of the code stand for.
+-- Renders document 01, "Key sheet", the lists, and "Answer: `k,changed,report`", the report.
 use Rattle.std.specs.Prelude.{ℕ, List, [], map, take, get_or, Option, Some, None}
 use Rattle.std.proofs.Math.Option as maybe
 use Rattle.std.proofs.Math.Option.{none, some}

@@ -1,4 +1,5 @@
 -- What the reading functions answer, and the line kind that a code and a letter stand for.
+-- Renders document 01, "Where a sheet is turned back", numbers 2, 3, 4 and 6.
 use Rattle.std.specs.Prelude.{ℕ, ◌≤◌, ◌<◌, ◌-◌, ◌*◌, List, [], ◌∷◌, ◌++◌, map, ◌≡◌, Bool, false, cond, not, ◌&&◌, ◌||◌, eqb, leb, ltb, length, get_or, take, drop}
 use Rattle.std.proofs.Math.Option.{Option}
 use Rattle.text.specs.declared.field.Field.{Field}

@@ -9,7 +9,7 @@ use crate::kind::{Codes, judge_codes, judge_counts};
 use refusals::Refusal;
 use text::line::line_at;
 
-// An enum of its own and no `Result`: document 01 names `Read::Line`, taken apart by `let .. else` ("A form for each place").
+// An enum of its own, which document 01 names.
 // A line with its count of fields and the place after it, or why it is turned back, by the lowest number.
 #[derive(Clone, Copy, PartialEq, Eq, Debug)]
 pub enum Read {
@@ -17,9 +17,7 @@ pub enum Read {
     Refused(Refusal),
 }
 
-// The line of a letter at a place; its fields go into the rows lent. That these are 192, as many as the longest line has, stays a
-// condition here, in `lists` and in `sheet`: a slice lent by `&mut` stays as long as it is, and of a struct that holds it each of
-// these functions would have to promise that.
+// The line of a letter at a place; its fields go into the rows lent, 192 since the longest line has as many.
 pub(crate) fn read_line(s: &[u8], at: usize, letter: u8, c: Codes, rows: &mut [[u64; 2]]) -> Read
     requires { 192 ≤ length rows.old }
     ensures answer { (seen : ℕ) → result ≡ read_by (line_number (kind_of c letter) seen (after s.now at) (line_at letter s.now at)) (after s.now at) (line_at letter s.now at) }

@@ -8,6 +8,7 @@ use crate::pack::pack_line;
 use crate::plain::list_at;
 use refusals::Refusal;
 
+// A K or an I sheet.
 #[derive(Clone, Copy, PartialEq, Eq, Debug)]
 pub enum SheetKind {
     Key,
@@ -68,17 +69,14 @@ impl SheetKind {
     }
 }
 
-// How long the list of a line is, packed, and the place after the line. The list stands at the front of the room lent. `Judged` of
-// text counts a line's fields instead, three to an expression, and `Entries` of `plain` has the place of the LF.
+// How long the list of a line is, packed, and the place after the line. The list stands at the front of the room lent.
 #[derive(Clone, Copy)]
 pub struct Packed {
     pub count: usize,
     pub next: usize,
 }
 
-// Line i of a sheet by its fields, each judged: its list goes into the room lent. It stands apart from `read_list`, which is then called
-// in one place and is part of its loop: else a K sheet of one pair takes a sixth more time, and more than plain Rust. That the rows are 192
-// is a condition, as in `line`.
+// Line i of a sheet by its fields, each judged: its list goes into the room lent. Not a part of `read_list`, whose loop stays short so.
 pub fn judged_list(
     s: &[u8],
     at: usize,
@@ -101,7 +99,7 @@ pub fn judged_list(
     }
 }
 
-// Line i of a sheet: its list goes into the room lent. That the rows are 192 is a condition, as in `line`.
+// Line i of a sheet: its list goes into the room lent.
 pub fn read_list(
     s: &[u8],
     at: usize,

@@ -15,8 +15,7 @@ pub struct Number {
     pub end: usize,
 }
 
-// How many entries, and the place of the LF. The entries stand at the front of the room lent, packed as a list's numbers are, so that `Packed`
-// counts the same; but there the place is that after the line.
+// How many entries, and the place of the LF. The entries stand at the front of the room lent, packed as a list's numbers are.
 #[derive(Clone, Copy)]
 pub struct Entries {
     pub count: usize,
@@ -44,7 +43,7 @@ fn number_at(s: &[u8], at: usize) -> Option<Number>
     }
     let mut n = u64::from(s[at] - b'0');
     let mut p = at + 1;
-    // No `for`: the digits end where another byte stands, and its place is answered.
+    // The digits end where another byte stands.
     while digit_at(s, p) {
         if n == 0 {
             return None;
@@ -107,7 +106,7 @@ fn entries_at(
 {
     let mut p = at;
     let mut n = from;
-    // No `for`: an entry takes as many bytes as it has.
+    // The entries end where no comma stands.
     while stands(s, p, b',') {
         if n == most {
             return None;
@@ -126,7 +125,7 @@ fn numbers_at(s: &[u8], at: usize, largest: u64, list: &mut [u64; 64]) -> Option
 {
     let mut p = at;
     let mut n: usize = 0;
-    // No `for`: an entry takes as many bytes as it has.
+    // The entries end where no comma stands.
     while stands(s, p, b',') {
         if n == MOST_ENTRIES {
             return None;

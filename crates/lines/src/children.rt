@@ -25,8 +25,7 @@ fn child_list<'a>(children: Children<'a>, i: usize, own: &'a [u64]) -> &'a [u64]
     handed.unwrap_or(own)
 }
 
-// The length of n children's lines. How many of the lists are children's, the head of the sheet says, and no length of theirs. They are lists
-// 9 to 16 of 17, here and below: the text of the children is defined by the sheet's numbers, and lists cut out would be numbered anew.
+// The length of n children's lines. Their lists are those from 9 on; how many, the head of the sheet says.
 pub fn children_length(children: Children<'_>, held: Lists<'_, '_>, n: usize) -> usize
     requires { (n ≤ 8) × (17 ≤ length held.lists.now) × (17 ≤ length held.counts.now) × IfSome (option_copied children.first) (λ l. length l ≤ 64) × IfSome (option_copied children.others) (λ l. length l ≤ 64) × ((i : ℕ) → i < 9 + n → get_or held.counts.now i 0 ≤ 64) }
     ensures exact { result ≡ length (children_text (option_copied children.entry.first) (option_copied children.entry.others) held.entry.lists.now held.entry.counts.now n) }

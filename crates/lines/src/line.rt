@@ -51,8 +51,7 @@ pub(crate) fn exprs_length(list: &[u64]) -> usize
     length
 }
 
-// A number, and a comma before it. Here and below the bytes to write and the place in them stay two: of a struct that lends `out` by &mut
-// each function would have to promise that it is the same slice still.
+// A number, and a comma before it.
 fn put_number_field(out: &mut [u8], at: usize, n: u64) -> usize
     requires { at + length (number_field n) ≤ length out.old }
     ensures { Wrote out.old at (number_field n) out.new result }
@@ -115,8 +114,7 @@ pub(crate) fn put_pair(out: &mut [u8], at: usize, letter: u8, a: u64, b: u64) ->
     put_byte(out, e, b'\n')
 }
 
-// The expressions' line. Three lines as in `put_numbers`, of other fields: over a closure the promise would be longer than both.
-// So it is with the lengths and with the fields above: each of those loops has one line, and promises another text.
+// The expressions' line.
 pub(crate) fn put_exprs(out: &mut [u8], at: usize, letter: u8, list: &[u64]) -> usize
     requires { at + length (exprs_line letter (expressions list.now)) ≤ length out.old }
     ensures { Wrote out.old at (exprs_line letter (expressions list.now)) out.new result }

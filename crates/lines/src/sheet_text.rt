@@ -38,7 +38,7 @@ fn put_held(out: &mut [u8], at: usize, letter: u8, c: Codes, list: &[u64]) -> us
     }
 }
 
-// The first n lines of a sheet. The room has lists for the most lines, and how many are there the head says: n stands beside them.
+// The first n lines of a sheet, as many as its head says.
 pub fn put_sheet(out: &mut [u8], k: SheetKind, n: usize, held: Lists<'_, '_>) -> usize
     requires { (n ≤ length held.lists.now) × (n ≤ length held.counts.now) × ((i : ℕ) → i < n → get_or held.counts.now i 0 ≤ 64) × (length (held_text k held.lists.now held.counts.now 0 n) ≤ length out.old) }
     ensures { Wrote out.old 0 (held_text k held.entry.lists.now held.entry.counts.now 0 n) out.new result }

@@ -1,4 +1,5 @@
 -- Which list goes on an answer, by what was decided.
+-- Renders document 01, "Answer: `k,changed,report` .., then P positions, R, L, G, S, J, C".
 use Rattle.std.specs.Prelude.{ℕ, Bool, true, false, cond, ◌||◌, List, [], Option, Some, None}
 use Rattle.keys.specs.Expressions.{Expression}
 use Rattle.keys.specs.Adjust.{shift_right_required}

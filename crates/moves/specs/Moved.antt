@@ -1,4 +1,5 @@
 -- The pairs of an answer at the positions that were found.
+-- Renders document 01, "Answer: `k,changed,report` .., then P positions, R, L, G, S, J, C".
 use Rattle.std.specs.Prelude.{ℕ, ◌≡◌, List}
 use Rattle.keys.specs.Lists.{permute}
 use Rattle.keys.specs.Expressions.{gone_number}

@@ -6,8 +6,7 @@ ghost use Rattle.sheet.specs.KeyAnswers.{projected_numbers};
 
 use keys::answer::Outcome;
 
-// The group names at their places. That a list has at most 32 names stays a condition, here and below: these two ask it of one list each,
-// and of a struct of both the other two would only hand the lists on.
+// The group names at their places.
 fn placed_names(o: &[u64], places: &[u8], out: &mut [u64; 128]) -> usize
     requires { length o.now ≤ 32 }
     ensures { (result ≤ 64) × (take result out.new ≡ projected_numbers (placed_names o.now places.now)) }

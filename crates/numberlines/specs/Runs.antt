@@ -1,4 +1,5 @@
 -- Cited only by the contracts of private functions: what reading a line from comma to comma finds.
+-- Document 01, the paragraph that begins "A sheet is ASCII lines ended by LF".
 use Rattle.std.specs.Prelude.{ℕ, ◌+◌, ◌<◌, ◌≡◌, List, length, Result, Ok, Err}
 use Rattle.linekinds.specs.PlainText.{StandsAt}
 use Rattle.numberlines.specs.NumberLines.{Closed, Begins, NumberAt, NumbersAt}

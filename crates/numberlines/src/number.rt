@@ -15,7 +15,7 @@ fn longer_to(s: &[u8], at: usize, begun: u64, b: u8) -> Option<Number>
 {
     let mut n = begun;
     let mut p = at;
-    // No `for`: the digits end where another byte stands, and its place is answered.
+    // The digits end where another byte stands.
     while s[p].is_ascii_digit() {
         if n == 0 {
             return None;

@@ -4,7 +4,7 @@
 ghost use Rattle.std.specs.Prelude.{◌≡◌, ◌+◌, ◌*◌, ◌^◌, ◌<◌, IfErr};
 ghost use Rattle.refusals.specs.Refusals.{refusal_number, refused_word, written_word};
 
-// By the numbers 1 to 12, in this order.
+// The refusals, by their numbers 1 to 12.
 #[derive(Clone, Copy, Debug, PartialEq, Eq)]
 pub enum Refusal {
     WrongLine,

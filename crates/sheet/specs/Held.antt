@@ -1,5 +1,5 @@
--- A sheet that was read, as it is held: line i is the first numbers of list i, so many as its count says, its expressions packed; line 0 is the head.
--- What K and I sheets the lists make, and their text.
+-- A sheet that was read, as it is held: line i is the first numbers of list i, so many as its count says, its expressions packed;
+-- line 0 is the head. What K and I sheets the lists make, and their text. Renders document 01, "Key sheet", "Lines in order".
 use Rattle.std.specs.Prelude.{ℕ, zero, suc, ◌+◌, ◌≤◌, ◌<◌, ◌≡◌, List, [], ◌∷◌, ◌++◌, length, get_or, take, drop}
 use Rattle.keys.specs.Expressions.{Expression, expressions}
 use Rattle.keys.specs.Adjust.{KeySheet}

@@ -1,5 +1,6 @@
--- What is wrong with a K or I sheet: for each line the number that turns it back, for the sheet whether its lists fit; and which of these is the refusal.
--- Renders document 01, "Lowest line first, then lowest number; then Sheet, Work, Write in table order", and "a missing line counts as the line after the last".
+-- What is wrong with a K or I sheet: for each line the number that turns it back, for the sheet whether its lists fit;
+-- and which of these is the refusal. Renders document 01, "Lowest line first, then lowest number; then Sheet, Work, Write
+-- in table order", and "a missing line counts as the line after the last".
 use Rattle.std.specs.Prelude.{◌≡◌, ◌⊎◌, ℕ, zero, suc, ◌+◌, ◌<◌, Bool, true, false, cond, not, ◌||◌, ltb, get_or, drop, replicate}
 use mathlib.Core.List.{List, [], ◌∷◌, ◌++◌, tail}
 use Rattle.std.proofs.Math.Option.{Option, none, some}

@@ -32,7 +32,7 @@ fn pairs_fit(op: u64, mode: u64, l: usize, g: usize, s: usize, w: usize) -> bool
     l == g && directions_fit(op, s, l) && serves(pairs, l) && serves(pairs, w / 2)
 }
 
-// The counts of a K sheet's lines. They stay a slice, as they are lent: an array type would ask for an exact number of them.
+// The counts of a K sheet's lines.
 #[tactic(auto, unfolding(crate::specs::ListFits::key_counts_fit))]
 pub(crate) fn key_lists_fit(op: u64, mode: u64, counts: &[usize]) -> bool
     requires { 9 ≤ length counts.now }

@@ -13,8 +13,7 @@ pub struct LinesRead {
     pub line: u64,
 }
 
-// The lines after the head, up to line n: line i goes into list i. The three rooms stand apart: a slice lent by `&mut` stays as long as it
-// is, and of a struct each of three functions would have to promise that, as `SameSizes` of plansheet does of its eight rooms.
+// The lines after the head, up to line n: line i goes into list i.
 fn read_lists(
     s: &[u8],
     at: usize,
@@ -53,8 +52,7 @@ fn line_count(k: SheetKind, children: u64) -> usize
     }
 }
 
-// All lines of a sheet, and nothing after them: line i goes into list i. The first is no list. That there are lists and counts for the most
-// lines stays a condition, here and in `sheets`: C lends the lists, as a slice of any length.
+// All lines of a sheet, and nothing after them: line i goes into list i. C lends the lists, so that there are enough is a condition.
 pub(crate) fn read_whole(
     s: &[u8],
     k: SheetKind,

@@ -9,7 +9,7 @@ use crate::{join_lines, key_lines};
 use linekinds::lists::SheetKind;
 use refusals::{Refusal, Refused};
 
-// Whether the lists fit that were read of a sheet. The counts stay a slice, as in `fits`.
+// Whether the lists fit that were read of a sheet.
 fn lists_fit(k: SheetKind, lists: &[[u64; 64]], counts: &[usize]) -> bool
     requires { (most_lists k ≤ length lists.now) × (most_lists k ≤ length counts.now) }
     ensures { result ≡ lists_fit k lists.now counts.now }
@@ -28,7 +28,7 @@ fn lists_fit(k: SheetKind, lists: &[[u64; 64]], counts: &[usize]) -> bool
     }
 }
 
-// A sheet of a kind: line i goes into list i, and how long it is into count i. That the rows are 192 is a condition, as in `linekinds::line`.
+// A sheet of a kind: line i goes into list i, and how long it is into count i.
 pub fn read_sheet(
     s: &[u8],
     k: SheetKind,

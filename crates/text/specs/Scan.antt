@@ -1,5 +1,5 @@
 -- Cited only by the contracts of private functions: a field as a single pass over the bytes sees it.
--- That it is the field of `Text` is proved in proofs/Fields.antt.
+-- That it is the field of `Text` is proved in proofs/Fields.antt. Document 01, "A sheet is ASCII lines ended by LF".
 use Rattle.std.specs.Prelude.{◌≡◌, ℕ, suc, ◌+◌, ◌-◌, ◌*◌, ◌≤◌, ◌<◌, length, get_or, List, [], ◌∷◌, Bool, true, cond, leb, eqb}
 use Rattle.text.specs.declared.field.Field.{Field}
 use Rattle.text.specs.declared.field.Field.TheVariants.{Number as number, Empty as empty, Malformed as malformed}

@@ -26,7 +26,7 @@ pub fn rows_fit(bounds: &[[u64; 2]], rows: &[[u64; 2]]) -> bool
     if rows.len() != bounds.len() {
         return false;
     }
-    // A loop: no law of std says what `all` finds over two slices side by side.
+    // By index, over two slices side by side.
     for (bound, row) in bounds.iter().zip(rows) {
         if bound[0] < row[0] || bound[1] < row[1] {
             return false;

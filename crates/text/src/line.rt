@@ -41,7 +41,7 @@ fn fields_at(s: &[u8], at: usize, out: &mut [[u64; 2]]) -> Fields
     let mut n: usize = 0;
     let mut worst: u64 = 0;
     let mut largest: u64 = 0;
-    // No `for`: a field takes as many bytes as it has, and is counted also where the room has ended.
+    // It ends with the line; fields are counted also where the room has ended.
     loop {
         if digit_and_comma(s, i) {
             let d = u64::from(s[i] - b'0');

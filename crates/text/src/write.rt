@@ -13,8 +13,7 @@ pub fn number_length(n: u64) -> usize
     let tenth = n / 10;
     let mut power: u64 = 1;
     let mut k: usize = 1;
-    // No `for`: the powers of ten end by the number, after as many turns as are to be counted.
-    // `checked_ilog10` was proved in its place and measured: four instructions more for one digit, as most fields have, and four fewer for two.
+    // It ends with the first power of ten past the number.
     while power <= tenth {
         power *= 10;
         k += 1;
@@ -55,7 +54,7 @@ fn digit(d: u64) -> u8
     requires { d < 10 }
     ensures { result ≡ 48 + d }
 {
-    // No From goes from u64 to u8, and one digit needs no other way out.
+    // No From goes from u64 to u8, and one digit fits.
     b'0' + d as u8
 }
 
@@ -67,7 +66,7 @@ fn put_digits(out: &mut [u8], end: usize, n: u64)
 {
     let mut i = end - 1;
     let mut m = n;
-    // No `for`: a digit a turn, from the last place backwards, as many as the number has.
+    // A digit a turn, from the last place backwards, until the number is used up.
     while m >= 10 {
         out[i] = digit(m % 10);
         m /= 10;
