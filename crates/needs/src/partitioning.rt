@@ -80,7 +80,7 @@ pub fn add_roundrobin(s: Settings, w: Worked, a: Asked, t: RepartitionRequiremen
 
 // The row's answer to the keyed need, with subsets where they are allowed. Here and below four parameters stay: what is called takes fewer.
 fn partitioning_satisfied(s: Settings, w: Worked, a: Asked, c: Standing) -> bool
-    ensures { (aligned : Bool) → result ≡ partitioning_satisfied s (worked_for w) (status_of s aligned (child_for a)) (state_for a c) }
+    ensures { (aligned : Bool) → result ≡ partitioning_satisfied s (worked_for w) (status_of s aligned (child_for a)) (state_for 0 a c) }
 {
     if allow_subset_satisfy_partitioning(s, w, a) {
         return is_set(c.row[SUBSET]);
@@ -90,7 +90,7 @@ fn partitioning_satisfied(s: Settings, w: Worked, a: Asked, c: Standing) -> bool
 
 // What satisfies already stays as it is, since only the count would grow.
 fn preserve_satisfying_file_partitioning(s: Settings, w: Worked, a: Asked, c: Standing) -> bool
-    ensures { (aligned : Bool) → result ≡ preserve_satisfying_file_partitioning s (worked_for w) (status_of s aligned (child_for a)) (state_for a c) }
+    ensures { (aligned : Bool) → result ≡ preserve_satisfying_file_partitioning s (worked_for w) (status_of s aligned (child_for a)) (state_for 0 a c) }
 {
     let satisfied = partitioning_satisfied(s, w, a, c);
     preserve_file_partition_threshold_met(s, a)
@@ -100,7 +100,7 @@ fn preserve_satisfying_file_partitioning(s: Settings, w: Worked, a: Asked, c: St
 }
 
 pub fn needs_hash_repartition(s: Settings, w: Worked, a: Asked, c: Standing) -> bool
-    ensures { (aligned : Bool) → result ≡ needs_hash_repartition s (worked_for w) (status_of s aligned (child_for a)) (state_for a c) }
+    ensures { (aligned : Bool) → result ≡ needs_hash_repartition s (worked_for w) (status_of s aligned (child_for a)) (state_for 0 a c) }
 {
     let satisfied = partitioning_satisfied(s, w, a, c);
     let preserved = preserve_satisfying_file_partitioning(s, w, a, c);
