@@ -120,6 +120,7 @@ fn satisfy_distribution(w: Stepping, t: RepartitionRequirementStatus, c: ChildSt
     add_hash_on_top(c, w.xs)
 }
 
+// Split where the settings allow it, its rows gain and its source can be.
 fn splits_at_source(s: Settings, t: RepartitionRequirementStatus, a: Asked) -> bool
     ensures { result ≡ (is_set_mark s.split && (t.roundrobin_beneficial_stats && is_set_mark (child_facts a.facts).splits)) }
 {
@@ -192,7 +193,7 @@ fn ensure_each(w: Stepping, asks: Asks, forms: &mut [u64]) -> Option<()>
 
 // The forms of the children after their steps, a place for each or more.
 // That there are at least as many places as asks stays a clause, as `Asks` says.
-pub fn ensure_children(
+pub(crate) fn ensure_children(
     s: Settings,
     w: Worked,
     asks: Asks,
