@@ -16,7 +16,7 @@ use Rattle.exchange.specs.FactRows.{node_facts, fact_row, asked_by}
 use Rattle.exchange.specs.States.{Child, ChildState, children_from}
 use Rattle.exchange.specs.Status.{get_repartition_requirement_status}
 use Rattle.exchange.specs.Step.{ensure_children}
-use Rattle.exchange.specs.Standings.{SameNode, SameChildren, numbered_from, form_numbers}
+use Rattle.exchange.specs.Standings.{SameNode, SameChildren, form_numbers}
 use Rattle.exchange.specs.Relationships.{Enforced as Outcome, row_missing, stuck, enforced}
 use Rattle.exchange.specs.Rows.{node_at, children_at, flatten, flattens}
 use Rattle.exchange.specs.Runs.{StandAll}
@@ -26,7 +26,7 @@ use Rattle.exchange.specs.Places.{needs_of, counts_of}
 use Rattle.exchange.specs.Turns.{lacking, unable, given, answer, told}
 use Rattle.exchange.specs.Ensure.{answered, relate, child_states, finished, ensured_by, ensure_worked}
 use Rattle.exchange.proofs.Marking.{root_read, below_stands, children_read}
-use Rattle.exchange.proofs.PlacesRead.{same_children, asked_numbered}
+use Rattle.exchange.proofs.PlacesRead.{same_children}
 use Rattle.ensure.specs.Outcomes.{Ensured, facts_by, Ends}
 use Rattle.ensure.specs.Lent.{Came, Stood, Worked as WorkedAt}
 use Rattle.ensure.proofs.Finishing.{root_in}
@@ -58,16 +58,16 @@ module _ (s : Settings) (b : List ℕ) (facts rows : List (List ℕ)) (masks : L
   f = facts_by b facts rows masks
 
   module _ (w : Worked) (kind : w.kind ≡ (node_at src at).kind) (is : w.facts ≡ b) (p : Stood src at (length facts)) (asks : List Asked)
-      (asked : (ts : Plans) (rest : List (List ℕ)) → trees ts ≡ length facts → drop (at + 1) src ≡ flattens ts ++ rest → asks ≡ asked_by 1 (needs_of ts) (counts_of ts) facts) where
+      (asked : (ts : Plans) (rest : List (List ℕ)) → trees ts ≡ length facts → drop (at + 1) src ≡ flattens ts ++ rest → asks ≡ asked_by (needs_of ts) (counts_of ts) facts) where
     pub told_worked : (r : Result ⊤ Unenforced) (forms : List ℕ)
-        → ((o : Operator) (c : NodeFacts) (ks : List Child) → SameNode w o c → SameChildren (numbered_from 1 asks) ks
+        → ((o : Operator) (c : NodeFacts) (ks : List Child) → SameNode w o c → SameChildren 1 asks ks
         → answer r forms ≡ told (relate s (record { node = c; children = []; rows = map fact_row rows; masks = masks }) (ensure_children s o c (map fact_row rows) (get_repartition_requirement_status s ks))))
         → (t : Plan) (rest : List (List ℕ)) → drop at src ≡ flatten t ++ rest → answer r forms ≡ told (child_states s f t)
     unfolding child_states
     told_worked r forms says (node o ts) rest h =
         let many : trees ts ≡ length facts = stood_counted src at (length facts) p (node o ts) rest h in
-        let same : SameChildren (numbered_from 1 asks) (children_from 1 ts f.children) =
-        rw (asked ts rest many (below_stands src at o ts rest h), asked_numbered 1 (needs_of ts) (counts_of ts) facts) (same_children ts facts (sym many)) in
+        let same : SameChildren 1 asks (children_from 1 ts f.children) =
+        rw (asked ts rest many (below_stands src at o ts rest h)) (same_children ts facts (sym many)) in
         let this : SameNode w o f.node =
         record { kind = sym (kind ∙ ap (λ (x : Operator). x.kind) (root_read src at (node o ts) rest h)); facts = ap node_facts (sym is) } in
         says o f.node _ this same

@@ -15,7 +15,7 @@ use Rattle.exchange.specs.Trees.{none, ◌∷ᶠ◌, root, trees, Operator, Plan
 use Rattle.exchange.specs.Rows.{operator_of, node_at, flatten, flattens}
 use Rattle.exchange.specs.States.{children_from}
 use Rattle.exchange.specs.FactRows.{child_facts, asked_by}
-use Rattle.exchange.specs.Standings.{SameChildren, done, also, numbered_from}
+use Rattle.exchange.specs.Standings.{SameChildren, done, also}
 use Rattle.exchange.specs.Runs.{Stands}
 use Rattle.exchange.specs.Places.{places_of, needs_of, counts_of}
 use Rattle.exchange.proofs.Marking.{root_read, head_stands, tail_stands, PastTree}
@@ -82,17 +82,17 @@ pub record AskedUpto (src : List (List ℕ)) (ts : Plans) (rest facts : List (Li
   pub below : Plans
   pub counted : trees below + i ≡ trees ts
   pub stands : drop next src ≡ flattens below ++ rest
-  pub listed : asked_by 1 (needs_of ts) (counts_of ts) facts ≡ take i asks ++ asked_by (i + 1) (needs_of below) (counts_of below) (drop i facts)
+  pub listed : asked_by (needs_of ts) (counts_of ts) facts ≡ take i asks ++ asked_by (needs_of below) (counts_of below) (drop i facts)
 
-asked_cons : (n : ℕ) (t : Plan) (ts : Plans) (facts : List (List ℕ)) (i : ℕ) → i < length facts
-    → asked_by n (needs_of (t ∷ᶠ ts)) (counts_of (t ∷ᶠ ts)) (drop i facts)
-    ≡ record { number = n; need = (root t).need; count = (root t).count; facts = get_or facts i [] } ∷ asked_by (n + 1) (needs_of ts) (counts_of ts) (drop (i + 1) facts)
+asked_cons : (t : Plan) (ts : Plans) (facts : List (List ℕ)) (i : ℕ) → i < length facts
+    → asked_by (needs_of (t ∷ᶠ ts)) (counts_of (t ∷ᶠ ts)) (drop i facts)
+    ≡ record { need = (root t).need; count = (root t).count; facts = get_or facts i [] } ∷ asked_by (needs_of ts) (counts_of ts) (drop (i + 1) facts)
 unfolding needs_of counts_of asked_by
-asked_cons n t ts facts i h = rw (drop-cons facts i [] h, add-one n, add-one i)
+asked_cons t ts facts i h = rw (drop-cons facts i [] h, add-one i)
 
-asked_nil : (n : ℕ) (facts : List (List ℕ)) → asked_by n (needs_of none) (counts_of none) facts ≡ []
+asked_nil : (facts : List (List ℕ)) → asked_by (needs_of none) (counts_of none) facts ≡ []
 unfolding needs_of counts_of asked_by
-asked_nil n facts = refl
+asked_nil facts = refl
 
 module _ (src : List (List ℕ)) (ts : Plans) (rest facts : List (List ℕ)) where
   pub asked_start : (at : ℕ) (asks : List Asked) → drop at src ≡ flattens ts ++ rest → AskedUpto src ts rest facts 0 at asks
@@ -103,14 +103,14 @@ module _ (src : List (List ℕ)) (ts : Plans) (rest facts : List (List ℕ)) whe
 
   pub asked_turn : (i next next₁ : ℕ) (n : Node) (asks : List Asked) → i < trees ts → i < length asks → i < length facts → n ≡ node_at src next → PastTree src next next₁
       → AskedUpto src ts rest facts i next asks
-      → AskedUpto src ts rest facts (i + 1) next₁ (set asks i (record { number = i + 1; need = n.need; count = n.count; facts = get_or facts i [] }))
+      → AskedUpto src ts rest facts (i + 1) next₁ (set asks i (record { need = n.need; count = n.count; facts = get_or facts i [] }))
   asked_turn i next next₁ n asks l b f is p u = go u.below u.counted u.stands u.listed
     where
       a : Asked
-      a = record { number = i + 1; need = n.need; count = n.count; facts = get_or facts i [] }
+      a = record { need = n.need; count = n.count; facts = get_or facts i [] }
 
       go : (us : Plans) → trees us + i ≡ trees ts → drop next src ≡ flattens us ++ rest
-          → asked_by 1 (needs_of ts) (counts_of ts) facts ≡ take i asks ++ asked_by (i + 1) (needs_of us) (counts_of us) (drop i facts)
+          → asked_by (needs_of ts) (counts_of ts) facts ≡ take i asks ++ asked_by (needs_of us) (counts_of us) (drop i facts)
           → AskedUpto src ts rest facts (i + 1) next₁ (set asks i a)
       go none c h e = absurd (omega arith)
       go (t ∷ᶠ us) c h e =
@@ -123,18 +123,18 @@ module _ (src : List (List ℕ)) (ts : Plans) (rest facts : List (List ℕ)) whe
             listed =
                 e
                 ∙ ap (λ (l : List Asked). take i asks ++ l)
-                (asked_cons (i + 1) t us facts i f
-                ∙ ap (λ (x : Operator). record { number = i + 1; need = x.need; count = x.count; facts = get_or facts i [] } ∷ asked_by (i + 1 + 1) (needs_of us) (counts_of us) (drop (i + 1) facts)) o)
-                ∙ sym (append_assoc (take i asks) (a ∷ []) (asked_by (i + 1 + 1) (needs_of us) (counts_of us) (drop (i + 1) facts)))
-                ∙ ap (λ (l : List Asked). l ++ asked_by (i + 1 + 1) (needs_of us) (counts_of us) (drop (i + 1) facts)) (sym more);
+                (asked_cons t us facts i f
+                ∙ ap (λ (x : Operator). record { need = x.need; count = x.count; facts = get_or facts i [] } ∷ asked_by (needs_of us) (counts_of us) (drop (i + 1) facts)) o)
+                ∙ sym (append_assoc (take i asks) (a ∷ []) (asked_by (needs_of us) (counts_of us) (drop (i + 1) facts)))
+                ∙ ap (λ (l : List Asked). l ++ asked_by (needs_of us) (counts_of us) (drop (i + 1) facts)) (sym more);
           }
 
-  pub asked_done : (i next : ℕ) (asks : List Asked) → trees ts ≡ i → length asks ≤ i → AskedUpto src ts rest facts i next asks → asks ≡ asked_by 1 (needs_of ts) (counts_of ts) facts
+  pub asked_done : (i next : ℕ) (asks : List Asked) → trees ts ≡ i → length asks ≤ i → AskedUpto src ts rest facts i next asks → asks ≡ asked_by (needs_of ts) (counts_of ts) facts
   asked_done i next asks c l u = go u.below u.counted u.listed
     where
-      go : (us : Plans) → trees us + i ≡ trees ts → asked_by 1 (needs_of ts) (counts_of ts) facts ≡ take i asks ++ asked_by (i + 1) (needs_of us) (counts_of us) (drop i facts)
-          → asks ≡ asked_by 1 (needs_of ts) (counts_of ts) facts
-      go none d e = sym (e ∙ ap (λ (m : List Asked). take i asks ++ m) (asked_nil (i + 1) (drop i facts)) ∙ append-nil (take i asks) ∙ take_all i asks l)
+      go : (us : Plans) → trees us + i ≡ trees ts → asked_by (needs_of ts) (counts_of ts) facts ≡ take i asks ++ asked_by (needs_of us) (counts_of us) (drop i facts)
+          → asks ≡ asked_by (needs_of ts) (counts_of ts) facts
+      go none d e = sym (e ∙ ap (λ (m : List Asked). take i asks ++ m) (asked_nil (drop i facts)) ∙ append-nil (take i asks) ∙ take_all i asks l)
       go (t ∷ᶠ us) d e = absurd (omega arith)
 
 -- ---- as many as there are trees, and each place is where its tree stands
@@ -151,22 +151,13 @@ counts_long (t ∷ᶠ ts) = ap suc (counts_long ts)
 
 -- ---- the children by those numbers
 
-same_from : (n : ℕ) (ts : Plans) (facts : List (List ℕ)) → length facts ≡ trees ts → SameChildren (asked_by n (needs_of ts) (counts_of ts) facts) (children_from n ts (map child_facts facts))
+same_from : (n : ℕ) (ts : Plans) (facts : List (List ℕ)) → length facts ≡ trees ts → SameChildren n (asked_by (needs_of ts) (counts_of ts) facts) (children_from n ts (map child_facts facts))
 unfolding needs_of counts_of asked_by children_from
 same_from n none facts e = done
 same_from n (t ∷ᶠ ts) [] e = absurd (omega arith)
 same_from n (t ∷ᶠ ts) (f ∷ fs) e =
-    also {a = record { number = n; need = (root t).need; count = (root t).count; facts = f }} {k = record { number = n; facts = child_facts f; plan = t }}
+    also {a = record { need = (root t).need; count = (root t).count; facts = f }} {k = record { number = n; facts = child_facts f; plan = t }}
     (record { number = refl; need = refl; count = refl; facts = refl }) (same_from (suc n) ts fs (omega arith))
 
-pub same_children : (ts : Plans) (facts : List (List ℕ)) → length facts ≡ trees ts → SameChildren (asked_by 1 (needs_of ts) (counts_of ts) facts) (children_from 1 ts (map child_facts facts))
+pub same_children : (ts : Plans) (facts : List (List ℕ)) → length facts ≡ trees ts → SameChildren 1 (asked_by (needs_of ts) (counts_of ts) facts) (children_from 1 ts (map child_facts facts))
 same_children = same_from 1
-
--- they have the numbers of their places
-pub asked_numbered : (n : ℕ) (needs counts : List ℕ) (facts : List (List ℕ)) → numbered_from n (asked_by n needs counts facts) ≡ asked_by n needs counts facts
-unfolding asked_by numbered_from
-asked_numbered n [] counts facts = refl
-asked_numbered n (need ∷ needs) [] facts = refl
-asked_numbered n (need ∷ needs) (count ∷ counts) [] = refl
-asked_numbered n (need ∷ needs) (count ∷ counts) (f ∷ fs) =
-    ap (λ (l : List Asked). record { number = n; need = need; count = count; facts = f } ∷ l) (asked_numbered (suc n) needs counts fs)

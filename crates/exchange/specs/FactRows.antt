@@ -50,14 +50,22 @@ abbrev pub operator_by : ℕ → ℕ → ℕ → Operator
 operator_by kind count need =
     record { id = 0; kind = kind; count = count; keeps = 0; limit = nothing; order = 0; mask = 0; tracked = 0; need = need }
 
--- a child of those numbers, a leaf
-abbrev pub child_for : Asked → Child
-child_for a = record { number = a.number; facts = child_facts a.facts; plan = node (operator_by 0 a.count a.need) none }
+-- the child at a place, counted from 1, of those numbers, a leaf
+abbrev pub child_at : ℕ → Asked → Child
+child_at n a = record { number = n; facts = child_facts a.facts; plan = node (operator_by 0 a.count a.need) none }
 
--- the children from a number on, as many as have a need, a count and an F row
-unfoldable pub asked_by : ℕ → List ℕ → List ℕ → List (List ℕ) → List Asked
-asked_by n (need ∷ needs) (count ∷ counts) (f ∷ fs) =
-    record { number = n; need = need; count = count; facts = f } ∷ asked_by (suc n) needs counts fs
-asked_by n [] counts fs = []
-asked_by n (need ∷ needs) [] fs = []
-asked_by n (need ∷ needs) (count ∷ counts) [] = []
+-- where nothing goes by the place
+abbrev pub child_for : Asked → Child
+child_for a = child_at 0 a
+
+-- the children from a place on
+unfoldable pub children_for : ℕ → List Asked → List Child
+children_for n [] = []
+children_for n (a ∷ asks) = child_at n a ∷ children_for (suc n) asks
+
+-- the children, as many as have a need, a count and an F row
+unfoldable pub asked_by : List ℕ → List ℕ → List (List ℕ) → List Asked
+asked_by (need ∷ needs) (count ∷ counts) (f ∷ fs) = record { need = need; count = count; facts = f } ∷ asked_by needs counts fs
+asked_by [] counts fs = []
+asked_by (need ∷ needs) [] fs = []
+asked_by (need ∷ needs) (count ∷ counts) [] = []

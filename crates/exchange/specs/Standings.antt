@@ -20,10 +20,10 @@ abbrev pub node_for : Worked → NodeFacts
 node_for w = node_facts w.facts
 
 -- a child on its way of those numbers, a leaf
-abbrev pub state_for : Asked → Standing → ChildState
-state_for a c =
+abbrev pub state_for : ℕ → Asked → Standing → ChildState
+state_for n a c =
     record {
-      number = a.number;
+      number = n;
       facts = child_facts a.facts;
       need = a.need;
       form = form_of c.form;
@@ -69,25 +69,21 @@ pub record SameNode (w : Worked) (o : Operator) (b : NodeFacts) : Type 0 where
   pub kind : o.kind ≡ w.kind
   pub facts : b ≡ node_facts w.facts
 
--- a child of those numbers
-pub record SameChild (a : Asked) (k : Child) : Type 0 where
-  pub number : k.number ≡ a.number
+-- the child at a place, of those numbers
+pub record SameChild (n : ℕ) (a : Asked) (k : Child) : Type 0 where
+  pub number : k.number ≡ n
   pub need : need_of k ≡ a.need
   pub count : count_of k ≡ a.count
   pub facts : k.facts ≡ child_facts a.facts
 
--- each child has the numbers at its place
-pub data SameChildren : List Asked → List Child → Type 0 where
-  done : SameChildren [] []
-  also : {a : Asked} {asks : List Asked} {k : Child} {ks : List Child} → SameChild a k → SameChildren asks ks → SameChildren (a ∷ asks) (k ∷ ks)
+-- the children from a place on: each has the numbers at its place
+pub data SameChildren : ℕ → List Asked → List Child → Type 0 where
+  done : {n : ℕ} → SameChildren n [] []
+  also : {n : ℕ} {a : Asked} {asks : List Asked} {k : Child} {ks : List Child} → SameChild n a k → SameChildren (suc n) asks ks
+      → SameChildren n (a ∷ asks) (k ∷ ks)
 
 abbrev pub no_child : Asked
-no_child = record { number = 0; need = 0; count = 0; facts = [] }
-
--- the children by their places, numbered from there on, whatever number each has
-unfoldable pub numbered_from : ℕ → List Asked → List Asked
-numbered_from n [] = []
-numbered_from n (a ∷ asks) = record { number = n; need = a.need; count = a.count; facts = a.facts } ∷ numbered_from (suc n) asks
+no_child = record { need = 0; count = 0; facts = [] }
 
 abbrev pub asked_needs : List Asked → List ℕ
 asked_needs asks = map (λ a. a.need) asks

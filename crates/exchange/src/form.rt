@@ -17,6 +17,7 @@ pub const TOP_KEYED: u64 = 2;
 
 pub const TOP_ROUND_ROBIN: u64 = 3;
 
+// The number of a form; below, its parts.
 pub fn form_of(split: u64, top: u64, relationship: u64) -> u64
     requires { (split ≤ 1) × (top ≤ 3) × (relationship ≤ 1) }
     ensures { result ≡ form_number (record { split = split; top = top; relationship = relationship }) }

@@ -3,7 +3,7 @@ ghost use Rattle.std.specs.Prelude.{ℕ, ◌≤◌, ◌<◌, length, get_or};
 
 use crate::status::Asked;
 
-// What is asked of each child, in order; a child's number is its place, whatever number stands there.
+// What is asked of each child, in order; a child's number is its place, from 1.
 // Where their forms are lent by &mut, that these are as many stays a clause.
 #[derive(Clone, Copy)]
 pub struct Asks<'a> {

@@ -65,6 +65,7 @@ fn merge_kind(under: Node) -> u64
     kind::MERGE
 }
 
+// A merge, of the row of its own form.
 pub(crate) fn new_merge(x: FactRow, under: Node) -> Node
     ensures { result ≡ node_of (new_merge (fact_row x) (operator_of under)) }
 {
@@ -87,6 +88,7 @@ fn keeps_order(under: Node) -> u64
     u64::from(under.order != 0 && 1 < under.count)
 }
 
+// A keyed exchange or a round robin, of the row of its own form.
 pub(crate) fn new_exchange(kind: u64, x: FactRow, under: Node) -> Node
     ensures { result ≡ node_of (new_exchange kind (fact_row x) (operator_of under)) }
 {

@@ -35,6 +35,7 @@ fn preserving_order_enables_streaming(children: u64, maintains: u64, ford: u64, 
     children == 1 && is_set(maintains) && !is_set(ford) && is_set(fplain)
 }
 
+// A required order that isn't held, or isn't worth its cost.
 fn required_replaced(met: bool, desirable: bool, streaming: bool, tracked: bool) -> bool
     ensures { result ≡ required_replaced met desirable streaming tracked }
 {
@@ -102,6 +103,7 @@ fn desirable(friendly: u64, sort: u64) -> bool
     is_set(friendly) || is_set(sort)
 }
 
+// Where a required order is given up, a sort restores it if it was held.
 fn order_required(k: Known) -> Handling
     requires { k.entries ≤ 8 }
     ensures { result ≡ required_handling k }
@@ -127,6 +129,7 @@ fn order_required(k: Known) -> Handling
     }
 }
 
+// Where no order is required, there is no sort, and the mark stays.
 fn order_not_required(k: Known) -> Handling
     ensures { result ≡ free_handling k }
 {

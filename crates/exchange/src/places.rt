@@ -21,18 +21,16 @@ pub fn child_places(rows: &[Row], at: usize, places: &mut [usize])
     }
 }
 
-// The children from `at` on, each with its number from 1, its need and count, and its F row.
+// The children from `at` on, each with its need and count, and its F row.
 pub fn asked_children(rows: &[Row], at: usize, facts: &[ChildRow], asks: &mut [Asked])
     requires stand { StandAll rows.now at (length facts.now) }
     requires as_many { length asks.old ≡ length facts.now }
-    ensures { (ts : Plans) (rest : List (List ℕ)) → trees ts ≡ length facts.now → drop at rows.now ≡ flattens ts ++ rest → asks.new ≡ asked_by 1 (needs_of ts) (counts_of ts) facts.now }
+    ensures { (ts : Plans) (rest : List (List ℕ)) → trees ts ≡ length facts.now → drop at rows.now ≡ flattens ts ++ rest → asks.new ≡ asked_by (needs_of ts) (counts_of ts) facts.now }
 {
     let mut next = at;
     for (i, row) in facts.iter().enumerate() {
         let child = row::node_at(rows, next);
         asks[i] = Asked {
-            // No From goes from usize to u64.
-            number: i as u64 + 1,
             need: child.need,
             count: child.count,
             facts: *row,

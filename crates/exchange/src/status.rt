@@ -25,10 +25,9 @@ pub const ROWS_ESTIMATED: u64 = 1;
 // An F row.
 pub type ChildRow = [u64; WIDTH];
 
-// A child of the worked node: its number from 1, need and count of its root, and its F row.
+// A child of the worked node, whose number is its place: need and count of its root, and its F row.
 #[derive(Clone, Copy, Default)]
 pub struct Asked {
-    pub number: u64,
     pub need: u64,
     pub count: u64,
     pub facts: ChildRow,

@@ -1,9 +1,9 @@
 -- The children's steps and then the rounds, on forms: what the steps leave stands, and the rounds go on from there.
 -- Assumes nothing.
-use Prim.Native.Nat.{ℕ, ◌≤◌, ◌<◌}
+use Prim.Native.Nat.{ℕ, suc, ◌≤◌, ◌<◌}
 use mathlib.Core.Path.{◌≡◌, refl, subst}
 use mathlib.Core.Option.{Option, some, none as nothing}
-use mathlib.Core.List.{List, [], ◌∷◌, map}
+use mathlib.Core.List.{List, [], ◌∷◌}
 use native.Mathlib.Omega.{arith}
 use lib.ListN.{length, get_or}
 use Rattle.exchange.specs.declared.settings.Settings.{Settings}
@@ -12,15 +12,16 @@ use Rattle.exchange.specs.Facts.{Facts}
 use Rattle.exchange.specs.States.{ChildState}
 use Rattle.exchange.specs.Relationships.{enforce_distribution_relationships}
 use Rattle.exchange.specs.Ensure.{relate}
-use Rattle.exchange.specs.FactRows.{child_for}
+use Rattle.exchange.specs.FactRows.{child_at, children_for}
 use Rattle.exchange.specs.Standings.{SameChildren, done, also, form_numbers, form_list}
 use Rattle.exchange.specs.Turns.{Stand, Told, told}
 use Rattle.exchange.proofs.FormsSmall.{stand_small}
 
 -- the children by their numbers have them
-pub same_by : (asks : List Asked) → SameChildren asks (map child_for asks)
-same_by [] = done
-same_by (a ∷ asks) = also {a = a} {k = child_for a} (record { number = refl; need = refl; count = refl; facts = refl }) (same_by asks)
+pub same_by : (n : ℕ) (asks : List Asked) → SameChildren n asks (children_for n asks)
+unfolding children_for
+same_by n [] = done
+same_by n (a ∷ asks) = also {a = a} {k = child_at n a} (record { number = refl; need = refl; count = refl; facts = refl }) (same_by (suc n) asks)
 
 module _ (s : Settings) (f : Facts) where
   module _ (needs fs : List ℕ) where

@@ -18,8 +18,8 @@ use Rattle.exchange.specs.Trees.{Operator}
 use Rattle.exchange.specs.Facts.{NodeFacts, Row}
 use Rattle.exchange.specs.Status.{asks_alignment, needs_alignment, status_of, get_repartition_requirement_status}
 use Rattle.exchange.specs.Step.{ensure_child, ensure_children}
-use Rattle.exchange.specs.FactRows.{child_for}
-use Rattle.exchange.specs.Standings.{worked_for, node_for, formed, SameNode, SameChild, SameChildren, done, also, no_child, numbered_from, form_list, with_forms, each_form}
+use Rattle.exchange.specs.FactRows.{child_at, child_for, children_for}
+use Rattle.exchange.specs.Standings.{worked_for, node_for, formed, SameNode, SameChild, SameChildren, done, also, no_child, form_list, with_forms, each_form}
 use Rattle.forms.proofs.Steps.{same_numbers}
 
 -- ---- what was written, before what is left
@@ -75,46 +75,40 @@ each_map f g (x ∷ xs) = ap (with_forms (f (g x))) (each_map f g xs)
 
 -- ---- the same numbers
 
-pub each_same : (f : Asked → Answer ℕ) (g : Child → Answer ℕ) → ((a : Asked) (k : Child) → SameChild a k → f a ≡ g k)
-    → {asks : List Asked} {ks : List Child} → SameChildren asks ks → each_form f asks ≡ each_form g ks
-unfolding each_form
+pub each_same : (f g : Child → Answer ℕ) → ((n : ℕ) (a : Asked) (k : Child) → SameChild n a k → f (child_at n a) ≡ g k)
+    → {n : ℕ} {asks : List Asked} {ks : List Child} → SameChildren n asks ks → each_form f (children_for n asks) ≡ each_form g ks
+unfolding each_form children_for
 each_same f g e done = refl
-each_same f g e (also {a} {asks} {k} {ks} h hs) = ap (λ (o : Answer ℕ). with_forms o (each_form f asks)) (e a k h) ∙ ap (with_forms (g k)) (each_same f g e hs)
+each_same f g e (also {n} {a} {asks} {k} {ks} h hs) =
+    ap (λ (o : Answer ℕ). with_forms o (each_form f (children_for (suc n) asks))) (e n a k h) ∙ ap (with_forms (g k)) (each_same f g e hs)
 
-asks_same : (s : Settings) (a : Asked) (k : Child) → SameChild a k → asks_alignment s (child_for a) ≡ asks_alignment s k
-asks_same s a k h = rw (h.need, h.count, h.facts)
+asks_same : (s : Settings) (n : ℕ) (a : Asked) (k : Child) → SameChild n a k → asks_alignment s (child_for a) ≡ asks_alignment s k
+asks_same s n a k h = rw (h.need, h.count, h.facts)
 
-pub alignment_same : (s : Settings) {asks : List Asked} {ks : List Child} → SameChildren asks ks → needs_alignment s (map child_for asks) ≡ needs_alignment s ks
+pub alignment_same : (s : Settings) {n : ℕ} {asks : List Asked} {ks : List Child} → SameChildren n asks ks → needs_alignment s (map child_for asks) ≡ needs_alignment s ks
 unfolding needs_alignment
 alignment_same s done = refl
-alignment_same s (also {a} {asks} {k} {ks} h hs) =
-    ap (λ (t : Bool). t || needs_alignment s (map child_for asks)) (asks_same s a k h) ∙ ap (λ (t : Bool). asks_alignment s k || t) (alignment_same s hs)
+alignment_same s (also {n} {a} {asks} {k} {ks} h hs) =
+    ap (λ (t : Bool). t || needs_alignment s (map child_for asks)) (asks_same s n a k h) ∙ ap (λ (t : Bool). asks_alignment s k || t) (alignment_same s hs)
 
--- whether any asks goes by no number
-pub alignment_numbered : (s : Settings) (n : ℕ) (asks : List Asked) → needs_alignment s (map child_for asks) ≡ needs_alignment s (map child_for (numbered_from n asks))
-unfolding needs_alignment numbered_from
-alignment_numbered s n [] = refl
-alignment_numbered s n (a ∷ asks) = ap (λ (t : Bool). asks_alignment s (child_for a) || t) (alignment_numbered s (suc n) asks)
-
-pub numbered_long : (n : ℕ) (asks : List Asked) → length (numbered_from n asks) ≡ length asks
-unfolding numbered_from
-numbered_long n [] = refl
-numbered_long n (a ∷ asks) = ap suc (numbered_long (suc n) asks)
+pub children_long : (n : ℕ) (asks : List Asked) → length (children_for n asks) ≡ length asks
+unfolding children_for
+children_long n [] = refl
+children_long n (a ∷ asks) = ap suc (children_long (suc n) asks)
 
 -- the child at a place has the place's number
-pub numbered_at : (n m : ℕ) (asks : List Asked) (i : ℕ) → i < length asks → m ≡ i + n → get_or (numbered_from n asks) i no_child
-    ≡ record { number = m; need = (get_or asks i no_child).need; count = (get_or asks i no_child).count; facts = (get_or asks i no_child).facts }
-unfolding numbered_from
-numbered_at n m [] i h e = absurd (omega arith)
-numbered_at n m (a ∷ asks) zero h e = let same : m ≡ n = omega (arith, e) in rw same refl
-numbered_at n m (a ∷ asks) (suc i) h e = numbered_at (suc n) m asks i (omega arith) (omega arith)
+pub at_place : (n m : ℕ) (asks : List Asked) (i : ℕ) (z : Child) → i < length asks → m ≡ i + n → get_or (children_for n asks) i z ≡ child_at m (get_or asks i no_child)
+unfolding children_for
+at_place n m [] i z h e = absurd (omega arith)
+at_place n m (a ∷ asks) zero z h e = let same : m ≡ n = omega (arith, e) in rw same refl
+at_place n m (a ∷ asks) (suc i) z h e = at_place (suc n) m asks i z (omega arith) (omega arith)
 
 -- the forms of the children's steps, from their numbers
 pub children_same : (s : Settings) (rows : List Row) (aligned : Bool) (w : Worked) (o : Operator) (b : NodeFacts) (asks : List Asked) {ks : List Child}
-    → SameNode w o b → SameChildren (numbered_from 1 asks) ks → aligned ≡ needs_alignment s (map child_for asks)
-    → each_form (λ (a : Asked). formed (ensure_child s (worked_for w) (node_for w) rows (status_of s aligned (child_for a)))) (numbered_from 1 asks)
+    → SameNode w o b → SameChildren 1 asks ks → aligned ≡ needs_alignment s (map child_for asks)
+    → each_form (λ (k : Child). formed (ensure_child s (worked_for w) (node_for w) rows (status_of s aligned k))) (children_for 1 asks)
     ≡ form_list (ensure_children s o b rows (get_repartition_requirement_status s ks))
 children_same s rows aligned w o b asks {ks} n h e =
-    each_same _ (λ (k : Child). formed (ensure_child s o b rows (status_of s aligned k))) (λ a k m. same_numbers s rows aligned w a o b k n m) h
+    each_same _ (λ (k : Child). formed (ensure_child s o b rows (status_of s aligned k))) (λ i a k m. same_numbers s rows aligned w i a o b k n m) h
     ∙ sym (each_formed (ensure_child s o b rows) (map (status_of s aligned) ks) ∙ each_map (λ t. formed (ensure_child s o b rows t)) (status_of s aligned) ks)
-    ∙ ap (λ (t : Bool). form_list (ensure_children s o b rows (map (status_of s t) ks))) (e ∙ alignment_numbered s 1 asks ∙ alignment_same s h)
+    ∙ ap (λ (t : Bool). form_list (ensure_children s o b rows (map (status_of s t) ks))) (e ∙ alignment_same s h)

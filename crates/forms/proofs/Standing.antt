@@ -14,7 +14,7 @@ use Rattle.exchange.specs.States.{Child, ChildState, need_of, and_then, each_of}
 use Rattle.exchange.specs.Status.{status_of}
 use Rattle.exchange.specs.Step.{ensure_child, ensure_children}
 use Rattle.exchange.specs.declared.status.Asked.{Asked}
-use Rattle.exchange.specs.Standings.{SameChildren, done, also, numbered_from, asked_needs, form_numbers}
+use Rattle.exchange.specs.Standings.{SameChildren, done, also, asked_needs, form_numbers}
 use Rattle.exchange.specs.Turns.{Stand, nobody, next}
 use Rattle.exchange.proofs.Forms.{form_apart, form_small}
 use Rattle.exchange.proofs.Ensured.{Fresh, ensured_after}
@@ -39,9 +39,9 @@ module _ (s : Settings) (o : Operator) (b : NodeFacts) (rows : List Row) (aligne
       subst (λ (ds : List ChildState). Stand rows n (need ∷ needs) (form_numbers ds) ds) same
       (one_stands k n need needs y ys a d (ensured_after s o b rows (status_of s aligned k) y e) (h ys refl))
 
-  pub children_stand : (n : ℕ) (asks : List Asked) (ks : List Child) → SameChildren (numbered_from n asks) ks → (cs : List ChildState)
+  pub children_stand : (n : ℕ) (asks : List Asked) (ks : List Child) → SameChildren n asks ks → (cs : List ChildState)
       → ensure_children s o b rows (map (status_of s aligned) ks) ≡ some cs → Stand rows n (asked_needs asks) (form_numbers cs) cs
-  unfolding each_of numbered_from
+  unfolding each_of
   children_stand n [] [] done cs e =
       let same : [] ≡ cs = cc in subst (λ (ds : List ChildState). Stand rows n [] (form_numbers ds) ds) same nobody
   children_stand n (a ∷ asks) (k ∷ ks) (also h hs) cs e =

@@ -24,7 +24,7 @@ use Rattle.exchange.specs.States.{Child, ChildState, need_of, count_of, with_for
 use Rattle.exchange.specs.Status.{RepartitionRequirementStatus, rows_gain, status_of}
 use Rattle.exchange.specs.Step.{merge_on, keyed_on, roundrobin_on, split_plan, partitions, add_merge_on_top, add_hash_on_top, add_roundrobin_on_top, add_roundrobin, needs_hash_repartition, satisfy_distribution, ensure_child}
 use Rattle.exchange.specs.Standings.{worked_for, node_for, state_for, status_by, standing_at, formed, form_by, begun, SameNode, SameChild}
-use Rattle.exchange.specs.FactRows.{child_facts, fact_row, row_at, child_for}
+use Rattle.exchange.specs.FactRows.{child_facts, fact_row, row_at, child_at}
 use Rattle.exchange.proofs.FactRows.{row_found}
 use Rattle.forms.proofs.Formed.{formed_both}
 
@@ -143,10 +143,10 @@ module _ (s : Settings) (o p : Operator) (b : NodeFacts) (rows : List Row) (alig
   ensure_same : formed (ensure_child s o b rows (status_of s aligned k)) ≡ formed (ensure_child s p b rows (status_of s aligned l))
   ensure_same = same_from (row_of rows l.number plain_form) refl
 
-pub same_numbers : (s : Settings) (rows : List Row) (aligned : Bool) (w : Worked) (a : Asked) (o : Operator) (b : NodeFacts) (k : Child) → SameNode w o b → SameChild a k
-    → formed (ensure_child s (worked_for w) (node_for w) rows (status_of s aligned (child_for a))) ≡ formed (ensure_child s o b rows (status_of s aligned k))
-same_numbers s rows aligned w a o b k n c =
-    rw n.facts (sym (ensure_same s o (worked_for w) (node_for w) rows aligned k (child_for a) n.kind c.number c.need c.count c.facts))
+pub same_numbers : (s : Settings) (rows : List Row) (aligned : Bool) (w : Worked) (i : ℕ) (a : Asked) (o : Operator) (b : NodeFacts) (k : Child) → SameNode w o b → SameChild i a k
+    → formed (ensure_child s (worked_for w) (node_for w) rows (status_of s aligned (child_at i a))) ≡ formed (ensure_child s o b rows (status_of s aligned k))
+same_numbers s rows aligned w i a o b k n c =
+    rw n.facts (sym (ensure_same s o (worked_for w) (node_for w) rows aligned k (child_at i a) n.kind c.number c.need c.count c.facts))
 
 -- ---- a child's step by the rows of its forms
 
@@ -173,52 +173,52 @@ module _ (xs : List (List ℕ)) (child : ℕ) (f : Form) where
           let is : x ≡ record { form = form_number f; count = get_or (get_or xs p []) 2 0; row = get_or xs p [] } = cc in
           rw is (record { row = row_found xs child f ∙ ap (row_at xs) h; form = refl; count = refl })
 
-module _ (s : Settings) (xs : List (List ℕ)) (aligned : Bool) (w : Worked) (a : Asked) (o : Operator) (b : NodeFacts) (k : Child) (n : SameNode w o b) (m : SameChild a k) where
+module _ (s : Settings) (xs : List (List ℕ)) (aligned : Bool) (w : Worked) (i : ℕ) (a : Asked) (o : Operator) (b : NodeFacts) (k : Child) (n : SameNode w o b) (m : SameChild i a k) where
   abbrev stepped : Answer ℕ
   stepped = formed (ensure_child s o b (map fact_row xs) (status_of s aligned k))
 
   abbrev found : ℕ → Answer Standing
-  found form = standing_at xs form (row_for xs a.number form)
+  found form = standing_at xs form (row_for xs i form)
 
-  same : formed (ensure_child s (worked_for w) (node_for w) (map fact_row xs) (status_of s aligned (child_for a))) ≡ stepped
-  same = same_numbers s (map fact_row xs) aligned w a o b k n m
+  same : formed (ensure_child s (worked_for w) (node_for w) (map fact_row xs) (status_of s aligned (child_at i a))) ≡ stepped
+  same = same_numbers s (map fact_row xs) aligned w i a o b k n m
 
   pub step_none : None ≡ found 0 → None ≡ stepped
-  step_none e = ensure_none s (worked_for w) (node_for w) (map fact_row xs) aligned (child_for a) (found_none xs a.number plain_form e) ∙ same
+  step_none e = ensure_none s (worked_for w) (node_for w) (map fact_row xs) aligned (child_at i a) (found_none xs i plain_form e) ∙ same
 
-  module _ (u : Standing) (e : Some u ≡ found 0) (t : Told) (is : status_by (child_for a) t ≡ status_of s aligned (child_for a)) where
-    here : Found xs a.number plain_form u
-    here = found_some xs a.number plain_form u e
+  module _ (u : Standing) (e : Some u ≡ found 0) (t : Told) (is : status_by (child_at i a) t ≡ status_of s aligned (child_at i a)) where
+    here : Found xs i plain_form u
+    here = found_some xs i plain_form u e
 
     abbrev satisfies : Standing → Answer ℕ
-    satisfies c = formed (satisfy_distribution s (worked_for w) (node_for w) (map fact_row xs) (status_by (child_for a) t) (state_for a c))
+    satisfies c = formed (satisfy_distribution s (worked_for w) (node_for w) (map fact_row xs) (status_by (child_at i a) t) (state_for i a c))
 
-    told : (c : Standing) (d : ChildState) → Alike (state_for a c) d
-        → satisfies c ≡ formed (satisfy_distribution s (worked_for w) (node_for w) (map fact_row xs) (status_of s aligned (child_for a)) d)
+    told : (c : Standing) (d : ChildState) → Alike (state_for i a c) d
+        → satisfies c ≡ formed (satisfy_distribution s (worked_for w) (node_for w) (map fact_row xs) (status_of s aligned (child_at i a)) d)
     told c d l =
-        ap (λ (x : RepartitionRequirementStatus). formed (satisfy_distribution s (worked_for w) (node_for w) (map fact_row xs) x (state_for a c))) is
-        ∙ same_satisfied s (worked_for w) (worked_for w) (node_for w) (map fact_row xs) aligned (child_for a) (child_for a) refl refl refl refl refl (state_for a c) d l
+        ap (λ (x : RepartitionRequirementStatus). formed (satisfy_distribution s (worked_for w) (node_for w) (map fact_row xs) x (state_for i a c))) is
+        ∙ same_satisfied s (worked_for w) (worked_for w) (node_for w) (map fact_row xs) aligned (child_at i a) (child_at i a) refl refl refl refl refl (state_for i a c) d l
 
     -- whether it is split, by its status
     abbrev splits : Bool
     splits = is_set s.split && (t.roundrobin_beneficial_stats && is_set (child_facts a.facts).splits)
 
-    splits_cut : (x : Bool) → splits ≡ x → is_cut s (child_for a) ≡ x
+    splits_cut : (x : Bool) → splits ≡ x → is_cut s (child_at i a) ≡ x
     splits_cut x h = sym (ap (λ (y : RepartitionRequirementStatus). is_set s.split && (y.roundrobin_beneficial_stats && is_set (child_facts a.facts).splits)) is) ∙ h
 
     pub step_whole : splits ≡ false → satisfies (record { form = u.form; count = a.count; row = u.row }) ≡ stepped
     step_whole h =
-        ensure_whole s (worked_for w) (node_for w) (map fact_row xs) aligned (child_for a) (fact_row u.row) here.row _ (splits_cut false h)
-        (told (record { form = u.form; count = a.count; row = u.row }) (begun (child_for a) (fact_row u.row)) (record { number = refl; need = refl; form = ap form_of here.form; row = refl; count = refl }))
+        ensure_whole s (worked_for w) (node_for w) (map fact_row xs) aligned (child_at i a) (fact_row u.row) here.row _ (splits_cut false h)
+        (told (record { form = u.form; count = a.count; row = u.row }) (begun (child_at i a) (fact_row u.row)) (record { number = refl; need = refl; form = ap form_of here.form; row = refl; count = refl }))
         ∙ same
 
     pub step_cut_none : splits ≡ true → None ≡ found 1 → None ≡ stepped
     step_cut_none h g =
-        ensure_cut_none s (worked_for w) (node_for w) (map fact_row xs) aligned (child_for a) (fact_row u.row) here.row (splits_cut true h) (found_none xs a.number split_form g) ∙ same
+        ensure_cut_none s (worked_for w) (node_for w) (map fact_row xs) aligned (child_at i a) (fact_row u.row) here.row (splits_cut true h) (found_none xs i split_form g) ∙ same
 
     pub step_cut : splits ≡ true → (v : Standing) → Some v ≡ found 1 → satisfies v ≡ stepped
     step_cut h v g =
-        let p = found_some xs a.number split_form v g in
-        ensure_cut s (worked_for w) (node_for w) (map fact_row xs) aligned (child_for a) (fact_row u.row) here.row _ (fact_row v.row) (splits_cut true h) p.row
-        (told v (cut (child_for a) (fact_row v.row)) (record { number = refl; need = refl; form = ap form_of p.form; row = refl; count = p.count }))
+        let p = found_some xs i split_form v g in
+        ensure_cut s (worked_for w) (node_for w) (map fact_row xs) aligned (child_at i a) (fact_row u.row) here.row _ (fact_row v.row) (splits_cut true h) p.row
+        (told v (cut (child_at i a) (fact_row v.row)) (record { number = refl; need = refl; form = ap form_of p.form; row = refl; count = p.count }))
         ∙ same

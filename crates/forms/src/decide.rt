@@ -7,7 +7,7 @@ ghost use Rattle.exchange.specs.Status.{get_repartition_requirement_status};
 ghost use Rattle.exchange.specs.Step.{ensure_children};
 ghost use Rattle.exchange.specs.Ensure.{relate};
 ghost use Rattle.exchange.specs.FactRows.{fact_row};
-ghost use Rattle.exchange.specs.Standings.{SameNode, SameChildren, numbered_from};
+ghost use Rattle.exchange.specs.Standings.{SameNode, SameChildren};
 ghost use Rattle.exchange.specs.Turns.{answer, told};
 
 use crate::relationship::enforce_distribution_relationships;
@@ -28,7 +28,7 @@ pub fn child_forms(
     forms: &mut [u64],
 ) -> Result<(), Unenforced>
     requires { length forms.old ≡ length asks.list.now }
-    ensures { (o : Operator) (b : NodeFacts) (ks : List Child) → SameNode w o b → SameChildren (numbered_from 1 asks.entry.list.now) ks → answer result forms.new ≡ told (relate s (record { node = b; children = []; rows = map fact_row xs.entry.rows.now; masks = masks.now }) (ensure_children s o b (map fact_row xs.entry.rows.now) (get_repartition_requirement_status s ks))) }
+    ensures { (o : Operator) (b : NodeFacts) (ks : List Child) → SameNode w o b → SameChildren 1 asks.entry.list.now ks → answer result forms.new ≡ told (relate s (record { node = b; children = []; rows = map fact_row xs.entry.rows.now; masks = masks.now }) (ensure_children s o b (map fact_row xs.entry.rows.now) (get_repartition_requirement_status s ks))) }
 {
     ensure_children(s, w, asks, xs, &mut *forms).ok_or(Unenforced::Missing)?;
     enforce_distribution_relationships(masks, asks, forms, xs)

@@ -20,12 +20,14 @@ fn preserve_file_partition_threshold_met(s: Settings, a: Asked) -> bool
     0 < s.files && s.files <= a.count
 }
 
+// `grouping` counts for keyed needs.
 fn requires_grouping_id(a: Asked) -> bool
     ensures { result ≡ requires_grouping_id (child_for a) }
 {
     a.need == need::KEYED && is_set(a.facts[GROUPING])
 }
 
+// A hash join in partitioned mode, or a sort-merge join.
 fn is_partitioned_join(w: Worked) -> bool
     ensures { result ≡ is_partitioned_join (worked_for w) }
 {
@@ -46,6 +48,7 @@ fn allow_subset_satisfy_partitioning(s: Settings, w: Worked, a: Asked) -> bool
     count_allows_subset(s, a) && !is_partitioned_join(w) && !requires_grouping_id(a)
 }
 
+// Asked of a partial aggregate without or with subsets; false of any other operator.
 fn partial_aggregate_output_satisfies_final_partitioning(w: Worked, subsets: bool) -> bool
     ensures { result ≡ partial_aggregate_output_satisfies_final_partitioning (worked_for w) (node_for w) subsets }
 {
@@ -57,6 +60,7 @@ fn partial_aggregate_output_satisfies_final_partitioning(w: Worked, subsets: boo
     w.kind == kind::PARTIAL_AGGREGATE && is_set(answer)
 }
 
+// A round robin below a partial aggregate would undo what the final one can use.
 fn preserve_partial_aggregate_partitioning(s: Settings, w: Worked, a: Asked) -> bool
     ensures { result ≡ preserve_partial_aggregate_partitioning s (worked_for w) (node_for w) (child_for a) }
 {
@@ -80,7 +84,7 @@ pub fn add_roundrobin(s: Settings, w: Worked, a: Asked, t: RepartitionRequiremen
 
 // The row's answer to the keyed need, with subsets where they are allowed. Here and below four parameters stay: what is called takes fewer.
 fn partitioning_satisfied(s: Settings, w: Worked, a: Asked, c: Standing) -> bool
-    ensures { (aligned : Bool) → result ≡ partitioning_satisfied s (worked_for w) (status_of s aligned (child_for a)) (state_for a c) }
+    ensures { (aligned : Bool) → result ≡ partitioning_satisfied s (worked_for w) (status_of s aligned (child_for a)) (state_for 0 a c) }
 {
     if allow_subset_satisfy_partitioning(s, w, a) {
         return is_set(c.row[SUBSET]);
@@ -90,7 +94,7 @@ fn partitioning_satisfied(s: Settings, w: Worked, a: Asked, c: Standing) -> bool
 
 // What satisfies already stays as it is, since only the count would grow.
 fn preserve_satisfying_file_partitioning(s: Settings, w: Worked, a: Asked, c: Standing) -> bool
-    ensures { (aligned : Bool) → result ≡ preserve_satisfying_file_partitioning s (worked_for w) (status_of s aligned (child_for a)) (state_for a c) }
+    ensures { (aligned : Bool) → result ≡ preserve_satisfying_file_partitioning s (worked_for w) (status_of s aligned (child_for a)) (state_for 0 a c) }
 {
     let satisfied = partitioning_satisfied(s, w, a, c);
     preserve_file_partition_threshold_met(s, a)
@@ -99,8 +103,9 @@ fn preserve_satisfying_file_partitioning(s: Settings, w: Worked, a: Asked, c: St
         && c.count < s.target
 }
 
+// Unsatisfied; or, where subsets are not allowed, more partitions are to be had.
 pub fn needs_hash_repartition(s: Settings, w: Worked, a: Asked, c: Standing) -> bool
-    ensures { (aligned : Bool) → result ≡ needs_hash_repartition s (worked_for w) (status_of s aligned (child_for a)) (state_for a c) }
+    ensures { (aligned : Bool) → result ≡ needs_hash_repartition s (worked_for w) (status_of s aligned (child_for a)) (state_for 0 a c) }
 {
     let satisfied = partitioning_satisfied(s, w, a, c);
     let preserved = preserve_satisfying_file_partitioning(s, w, a, c);

@@ -11,6 +11,7 @@ use exchange::row::Node;
 use exchange::settled::Settled;
 use exchange::{operator, replace};
 
+// What a read past the end has.
 pub fn zero() -> Node
     ensures { result ≡ zero_node }
 {
@@ -31,36 +32,42 @@ fn settle(n: Node) -> Settled
     }
 }
 
+// Another mark.
 pub fn track(n: Node, m: u64) -> Node
     ensures { result ≡ changed (track_to m) n }
 {
     operator::track(m, settle(n))
 }
 
+// The mark of a new merge or exchange.
 pub fn track_new(n: Node) -> Node
     ensures { result ≡ changed (track_to new_mark) n }
 {
     operator::track(operator::NEW_MARK, settle(n))
 }
 
+// The sort that takes a merge's limit.
 pub fn sort(n: Node) -> Node
     ensures { result ≡ changed merge_sort n }
 {
     replace::sorted(settle(n))
 }
 
+// A union dealt in turn.
 pub fn interleave(n: Node) -> Node
     ensures { result ≡ changed interleaved n }
 {
     operator::interleaved(settle(n))
 }
 
+// An exchange that gives up its order.
 pub fn relax(n: Node) -> Node
     ensures { result ≡ changed relaxed_or n }
 {
     replace::relaxed(settle(n))
 }
 
+// The count and the order of a child that was split.
 pub fn split(n: Node, count: u64, order: u64) -> Node
     ensures { result ≡ changed (split_operator (split_row count order)) n }
 {

@@ -6,4 +6,4 @@ use Rattle.exchange.specs.Standings.{state_for}
 use Rattle.forms.proofs.step.add_hash_on_top.Goals as goal
 
 pub returns : goal.returns
-returns c = c.pass.ensures (state_for c.args.c.asked c.args.c.standing) (with_top 2 (form_of c.args.c.standing.form)) keyed_on (sym c.with_top.ensures.child) (sym c.with_top.ensures.form)
+returns c = c.pass.ensures (state_for c.args.c.number c.args.c.asked c.args.c.standing) (with_top 2 (form_of c.args.c.standing.form)) keyed_on (sym c.with_top.ensures.child) (sym c.with_top.ensures.form)

@@ -9,4 +9,4 @@ use Rattle.forms.proofs.step.add_merge_on_top.Goals as goal
 
 pub returns : goal.returns
 returns c = formed_taken _ _ _ _ (lt-ltb _ _ c.if-c-le1.false)
-    (c.pass.ensures (state_for c.args.c.asked c.args.c.standing) (with_top 1 (form_of c.args.c.standing.form)) merge_on (sym c.with_top.ensures.child) (sym c.with_top.ensures.form))
+    (c.pass.ensures (state_for c.args.c.number c.args.c.asked c.args.c.standing) (with_top 1 (form_of c.args.c.standing.form)) merge_on (sym c.with_top.ensures.child) (sym c.with_top.ensures.form))

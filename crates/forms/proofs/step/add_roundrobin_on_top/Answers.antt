@@ -9,4 +9,4 @@ use Rattle.forms.proofs.step.add_roundrobin_on_top.Goals as goal
 
 pub returns : goal.returns
 returns c = formed_taken _ _ _ _ (lt-ltb _ _ c.if-target-c.false)
-    (c.pass.ensures (state_for c.args.c.asked c.args.c.standing) (with_top 3 (form_of c.args.c.standing.form)) roundrobin_on (sym c.with_top.ensures.child) (sym c.with_top.ensures.form))
+    (c.pass.ensures (state_for c.args.c.number c.args.c.asked c.args.c.standing) (with_top 3 (form_of c.args.c.standing.form)) roundrobin_on (sym c.with_top.ensures.child) (sym c.with_top.ensures.form))
