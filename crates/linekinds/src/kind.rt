@@ -5,8 +5,7 @@ ghost use Rattle.linekinds.specs.KeyLines.{defined_expr, undefined_exprs, over, 
 ghost use Rattle.linekinds.specs.Reading.{head_count, entry_width, row_values, undefined_by, undefined_key, undefined_join, undefined_input, fields_number, size_number, counts_number, codes_number, Whole};
 ghost use Rattle.linekinds.specs.Lines.{whole_entries};
 
-pub use crate::bounds::MOST_CHILDREN;
-use crate::bounds::{LAST_DIRECTION, MARK, MOST_BYTES, MOST_ENTRIES, PLAIN};
+use crate::bounds::{LAST_DIRECTION, MARK, MOST_BYTES, MOST_CHILDREN, MOST_ENTRIES, PLAIN};
 use keys::codes::{AggregateMode, HashMode, Join, Op};
 use keys::expr::{COLUMN, OTHER, PLACEHOLDER};
 use refusals::Refusal;

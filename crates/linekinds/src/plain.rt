@@ -3,8 +3,7 @@
 ghost use Rattle.std.specs.Prelude.{◌≡◌, IsTrue, ◌↔◌, ◌≤◌, length};
 ghost use Rattle.linekinds.specs.PlainText.{StandsAt, DigitAt, DigitsFound, FieldFound, EntryFound, EndFound, EntriesFound, NumbersFound, RulesFound, InputFound, ListFound};
 
-use crate::bounds::{LAST_DIRECTION, MOST_ENTRIES};
-pub use crate::bounds::{MARK, MOST_BYTES, PLAIN};
+use crate::bounds::{LAST_DIRECTION, MARK, MOST_BYTES, MOST_ENTRIES, PLAIN};
 use crate::kind::{Codes, defined_expr};
 use keys::expr::Expr;
 

@@ -1,6 +1,5 @@
 // Reads the F, X and Y lines of a D sheet into rows of numbers.
 ghost use Rattle.std.specs.Prelude.{◌≡◌, true, false, ℕ, ◌+◌, ◌≤◌, ◌<◌, length, get_or};
-ghost use Rattle.std.proofs.lemmas.List.Edits.{sets};
 ghost use Rattle.text.specs.Text.{line_at, after};
 ghost use Rattle.linekinds.specs.Lines.{line_number};
 ghost use Rattle.linekinds.specs.Reading.{row_values, read_by, Small};
@@ -11,24 +10,15 @@ ghost use Rattle.plansheet.specs.PlainFacts.{FactFound, FactLeft};
 
 use crate::line::{child_line, fact_line};
 use crate::place::Place;
-use crate::rooms::put;
 use crate::tree::RowsRead;
 use exchange::fact::{ATHASH, CONST, FORD, FactRow, ORDER, WIDTH};
 use exchange::status::ChildRow;
+use linekinds::bounds::MARK;
 use linekinds::line::Read;
-use linekinds::plain::MARK;
+use linekinds::pack::copy_numbers;
 use numberlines::row::{Unread, row_at};
 use refusals::{Refusal, Refused};
-
-// The numbers of a line, from the start of the room on.
-pub(crate) fn copy_values(fields: &[[u64; 2]], out: &mut [u64])
-    requires { length fields.now ≤ length out.old }
-    ensures { out.new ≡ sets out.old 0 (row_values fields.now) }
-{
-    for (i, field) in fields.iter().enumerate() {
-        out[i] = field[1];
-    }
-}
+use text::store::store;
 
 // A line's numbers.
 fn numbers_of<const N: usize>(fields: &[[u64; 2]]) -> [u64; N]
@@ -36,7 +26,7 @@ fn numbers_of<const N: usize>(fields: &[[u64; 2]]) -> [u64; N]
     ensures { result ≡ row_values fields.now }
 {
     let mut row = [0; N];
-    copy_values(fields, &mut row);
+    copy_numbers(fields, &mut row);
     row
 }
 
@@ -75,7 +65,7 @@ fn judged_fact(s: &[u8], at: usize, n: usize, fields: &mut [[u64; 2]], rows: &mu
     let Read::Line { count, next } = r else {
         return r;
     };
-    put(rows, n, numbers_of(&fields[..count]));
+    store(rows, n, numbers_of(&fields[..count]));
     Read::Line { count, next }
 }
 

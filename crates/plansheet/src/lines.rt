@@ -10,7 +10,7 @@ ghost use Rattle.plansheet.specs.LentRooms.{SameSizes};
 ghost use Rattle.plansheet.specs.ReadPlans.{tree_run, TreeLeft, facts_by, whole_by, MasksHeld, ChildrenHeld, FactsHeld};
 
 use crate::description::{LineShape, TreeShape};
-use crate::facts::{copy_values, read_children, read_facts};
+use crate::facts::{read_children, read_facts};
 use crate::line::{ANY, mask_line, node_line, settings_line};
 use crate::place::Place;
 use crate::rooms::SheetRooms;
@@ -18,10 +18,9 @@ use crate::tree::{RowsRead, read_tree};
 use exchange::fact::FactRow;
 use exchange::row::Row;
 use exchange::status::ChildRow;
-use linekinds::kind::MOST_CHILDREN;
+use linekinds::bounds::{LONG, MOST_CHILDREN, PLAIN};
 use linekinds::line::Read;
-use linekinds::plain::PLAIN;
-use numberlines::child::LONG;
+use linekinds::pack::copy_numbers;
 use refusals::{Refusal, Refused};
 
 // The most T lines.
@@ -80,7 +79,7 @@ pub(crate) fn read_tree_lines(
 {
     match settings_line(s, 0, &mut *fields) {
         Read::Line { count, next } => {
-            copy_values(&fields[..count], &mut *head);
+            copy_numbers(&fields[..count], &mut *head);
             let place = Place {
                 s,
                 at: next,
@@ -105,7 +104,7 @@ fn read_masks(
 {
     match mask_line(place.s, place.at, children, &mut *fields) {
         Read::Line { count, next } => {
-            copy_values(&fields[..count], masks);
+            copy_numbers(&fields[..count], masks);
             if next < place.s.len() {
                 return Err(Refusal::WrongLine.on_line(place.line + 1));
             }
@@ -159,7 +158,7 @@ pub(crate) fn read_fact_lines(
 {
     match node_line(place.s, place.at, &mut *lent.fields) {
         Read::Line { count, next } => {
-            copy_values(&lent.fields[..count], &mut *lent.node);
+            copy_numbers(&lent.fields[..count], &mut *lent.node);
             let after = Place {
                 s: place.s,
                 at: next,

@@ -5,8 +5,7 @@ ghost use Rattle.plansheet.specs.PlainTrees.{Wide, PlainCodes, PlainShape, Opera
 
 use crate::description::{LineShape, TreeShape};
 use exchange::row::{CHILDREN, ID, KEEPS, KIND, NEED, Row, TRACKED};
-use linekinds::kind::MOST_CHILDREN;
-use linekinds::plain::PLAIN;
+use linekinds::bounds::{MOST_CHILDREN, PLAIN};
 use numberlines::operator::operator_at;
 use numberlines::row::Unread;
 

@@ -1,5 +1,5 @@
 // The rooms lent for a sheet, and what its lines left in them.
-ghost use Rattle.std.specs.Prelude.{◌≡◌, ◌≤◌, length, set};
+ghost use Rattle.std.specs.Prelude.{◌≡◌, ◌≤◌, length};
 ghost use Rattle.plansheet.specs.PlanRooms.{Suffices};
 
 use exchange::fact::FactRow;
@@ -40,13 +40,4 @@ pub struct LinesRead<'a> {
     pub ghost eight: { 8 ≤ length facts.now },
     pub ghost roomy: { Suffices count (length xs.now) },
     pub ghost masked: { 256 ≤ length masks.now },
-}
-
-// Stores a row where there is room.
-pub(crate) fn put<T: Copy>(rows: &mut [T], i: usize, x: T)
-    ensures { rows.new ≡ set rows.old i x }
-{
-    if i < rows.len() {
-        rows[i] = x;
-    }
 }

@@ -10,8 +10,8 @@ ghost use Rattle.plansheet.specs.Described.{shape_by};
 ghost use Rattle.plansheet.specs.ReadRows.{Bounded, misfit_number, shape_number};
 
 use crate::description::LineShape;
+use linekinds::bounds::MOST_BYTES;
 use linekinds::line::Read;
-use linekinds::plain::MOST_BYTES;
 use refusals::Refusal;
 use text::bounds::{Misfit, fixed_at};
 

@@ -14,15 +14,15 @@ ghost use Rattle.plansheet.specs.ReadRows.{tree_number, fields_row, rows_by, Lef
 use crate::description::TreeShape;
 use crate::operator::{operator_read, quick_rows, rule_fits};
 use crate::place::Place;
-use crate::rooms::put;
 use crate::shape::{judge_shape, misfit_refusal};
 use exchange::kind::{REPARTITION, REPARTITION_UNKNOWN};
 use exchange::row::{CHILDREN, Row};
-use linekinds::kind::MOST_CHILDREN;
+use linekinds::bounds::MOST_CHILDREN;
 use linekinds::line::Read;
 use refusals::{Refusal, Refused};
 use text::bounds::fixed_at;
 use text::field::Field;
+use text::store::store;
 
 // A repartition with a limit.
 fn exchange_limited(kind: u64, state: u64) -> bool
@@ -119,7 +119,7 @@ fn judged_row(
         Read::Line { count, next } => {
             // No From goes from usize to u64.
             let row = operator_row(&fields[..count], seen as u64 + 1);
-            put(rows, seen, row);
+            store(rows, seen, row);
             Ok(TreeRow {
                 children: row[CHILDREN],
                 next,

@@ -31,4 +31,4 @@ numbers_of-requires c = (omega arith, (line_read (goal.at.numbers_of-requires c)
 pub returns-clause-stored : goal.returns-clause-stored
 returns-clause-stored c =
     let a = c.args in let t = line_read (goal.at.returns-clause-stored c).In-Line in
-    c.put.ensures ∙ ap (set a.rows.now a.n) (c.numbers_of.ensures ∙ t.vals ∙ ap (λ (x : Option (List Field)). values (fields_of x)) (sym t.took.is))
+    c.store.ensures ∙ ap (set a.rows.now a.n) (c.numbers_of.ensures ∙ t.vals ∙ ap (λ (x : Option (List Field)). values (fields_of x)) (sym t.took.is))

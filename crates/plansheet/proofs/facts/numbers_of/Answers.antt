@@ -7,4 +7,4 @@ use Rattle.plansheet.proofs.facts.numbers_of.Goals as goal
 
 pub returns : goal.returns
 returns g c = let ns = row_values c.args.fields.now in
-    c.copy_values.ensures ∙ filled _ ns (length-map c.args.fields.now row_value ∙ c.requires ∙ sym (length-replicate g.row.N 0))
+    c.copy_numbers.ensures ∙ filled _ ns (length-map c.args.fields.now row_value ∙ c.requires ∙ sym (length-replicate g.row.N 0))

@@ -31,11 +31,11 @@ line_read : (c : In-Line) → Single node_line 0 c.args.place.s.now c.args.place
 line_read c =
     let a = c.args in single node_line refl 0 a.place.s.now a.place.at _ _ a.lent.now.fields.now _ (sym c.in-Line.is ∙ c.node_line.ensures.answer 0) c.node_line.ensures.stored (omega (arith, a.lent.now.wide))
 
-pub slice_bounds-copy_values-end : goal.slice_bounds-copy_values-end
-slice_bounds-copy_values-end c = sym (length-take-le _ _ (line_read (goal.at.slice_bounds-copy_values-end c).In-Line).fits)
+pub slice_bounds-copy_numbers-end : goal.slice_bounds-copy_numbers-end
+slice_bounds-copy_numbers-end c = sym (length-take-le _ _ (line_read (goal.at.slice_bounds-copy_numbers-end c).In-Line).fits)
 
-pub copy_values-requires : goal.copy_values-requires
-copy_values-requires c = omega (arith, (line_read (goal.at.copy_values-requires c).In-Line).part, c.args.lent.now.four)
+pub copy_numbers-requires : goal.copy_numbers-requires
+copy_numbers-requires c = omega (arith, (line_read (goal.at.copy_numbers-requires c).In-Line).part, c.args.lent.now.four)
 
 pub invariant_of-after : goal.invariant_of-after
 invariant_of-after c = let t = line_read (goal.at.invariant_of-after c).In-Line in record { within = t.within; numbered = omega (arith, t.on, c.args.place.numbered) }
@@ -51,4 +51,4 @@ returns-in-Line-clause-held c =
     λ g f.
     let k = sym (node_on a.place.s.now a.children a.place.line a.place.at _ _ t.took) ∙ f in
     facts_held a.children a.place.s.now t.took.fs _ _ g k a.lent.now.node.now _ _ _ _ _ _ _
-    (c.copy_values.ensures ∙ ap (sets a.lent.now.node.now 0) t.vals) (sym t.took.counts ∙ t.long) (c.read_child_lines.ensures.held t.took.fs g k)
+    (c.copy_numbers.ensures ∙ ap (sets a.lent.now.node.now 0) t.vals) (sym t.took.counts ∙ t.long) (c.read_child_lines.ensures.held t.took.fs g k)

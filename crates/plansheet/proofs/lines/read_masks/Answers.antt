@@ -40,14 +40,14 @@ line_read c =
     let a = c.args in
     single (mask_line a.children) refl 0 a.place.s.now a.place.at _ _ a.fields.now _ (sym c.in-Line.is ∙ c.mask_line.ensures.answer 0) c.mask_line.ensures.stored (omega (arith, masks_many a.children c.requires.0, c.requires.1))
 
-pub slice_bounds-copy_values-end : goal.slice_bounds-copy_values-end
-slice_bounds-copy_values-end c = (line_read (goal.at.slice_bounds-copy_values-end c).In-Line).fits
+pub slice_bounds-copy_numbers-end : goal.slice_bounds-copy_numbers-end
+slice_bounds-copy_numbers-end c = (line_read (goal.at.slice_bounds-copy_numbers-end c).In-Line).fits
 
-pub slice_bounds-copy_values-end-in-Line : goal.slice_bounds-copy_values-end-in-Line
-slice_bounds-copy_values-end-in-Line c = sym (length-take-le _ _ (line_read (goal.at.slice_bounds-copy_values-end-in-Line c).In-Line).fits)
+pub slice_bounds-copy_numbers-end-in-Line : goal.slice_bounds-copy_numbers-end-in-Line
+slice_bounds-copy_numbers-end-in-Line c = sym (length-take-le _ _ (line_read (goal.at.slice_bounds-copy_numbers-end-in-Line c).In-Line).fits)
 
-pub copy_values-requires : goal.copy_values-requires
-copy_values-requires c = omega (arith, (line_read (goal.at.copy_values-requires c).In-Line).part, masks_many c.args.children c.requires.0, c.requires.2)
+pub copy_numbers-requires : goal.copy_numbers-requires
+copy_numbers-requires c = omega (arith, (line_read (goal.at.copy_numbers-requires c).In-Line).part, masks_many c.args.children c.requires.0, c.requires.2)
 
 pub returns-then-next-place-clause-answer : goal.returns-then-next-place-clause-answer
 returns-then-next-place-clause-answer c =
@@ -69,4 +69,4 @@ returns-else-next-place-clause-held c =
     let a = c.args in let t = line_read (goal.at.returns-else-next-place-clause-held c).In-Line in
     λ b fs xs g f.
     masks_held a.children b fs xs t.took.fs g (sym (masks_all a.place.s.now a.children a.place.line a.place.at b fs xs _ _ t.took c.if-next-place.false) ∙ f)
-    a.masks.now _ (c.copy_values.ensures ∙ ap (sets a.masks.now 0) t.vals) (sym t.took.counts ∙ t.long ∙ length-replicate (two_to a.children) plain)
+    a.masks.now _ (c.copy_numbers.ensures ∙ ap (sets a.masks.now 0) t.vals) (sym t.took.counts ∙ t.long ∙ length-replicate (two_to a.children) plain)

@@ -32,14 +32,14 @@ returns-in-Refused-clause-left c = rw (head_back c.args.s.now _ (sym c.in-Refuse
 line_read : (c : In-Line) → Single settings_line 0 c.args.s.now 0 c.in-Line.count c.in-Line.next c.settings_line.new.fields
 line_read c = single settings_line refl 0 c.args.s.now 0 _ _ c.args.fields.now _ (sym c.in-Line.is ∙ c.settings_line.ensures.answer 0) c.settings_line.ensures.stored (omega (arith, c.requires.0))
 
-pub slice_bounds-copy_values-end : goal.slice_bounds-copy_values-end
-slice_bounds-copy_values-end c = (line_read (goal.at.slice_bounds-copy_values-end c).In-Line).fits
+pub slice_bounds-copy_numbers-end : goal.slice_bounds-copy_numbers-end
+slice_bounds-copy_numbers-end c = (line_read (goal.at.slice_bounds-copy_numbers-end c).In-Line).fits
 
-pub slice_bounds-copy_values-end-in-Line : goal.slice_bounds-copy_values-end-in-Line
-slice_bounds-copy_values-end-in-Line c = sym (length-take-le _ _ (line_read (goal.at.slice_bounds-copy_values-end-in-Line c).In-Line).fits)
+pub slice_bounds-copy_numbers-end-in-Line : goal.slice_bounds-copy_numbers-end-in-Line
+slice_bounds-copy_numbers-end-in-Line c = sym (length-take-le _ _ (line_read (goal.at.slice_bounds-copy_numbers-end-in-Line c).In-Line).fits)
 
-pub copy_values-requires : goal.copy_values-requires
-copy_values-requires c = omega (arith, (line_read (goal.at.copy_values-requires c).In-Line).part, c.requires.1)
+pub copy_numbers-requires : goal.copy_numbers-requires
+copy_numbers-requires c = omega (arith, (line_read (goal.at.copy_numbers-requires c).In-Line).part, c.requires.1)
 
 pub invariant_of-place : goal.invariant_of-place
 invariant_of-place c = let t = line_read (goal.at.invariant_of-place c).In-Line in record { within = t.within; numbered = omega (arith, t.on) }
@@ -51,4 +51,4 @@ pub returns-in-Line-clause-left : goal.returns-in-Line-clause-left
 returns-in-Line-clause-left c =
     let a = c.args in let t = line_read (goal.at.returns-in-Line-clause-left c).In-Line in let h = head_is a.s.now _ _ t.took in
     rw (head_on a.s.now _ _ t.took) (tree_left a.s.now (run_from plan_line 1 a.s.now 2 c.in-Line.next) a.head.now _ a.rows.now c.read_plan_tree.new.rows
-    (c.copy_values.ensures ∙ ap (sets a.head.now 0) (t.vals ∙ ap values (sym h))) (ap length h ∙ sym t.took.counts ∙ t.long) c.read_plan_tree.ensures.left)
+    (c.copy_numbers.ensures ∙ ap (sets a.head.now 0) (t.vals ∙ ap values (sym h))) (ap length h ∙ sym t.took.counts ∙ t.long) c.read_plan_tree.ensures.left)

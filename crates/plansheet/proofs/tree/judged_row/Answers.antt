@@ -58,4 +58,4 @@ returns-in-Line-clause-answer c =
     ∙ row_read (number_at k a.seen a.s.now a.at) (after a.s.now a.at) (line_at k.letter a.s.now a.at) _ _ (sym c.in-Line.is ∙ c.tree_line.ensures.answer)
 
 pub returns-in-Line-clause-stored : goal.returns-in-Line-clause-stored
-returns-in-Line-clause-stored c = let a = c.args in λ z. c.put.ensures ∙ ap (set a.rows.now a.seen) (row_is (goal.at.returns-in-Line-clause-stored c).In-Line _ c.operator_row-row.ensures)
+returns-in-Line-clause-stored c = let a = c.args in λ z. c.store.ensures ∙ ap (set a.rows.now a.seen) (row_is (goal.at.returns-in-Line-clause-stored c).In-Line _ c.operator_row-row.ensures)

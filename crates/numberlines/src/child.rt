@@ -1,2 +1,0 @@
-// Where plansheet finds the largest row count.
-pub use linekinds::bounds::LONG;
