@@ -1,4 +1,4 @@
-// Whether rooms that are lent suffice for every sheet, by their lengths.
+// The lengths of rooms that suffice for every sheet, and whether rooms that are lent have them.
 ghost use Rattle.lochkave.specs.Rooms.{Decides, KeyRooms, TreeRooms};
 
 use exchange::fact::PLACES;
