@@ -5,7 +5,7 @@ use Rattle.std.specs.Prelude.{ℕ, cond, ◌&&◌, ◌||◌, List, [], eqb, leng
 use Rattle.keys.specs.Reorder.{Tried, met, rewrite, meets}
 use Rattle.keys.specs.Expressions.{Expression, same_expr}
 use Rattle.keys.specs.Adjust.{KeySheet, KeyAnswer, Adjustment, answered, hand_over, given, joined_by, adjust_input_keys_ordering}
-use Rattle.keys.specs.Kept.{order_tried}
+use Rattle.keys.specs.Codes.{order_tried}
 use Rattle.sheet.specs.KeySheets.{Reading, sheet, turned, read_key_sheet}
 use Rattle.sheet.specs.KeyAnswers.{Outcome, refused, wrote, adjusted}
 use Rattle.exchange.specs.Trees.{Plan}

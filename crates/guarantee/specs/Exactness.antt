@@ -4,7 +4,8 @@ use Rattle.std.specs.Prelude.{◌≡◌, true, false, ◌↔◌}
 use Rattle.keys.specs.Expressions.{same_expr}
 use Rattle.keys.specs.Adjust.{KeySheet, KeyAnswer}
 use Rattle.keys.specs.Inputs.{JoinSheet, JoinAnswer}
-use Rattle.keys.specs.Kept.{order_tried, sheet_pairs, answer_pairs, input_tried, NothingFits, ComesOutFitting, NothingFitsInputs, FollowedFits}
+use Rattle.keys.specs.Codes.{order_tried}
+use Rattle.keys.specs.Kept.{sheet_pairs, answer_pairs, input_tried, NothingFits, ComesOutFitting, NothingFitsInputs, FollowedFits}
 
 -- report 3 of a K sheet means impossible, for R
 pub record KeyExact (x : KeySheet) (r : KeyAnswer) : Type 0 where

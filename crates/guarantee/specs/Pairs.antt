@@ -2,7 +2,8 @@
 use Rattle.std.specs.Prelude.{◌≡◌, true, false}
 use Rattle.keys.specs.Adjust.{KeySheet, KeyAnswer}
 use Rattle.keys.specs.Inputs.{JoinSheet, JoinAnswer}
-use Rattle.keys.specs.Kept.{PairsKept, order_tried, sheet_pairs, answer_pairs, join_pairs, ordered_pairs}
+use Rattle.keys.specs.Codes.{order_tried}
+use Rattle.keys.specs.Kept.{PairsKept, sheet_pairs, answer_pairs, join_pairs, ordered_pairs}
 
 -- the pairs of a K sheet: moved or not where an order is tried, else as they stood
 pub record KeyPairs (x : KeySheet) (r : KeyAnswer) : Type 0 where

@@ -16,7 +16,8 @@ use Rattle.keys.specs.Reorder.{Tried, try_reorder}
 use Rattle.keys.specs.Expressions.{Expression, placeholder}
 use Rattle.keys.specs.Arrange.{Equivalence, Lacks}
 use Rattle.keys.specs.Inputs.{JoinSheet, JoinAnswer, as_stood, following, try_side, try_right, reorder_current_join_keys, reorder_join_keys_to_inputs, input_keys, followed_keys}
-use Rattle.keys.specs.Kept.{LacksRules, PairsKept, NothingFits, order_tried, join_pairs, ordered_pairs, asked, asked_under, input_tried, InputsLackPlaceholder, NothingFitsInputs, FollowedFits, InputOrderKept}
+use Rattle.keys.specs.Codes.{order_tried}
+use Rattle.keys.specs.Kept.{LacksRules, PairsKept, NothingFits, join_pairs, ordered_pairs, asked, asked_under, input_tried, InputsLackPlaceholder, NothingFitsInputs, FollowedFits, InputOrderKept}
 use Rattle.keys.proofs.Truths.{true_false, none_some, by_test}
 use Rattle.keys.proofs.TriedPairs.{lacks_placeholder, tried_kept, tried_exact, tried_fits}
 

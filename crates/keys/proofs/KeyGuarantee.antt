@@ -18,7 +18,8 @@ use Rattle.keys.specs.Reorder.{Tried, try_reorder}
 use Rattle.keys.specs.Expressions.{Expression, placeholder}
 use Rattle.keys.specs.Arrange.{Equivalence}
 use Rattle.keys.specs.Adjust.{KeySheet, KeyAnswer, Adjustment, answered, moved_directions, directions_of, passed_on, joined_by, name_places, regrouped, adjust_input_keys_ordering}
-use Rattle.keys.specs.Kept.{PairsKept, LacksPlaceholder, NothingFits, ComesOutFitting, order_tried, sheet_pairs, answer_pairs, PairsStand, KeyPairsKept, replanned, confirmed}
+use Rattle.keys.specs.Codes.{order_tried}
+use Rattle.keys.specs.Kept.{PairsKept, LacksPlaceholder, NothingFits, ComesOutFitting, sheet_pairs, answer_pairs, PairsStand, KeyPairsKept, replanned, confirmed}
 use Rattle.keys.proofs.Truths.{true_false}
 use Rattle.keys.proofs.Again.{settled, again}
 use Rattle.keys.proofs.TriedPairs.{tried_kept, tried_exact, tried_fits}

@@ -6,7 +6,7 @@ use Rattle.keys.specs.Lists.{permute}
 use Rattle.keys.specs.Reorder.{Rule, rewrite}
 use Rattle.keys.specs.Expressions.{Expression, placeholder}
 use Rattle.keys.specs.Arrange.{Arrangement, Lacks, FitsSide}
-pub use Rattle.keys.specs.Codes.{order_tried}
+use Rattle.keys.specs.Codes.{order_tried}
 use Rattle.keys.specs.Adjust.{KeySheet, KeyAnswer}
 use Rattle.keys.specs.Inputs.{JoinSheet, JoinAnswer, followed_keys}
 

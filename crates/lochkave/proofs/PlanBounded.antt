@@ -14,7 +14,7 @@ use Rattle.text.specs.Lines.{first_of, next_of}
 use Rattle.linekinds.specs.Lines.{Kind, Run, read, refused, most_bytes, fields_fit, too_many_entries, line_number, before, fields_of, rows_of, at_end}
 use Rattle.linekinds.specs.KeyLines.{values}
 use Rattle.sheet.specs.KeySheets.{Reading, sheet, turned, head_of}
-use Rattle.sheet.proofs.Bounded.{number_few}
+use Rattle.linekinds.proofs.LineNumbers.{line_number_few}
 use Rattle.exchange.specs.Trees.{Plan}
 use Rattle.exchange.specs.declared.settings.Settings.{Settings}
 use Rattle.exchange.specs.Settings.{settings_fit}
@@ -71,7 +71,7 @@ run_within k owed seen line at (l ∷ ls) h a =
     let n : ℕ = line_number k seen next x in
     let rest : Run = rows_of k (k.owes owed (fields_of x)) (suc seen) (suc line) next ls in
     stop_within (k.stops owed x) line at (l ∷ ls) (cond (eqb n 0) (before (fields_of x) rest) (refused n line)) h a
-    (turn_within (eqb n 0) n line (fields_of x) rest (number_few k seen next x) (omega arith)
+    (turn_within (eqb n 0) n line (fields_of x) rest (line_number_few k seen next x) (omega arith)
     (λ t. run_within k (k.owes owed (fields_of x)) (suc seen) (suc line) next ls (omega arith) (fine_within k seen next x (eqb-true n 0 t))) (λ t. eqb-false n 0 t))
 
 -- ---- one run after the other

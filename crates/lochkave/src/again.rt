@@ -20,14 +20,8 @@ use plansheet::plan::read_plan;
 use plansheet::rooms::SheetRooms;
 use refusals::{Refusal, Refused};
 use sheet::held::Lists;
+use sheet::key_lines;
 use sheet::sheets::read_sheet;
-
-// The lines of a K sheet before its children's, and where its head counts these.
-const KEY_LINES: usize = 9;
-
-const HEAD_LINE: usize = 0;
-
-const CHILD_COUNT: usize = 6;
 
 // The sheet that is held, at the front of the output, where there is room for its bytes.
 fn put_again(
@@ -56,7 +50,7 @@ pub(crate) fn rewrite_key_sheet(sheet: &[u8], out: &mut [u8]) -> Result<usize, R
     let mut counts = [0usize; LISTS];
     read_sheet(sheet, SheetKind::Key, &mut rows, &mut lists, &mut counts)?;
     // No From goes from u64 to usize.
-    let n = KEY_LINES + lists[HEAD_LINE][CHILD_COUNT] as usize;
+    let n = key_lines::LINES + lists[key_lines::HEAD][key_lines::CHILDREN] as usize;
     let held = Lists {
         lists: &lists,
         counts: &counts,

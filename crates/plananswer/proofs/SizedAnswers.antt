@@ -16,14 +16,14 @@ use Rattle.exchange.specs.Forms.{Form, form_number, plain_form, split_form, with
 use Rattle.exchange.specs.Facts.{NodeFacts, ChildFacts, Facts, Row, row_of}
 use Rattle.exchange.specs.Operators.{is_window}
 use Rattle.exchange.specs.Children.{update_each, update_children}
-use Rattle.exchange.specs.States.{Child, ChildState, children_from, with_form, pass, started_by, started, and_then}
+use Rattle.exchange.specs.States.{Child, ChildState, children_from, with_form, pass, started_by}
 use Rattle.exchange.specs.Status.{RepartitionRequirementStatus}
-use Rattle.exchange.specs.Step.{split_plan, merge_on, keyed_on, roundrobin_on, split_at_source, satisfy_distribution, ensure_child}
+use Rattle.exchange.specs.Step.{split_plan, merge_on, keyed_on, roundrobin_on, split_at_source, satisfy_distribution}
 use Rattle.exchange.specs.Ensure.{Answer, Ensured, missing_row, unenforceable, answered, handled, finished, becomes_interleave, ensured}
 use Rattle.exchange.specs.Skeleton.{below}
 use Rattle.exchange.specs.Partitioning.{worked_of}
-use Rattle.exchange.proofs.StepWays.{holds_satisfied}
-use Rattle.exchange.proofs.Passing.{Holds, HoldsEnsured, holds_then, holds_cond, Alls, Steps, Relates}
+use Rattle.exchange.proofs.StepWays.{holds_satisfied, holds_stepped}
+use Rattle.exchange.proofs.Passing.{Holds, HoldsEnsured, holds_cond, Alls, Steps, Relates}
 use Rattle.exchange.proofs.Answered.{Finished, Came, leaf, worked, came_always}
 use Rattle.exchange.proofs.OperatorsKept.{of_answer}
 use Rattle.plananswer.specs.Sizes.{OperatorWithin, RowWithin, EntriesWithin, SizedFacts, SizedAnswer}
@@ -74,13 +74,10 @@ module _ (m l : ℕ) (kinds : 255 ≤ m) where
           (passed c d (with_top 3 d.form) roundrobin_on (λ x r t h. fine_exchange m l kinds x r 13 t (omega arith) h) k)
 
       steps : Steps s w b rows Kept
-      unfolding ensure_child
       steps t =
-          holds_then (Kept t.child) (Kept t.child) (and_then (started rows t.child) (split_at_source s rows t)) (satisfy_distribution s w b rows t)
-          (holds_then (Kept t.child) (Kept t.child) (started rows t.child) (split_at_source s rows t)
-          (starts t.child (row_of rows t.child.number plain_form))
-          (λ d k. splits t t.child d k))
-          (λ d k. satisfies t t.child d k)
+          holds_stepped s w b rows (Kept t.child) (Kept t.child) (Kept t.child) t (starts t.child (row_of rows t.child.number plain_form))
+          (splits t t.child)
+          (satisfies t t.child)
 
       relates : Relates s w b rows Kept
       relates c d g k = passed c d (with_relationship d.form) keyed_on keyed k

@@ -23,7 +23,7 @@ use Rattle.std.proofs.lemmas.Bool.{or_parts as either_false}
 use Rattle.std.proofs.Math.Nat.{pow-succ'}
 use Rattle.std.proofs.Math.Pow.{pow_mono}
 use Rattle.sheet.proofs.RowsAgain.{number_at_lem}
-use Rattle.sheet.proofs.Bounded.{number_few}
+use Rattle.linekinds.proofs.LineNumbers.{line_number_few}
 use Rattle.plansheet.specs.Shapes.{Shape, over_any, is_none, tree_line, children_at, most_children}
 use Rattle.plansheet.specs.PlanLines.{two_to}
 use Rattle.plansheet.specs.PlanSheets.{operator_row, operator_rows}
@@ -132,4 +132,4 @@ two_small n h = rw (two_power n) (pow_mono {i = n} {j = 8} h)
 pub one_again : (k : Kind) (seen next : ℕ) (x : Option (List Field)) → (line_number k seen next x ≡ 0 → ⊥) → refusal_of (line_number k seen next x) ≡ WrongLine → line_number k seen next x ≡ 1
 one_again k seen next x h e =
     let n : ℕ = line_number k seen next x in
-    sym (number_again n h (omega (arith, number_few k seen next x))) ∙ ap refusal_number e
+    sym (number_again n h (omega (arith, line_number_few k seen next x))) ∙ ap refusal_number e

@@ -13,9 +13,8 @@ use crate::description::LineShape;
 use crate::shape::{over_any, shaped_line};
 use exchange::fact;
 use exchange::status::{ROWS, WIDTH};
-use linekinds::bounds::LONG;
+use linekinds::bounds::{LONG, MOST_BYTES, PLAIN};
 use linekinds::line::Read;
-use linekinds::plain::{MOST_BYTES, PLAIN};
 use refusals::Refusal;
 use text::line::{Fields, line_at};
 

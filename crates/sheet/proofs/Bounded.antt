@@ -25,9 +25,6 @@ use Rattle.sheet.proofs.HeldRows.{kinds_long}
 use Rattle.sheet.proofs.SheetWhole.{head_few}
 use Rattle.sheet.proofs.SheetsRead.{key_whole_lem, join_whole_lem}
 
-pub number_few : (k : Kind) (seen next : ℕ) (x : Option (List Field)) → line_number k seen next x ≤ 6
-number_few = line_number_few
-
 -- of a run of lines: where it is refused, and where it ends
 pub record Bounded (most : ℕ) (r : Run) : Type 0 where
   pub number : (n l : ℕ) → r ≡ refused n l → n ≤ 6
@@ -67,7 +64,7 @@ turn_bounded [] line at ls most h = record {
 turn_bounded (k ∷ ks) line at ls most h =
     let x : Option (List Field) = first_of k.letter ls in
     let n : ℕ = line_number k 0 (next_of at ls) x in
-    turn_at (eqb n 0) most (fields_of x) (in_turn ks (suc line) (next_of at ls) (tail ls)) n line refl (number_few k 0 (next_of at ls) x) (omega arith)
+    turn_at (eqb n 0) most (fields_of x) (in_turn ks (suc line) (next_of at ls) (tail ls)) n line refl (line_number_few k 0 (next_of at ls) x) (omega arith)
     (turn_bounded ks (suc line) (next_of at ls) (tail ls) most (omega arith))
 
 -- ---- a sheet's lines: at most 17
@@ -82,7 +79,7 @@ key_at : (t : Bool) (x : Option (List Field)) (next : ℕ) (ls : List (List ℕ)
 key_at true x next ls e =
     before_bounded 17 (fields_of x) _
     (turn_bounded (line_kinds Key 1 (8 + at (fields_of x) 6)) 2 next ls 17 (omega (arith, kinds_long Key (8 + at (fields_of x) 6) 1, first_at_lem true x next e)))
-key_at false x next ls e = refused_bounded 17 _ 1 (number_few key_line 0 next x) (eqb-false _ 0 e) (omega arith)
+key_at false x next ls e = refused_bounded 17 _ 1 (line_number_few key_line 0 next x) (eqb-false _ 0 e) (omega arith)
 
 key_bounded : (s : List ℕ) → Bounded 17 (whole_lines Key s)
 unfolding whole_lines in_turn line_kinds
