@@ -9,7 +9,7 @@ use lib.ListN.{length, drop, get_or, set, length-append}
 use lib.Seq.{sets}
 use Rattle.exchange.specs.Trees.{none, ◌∷ᶠ◌, trees, Plans}
 use Rattle.exchange.specs.Rows.{flattens, children_at}
-use Rattle.exchange.specs.Runs.{Wrote}
+use Rattle.exchange.specs.Runs.{Readys, Wrote}
 use Rattle.exchange.proofs.Stored.{then, within}
 use Rattle.exchange.proofs.TreeRows.{flattens_none, next, trees_long}
 
@@ -76,3 +76,9 @@ module _ (src : List (List ℕ)) (at to : ℕ) (dst₀ : List (List ℕ)) (ts : 
       let in_src : a + length (flattens m.below) ≤ length src = within src (flattens m.below) rest a m.stands (omega arith) in
       let parts : length (flattens ts) ≡ length m.done + length (flattens m.below) = ap length m.split ∙ length-append m.done (flattens m.below) in
       record { reads = omega arith; writes = omega arith; grows = omega (arith, trees_long w.below', w.counted) }
+
+-- the same of the trees that are to be copied, by what holds of any that stand there
+pub room_ready : {src : List (List ℕ)} {at count size to : ℕ} (p : Readys (λ ts. ts) src at count size to) {before dst : List (List ℕ)} {a b left : ℕ} → (left ≡ 0 → ⊥)
+    → ((ts : Plans) (rest : List (List ℕ)) → trees ts ≡ count → drop at src ≡ flattens ts ++ rest → Mid src at to before ts rest dst a b left)
+    → Room src to p.below a b left
+room_ready p more held = room _ _ _ _ _ p.rest _ _ _ _ more (held p.below p.rest p.counted p.stands)
