@@ -1,9 +1,9 @@
 // The tests of a child's step: what its count, its facts and the row of its form say of its partitioning.
-ghost use Rattle.std.specs.Prelude.{◌≡◌, Bool, ◌&&◌, ◌||◌, leb, ltb};
+ghost use Rattle.std.specs.Prelude.{◌≡◌, ℕ, Bool, ◌&&◌, ◌||◌, leb, ltb};
 ghost use Rattle.exchange.specs.Operators.{is_partitioned_join};
 ghost use Rattle.exchange.specs.Status.{status_of};
 ghost use Rattle.exchange.specs.Step.{preserve_file_partition_threshold_met, requires_grouping_id, allow_subset_satisfy_partitioning, partial_aggregate_output_satisfies_final_partitioning, preserve_partial_aggregate_partitioning, add_roundrobin, partitioning_satisfied, preserve_satisfying_file_partitioning, needs_hash_repartition};
-ghost use Rattle.exchange.specs.FactRows.{child_for};
+ghost use Rattle.exchange.specs.FactRows.{child_at, child_for};
 ghost use Rattle.exchange.specs.Standings.{worked_for, node_for, state_for, status_by};
 
 use exchange::fact::{EXACT, SUBSET};
@@ -73,7 +73,7 @@ fn preserve_partial_aggregate_partitioning(s: Settings, w: Worked, a: Asked) -> 
 
 // A round robin is wanted, unless the split makes it needless.
 pub fn add_roundrobin(s: Settings, w: Worked, a: Asked, t: RepartitionRequirementStatus) -> bool
-    ensures { result ≡ add_roundrobin s (worked_for w) (node_for w) (status_by (child_for a) t) }
+    ensures { (number : ℕ) → result ≡ add_roundrobin s (worked_for w) (node_for w) (status_by (child_at number a) t) }
 {
     is_set(s.roundrobin)
         && t.roundrobin_beneficial
@@ -84,7 +84,7 @@ pub fn add_roundrobin(s: Settings, w: Worked, a: Asked, t: RepartitionRequiremen
 
 // The row's answer to the keyed need, with subsets where they are allowed. Here and below four parameters stay: what is called takes fewer.
 fn partitioning_satisfied(s: Settings, w: Worked, a: Asked, c: Standing) -> bool
-    ensures { (aligned : Bool) → result ≡ partitioning_satisfied s (worked_for w) (status_of s aligned (child_for a)) (state_for 0 a c) }
+    ensures { (number : ℕ) (aligned : Bool) → result ≡ partitioning_satisfied s (worked_for w) (status_of s aligned (child_at number a)) (state_for number a c) }
 {
     if allow_subset_satisfy_partitioning(s, w, a) {
         return is_set(c.row[SUBSET]);
@@ -94,7 +94,7 @@ fn partitioning_satisfied(s: Settings, w: Worked, a: Asked, c: Standing) -> bool
 
 // What satisfies already stays as it is, since only the count would grow.
 fn preserve_satisfying_file_partitioning(s: Settings, w: Worked, a: Asked, c: Standing) -> bool
-    ensures { (aligned : Bool) → result ≡ preserve_satisfying_file_partitioning s (worked_for w) (status_of s aligned (child_for a)) (state_for 0 a c) }
+    ensures { (number : ℕ) (aligned : Bool) → result ≡ preserve_satisfying_file_partitioning s (worked_for w) (status_of s aligned (child_at number a)) (state_for number a c) }
 {
     let satisfied = partitioning_satisfied(s, w, a, c);
     preserve_file_partition_threshold_met(s, a)
@@ -105,7 +105,7 @@ fn preserve_satisfying_file_partitioning(s: Settings, w: Worked, a: Asked, c: St
 
 // Unsatisfied; or, where subsets are not allowed, more partitions are to be had.
 pub fn needs_hash_repartition(s: Settings, w: Worked, a: Asked, c: Standing) -> bool
-    ensures { (aligned : Bool) → result ≡ needs_hash_repartition s (worked_for w) (status_of s aligned (child_for a)) (state_for 0 a c) }
+    ensures { (number : ℕ) (aligned : Bool) → result ≡ needs_hash_repartition s (worked_for w) (status_of s aligned (child_at number a)) (state_for number a c) }
 {
     let satisfied = partitioning_satisfied(s, w, a, c);
     let preserved = preserve_satisfying_file_partitioning(s, w, a, c);

@@ -19,9 +19,9 @@ returns-then-not-t c = let a = c.args in let t = status_by (child_at a.c.number 
     formed_left _ _ _ _ (ne_eqb _ _ c.if-a-eq-SINGLE.false) (formed_taken _ _ _ _ (eq-eqb _ _ c.if-a-ne-KEYED.false) (formed_left (t.hash_necessary && needs_hash_repartition a.w.settings (worked_for a.w.worked) t (state_for a.c.number a.c.asked a.c.standing)) _ _ _
     (elim c.then-not-t.branch [
       | then-not-t-via-then-not-t w ↦ sym (stop _ _ (refused _ _ refl w.if-not-t.true))
-      | then-not-t-via-else-not-t+then-not-needs_hash_repartition w ↦ sym (past _ _ _ (held _ _ refl w.if-not-t.false) (sym (refused _ _ (w.needs_hash_repartition.ensures c.args.w.aligned) (ap not w.if-not-needs_hash_repartition.true))))
+      | then-not-t-via-else-not-t+then-not-needs_hash_repartition w ↦ sym (past _ _ _ (held _ _ refl w.if-not-t.false) (sym (refused _ _ (w.needs_hash_repartition.ensures c.args.c.number c.args.w.aligned) (ap not w.if-not-needs_hash_repartition.true))))
     ]) (formed_kept _ c.args.c.within.2)))
 
 pub returns : goal.returns
 returns c = formed_left _ _ _ _ (ne_eqb _ _ c.if-a-eq-SINGLE.false) (formed_taken _ _ _ _ (eq-eqb _ _ c.if-a-ne-KEYED.false)
-    (formed_taken _ _ _ _ (sym (past _ _ _ (held _ _ refl c.if-not-t.false) (sym (held _ _ (c.needs_hash_repartition.ensures c.args.w.aligned) (ap not c.if-not-needs_hash_repartition.false))))) c.add_hash_on_top.ensures))
+    (formed_taken _ _ _ _ (sym (past _ _ _ (held _ _ refl c.if-not-t.false) (sym (held _ _ (c.needs_hash_repartition.ensures c.args.c.number c.args.w.aligned) (ap not c.if-not-needs_hash_repartition.false))))) c.add_hash_on_top.ensures))
