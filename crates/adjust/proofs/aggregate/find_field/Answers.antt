@@ -1,16 +1,14 @@
--- The first field of that name (`found_position`).
-use Rattle.std.proofs.Common.{rules, tests, eqb, ap, ◌∙◌, ◌++◌}
-use Rattle.std.proofs.lemmas.List.{map-id}
-use Rattle.std.proofs.lemmas.Iterator.{YieldsList-from_slice}
-use Rattle.std.proofs.lemmas.Iterator.Consumers.{YieldsList-from_chain}
-use Rattle.std.proofs.lemmas.Iterator.Search.{position_from_yields_List}
-use Rattle.keys.specs.Lists.{place_of}
+-- The first list, or else the second, behind it (`Fields`).
+use Rattle.std.proofs.Common.{ap, sym, ◌∙◌}
 use Rattle.keys.specs.Values.{found}
-use Rattle.keys.proofs.Places.{found_position}
+use Rattle.adjust.proofs.Fields.{place_first, place_second, place_neither}
 use Rattle.adjust.proofs.aggregate.find_field.Goals as goal
 
+pub returns-in-Some-clause-place : goal.returns-in-Some-clause-place
+returns-in-Some-clause-place c = place_first c.args.name c.args.moved.now c.args.aggregates.now c.in-Some.p (sym c.in-Some.ensures.place)
+
+pub returns-in_err-find-clause-place : goal.returns-in_err-find-clause-place
+returns-in_err-find-clause-place c = ap found c.from_residual.ensures ∙ place_neither c.args.name c.args.moved.now c.args.aggregates.now (sym c.in_default.ensures.place) (sym c.in_err-find.ensures.place)
+
 pub returns-clause-place : goal.returns-clause-place
-returns-clause-place c = let n = c.args.name in let all = c.args.moved.now ++ c.args.aggregates.now in
-    let fields = YieldsList-from_chain (YieldsList-from_slice c.args.moved.now cc) (YieldsList-from_slice c.args.aggregates.now cc) (cc) (cc) in
-    let first = position_from_yields_List (λ f. eqb f n) _ _ c.position.result c.position.ensures.ran fields (λ x b q k. search (rules, tests)) in
-    ap found first ∙ found_position (λ f. f) n all ∙ ap (place_of eqb n) (map-id all)
+returns-clause-place c = place_second c.args.name c.args.moved.now c.args.aggregates.now _ (sym c.in_default.ensures.place) (sym c.in_ok-find.ensures.place)
